@@ -1,0 +1,3 @@
+pub mod Limits
+pub mod Outcome
+pub mod Refusal
