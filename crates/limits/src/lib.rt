@@ -74,6 +74,12 @@ pub enum Refusal {
     InvalidMethod,
 }
 
+// Whether a check was passed.
+pub enum Check {
+    Passed,
+    Refused(Refusal),
+}
+
 impl Refusal {
     // The number of document 01's table.
     pub fn number(self) -> u8

@@ -3,7 +3,13 @@ ghost use mathlib.Core.Path.{_≡_};
 ghost use Prim.Native.Nat.{_+_, _≤_};
 ghost use lib.ListN.{length};
 ghost use mathlib.Core.Bool.{not};
+ghost use Rattle.limits.specs.Limits.{rustLimits};
+ghost use Rattle.limits.specs.Outcome.{checkOf};
+ghost use Rattle.text.specs.Answers.{tooLong, valueCause};
 ghost use Rattle.text.specs.Text.{isBlank, isValue, other, span, all, blanks, textEnd, trimmed, trimmedSpan, lower, same, equal, wordSpan};
+use limits::Check;
+use limits::Limits;
+use limits::Refusal;
 
 mod number;
 
@@ -16,6 +22,40 @@ pub use number::read_u32;
 pub struct Span {
     pub start: usize,
     pub length: usize,
+}
+
+// What a look-up answers: where a text stands, that there is none, or why it was refused.
+pub enum Lookup {
+    At(Span),
+    Nothing,
+    Refused(Refusal),
+}
+
+// The same of the next text from a place on, with the place from which to ask for the one after it.
+pub enum Next {
+    At(Span, usize),
+    Nothing,
+    Refused(Refusal),
+}
+
+// Whether a text is longer than may be given.
+pub fn too_long(s: &[u8]) -> bool
+    ensures { λ r. ⌜ r ≡ tooLong rustLimits (now (s .entry)) ⌝ }
+{
+    Limits::MAX_TEXT_LENGTH < s.len()
+}
+
+// The check of a value that is given alone: 1, 2.
+pub fn check_value(s: &[u8]) -> Check
+    ensures { λ r. ⌜ r ≡ checkOf (valueCause rustLimits (now (s .entry))) ⌝ }
+{
+    if too_long(s) {
+        return Check::Refused(Refusal::TextTooLong);
+    }
+    if !all_value(s) {
+        return Check::Refused(Refusal::Malformed);
+    }
+    Check::Passed
 }
 
 pub fn is_blank(b: u8) -> bool
