@@ -28,6 +28,10 @@ abbrev pub refuseBy : {A : Type 0} → Option Refusal → Outcome A → Outcome 
 refuseBy none rest = rest
 refuseBy (some cause) rest = refused cause
 
+-- refused where the test holds, otherwise what follows
+abbrev pub refuseIf : {A : Type 0} → Bool → Refusal → Outcome A → Outcome A
+refuseIf test cause rest = cond test (refused cause) rest
+
 -- ---- outcomes
 
 -- the second reading goes on from what the first gave

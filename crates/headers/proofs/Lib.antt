@@ -1,0 +1,3 @@
+pub mod ExpiresLaws
+pub mod IdLaws
+pub mod TagLaws

@@ -1,0 +1,3 @@
+pub mod DialogId
+pub mod SessionExpires
+pub mod Tag

@@ -1,0 +1,55 @@
+-- The `tag` parameter of a From or To value, as the Rust's `extract_tag` reads it.
+-- Document 01, "Identifier": "the first `;` segment, trimmed, whose first four bytes are `tag=` in any case; the rest is the
+-- tag, maybe empty". RFC 3261 section 25.1 would pass over a `;` in quotes or in angle brackets; the Rust doesn't.
+use Prim.Native.Nat.{ℕ, _+_}
+use mathlib.Core.Bool.{Bool, cond}
+use mathlib.Core.List.{List, [], _∷_}
+use mathlib.Core.Option.{Option, none, some}
+use lib.ListN.{length, take, drop}
+use Rattle.limits.specs.Limits.{LimitSet}
+use Rattle.limits.specs.Outcome.{Outcome, refused, given, refuseBy, orRefuse}
+use Rattle.limits.specs.declared.Refusal.the-variants.{MissingHeader}
+use Rattle.text.specs.Text.{is, same, blanks, trimmed, split, Piece}
+use Rattle.text.specs.Answers.{valueCause, spanOf}
+use Rattle.headers.specs.declared.tag.Part.{Part}
+use Rattle.headers.specs.declared.tag.Part.the-variants as part
+use Rattle.headers.specs.declared.tag.PartAnswer.{PartAnswer}
+use Rattle.headers.specs.declared.tag.PartAnswer.the-variants as answer
+
+-- `tag=`
+abbrev pub tagEq : List ℕ
+tagEq = 116 ∷ 97 ∷ 103 ∷ 61 ∷ []
+
+-- it begins with `tag=`, letter case ignored
+unfoldable pub isTag : List ℕ → Bool
+isTag t = same (take 4 t) tagEq
+
+-- the segments in which a tag is looked for: those between semicolons
+abbrev pub tagSegments : List ℕ → List (List ℕ)
+tagSegments v = split (is 59) v
+
+-- the tag of a segment that stands at `at` and has one
+abbrev pub tagAt : ℕ → List ℕ → Piece
+tagAt at g = record { place = at + blanks g + 4; text = drop 4 (trimmed g) }
+
+-- the tag of the first segment that has one; the first segment stands at `at`, and one byte stands between two
+unfoldable pub firstTag : ℕ → List (List ℕ) → Option Piece
+firstTag at [] = none
+firstTag at (g ∷ gs) = cond (isTag (trimmed g)) (some (tagAt at g)) (firstTag (at + length g + 1) gs)
+
+abbrev pub tagOf : List ℕ → Option Piece
+tagOf v = firstTag 0 (tagSegments v)
+
+-- `extract_tag`: 1, 2, 4
+unfoldable pub extractTag : LimitSet → List ℕ → Outcome Piece
+extractTag L v = refuseBy (valueCause L v) (orRefuse MissingHeader (tagOf v))
+
+-- ---- the answers, case by case
+
+abbrev pub partOf : Option Piece → Part
+partOf none = part.Nothing
+partOf (some p) = part.At (spanOf p)
+
+abbrev pub partAnswer : Outcome Piece → PartAnswer
+partAnswer (refused cause) = answer.Refused cause
+partAnswer (given p) = answer.At (spanOf p)
