@@ -11,7 +11,7 @@ use Rattle.limits.specs.Outcome.{orElse, orRefuse}
 use Rattle.limits.specs.declared.Refusal.{Refusal}
 use Rattle.limits.specs.declared.Refusal.the-variants.{TextTooLong, MissingHeader}
 use Rattle.text.specs.Answers.{tooLong, spanOf}
-use Rattle.text.specs.Text.{Piece}
+use Rattle.text.specs.Text.{Piece, moved}
 use Rattle.text.specs.declared.Span.{Span}
 use Rattle.msg.specs.Block.{HeaderLine, foundOf, valueOf, blockCause}
 use Rattle.msg.specs.declared.Found.the-variants as found
@@ -21,7 +21,7 @@ use Rattle.headers.specs.declared.tag.Part.the-variants.{At, Nothing}
 use Rattle.headers.specs.declared.dialog_id.DialogId.{DialogId}
 use Rattle.headers.specs.declared.dialog_id.IdPart.the-variants as id
 use Rattle.headers.specs.declared.dialog_id.IdAnswer.the-variants as answer
-use Rattle.headers.specs.DialogId.{partCause, identifierCause, moved, tagIn, Identifier, identifier, identifierOf, readIdentifier, dialogIdFrom, idFrom, idAnswer}
+use Rattle.headers.specs.DialogId.{partCause, identifierCause, tagIn, Identifier, identifier, identifierOf, readIdentifier, dialogIdFrom, idFrom, idAnswer}
 
 module _ (L : LimitSet) (c l r : List ℕ) where
   pub long-call-id : tooLong L c ≡ true → identifierCause L c l r ≡ some TextTooLong

@@ -11,7 +11,7 @@ use Rattle.limits.specs.Limits.{LimitSet}
 use Rattle.limits.specs.Outcome.{Outcome, refused, given, refuseBy, orRefuse, causeIf, orElse}
 use Rattle.limits.specs.declared.Refusal.{Refusal}
 use Rattle.limits.specs.declared.Refusal.the-variants.{MissingHeader, IdentifierEmpty, IdentifierTooLong, ControlCharacters}
-use Rattle.text.specs.Text.{within, all, Piece}
+use Rattle.text.specs.Text.{within, all, Piece, moved}
 use Rattle.text.specs.Answers.{lengthCause, spanOf}
 use Rattle.msg.specs.Block.{blockCause, valueNamed}
 use Rattle.headers.specs.Tag.{tagOf}
@@ -59,11 +59,7 @@ fromName = 70 ∷ 114 ∷ 111 ∷ 109 ∷ []
 abbrev pub toName : List ℕ
 toName = 84 ∷ 111 ∷ []
 
--- a part of a value, where it stands in the block; the value stands at `at`
-abbrev pub moved : ℕ → Option Piece → Option Piece
-moved at none = none
-moved at (some p) = some (record { place = at + p .place; text = p .text })
-
+-- the tag in a value, where it stands in the block
 abbrev pub tagIn : Option Piece → Option Piece
 tagIn none = none
 tagIn (some v) = moved (v .place) (tagOf (v .text))

@@ -4,6 +4,7 @@
 use Prim.Native.Nat.{ℕ, zero, suc, _+_, _-_}
 use mathlib.Core.Bool.{Bool, true, false, cond, not, _&&_, _||_}
 use mathlib.Core.List.{List, [], _∷_, reverse}
+use mathlib.Core.Option.{Option, none, some}
 use lib.ListN.{length, take, drop}
 use lib.Dec.{leb, eqb}
 use Rattle.text.specs.declared.Span.{Span}
@@ -91,6 +92,18 @@ equal a b = alike (λ x. x) a b
 pub record Piece : Type 0 where
   pub place : ℕ
   pub text : List ℕ
+
+-- a part of a part: its place in the whole, where the part that it was read in stands at `at`
+abbrev pub movedPiece : ℕ → Piece → Piece
+movedPiece at p = record { place = at + p .place; text = p .text }
+
+abbrev pub moved : ℕ → Option Piece → Option Piece
+moved at none = none
+moved at (some p) = some (movedPiece at p)
+
+-- a text that stands at `at`, without the blanks at both ends
+abbrev pub trimmedPiece : ℕ → List ℕ → Piece
+trimmedPiece at s = record { place = at + blanks s; text = trimmed s }
 
 -- the segments between the bytes that pass the test: one more than there are such bytes
 abbrev pub onHead : ℕ → List (List ℕ) → List (List ℕ)

@@ -1,0 +1,5 @@
+pub mod CountLaws
+pub mod ElementLaws
+pub mod PartLaws
+pub mod ScanLaws
+pub mod WalkLaws

@@ -1,0 +1,4 @@
+pub mod Cuts
+pub mod Parts
+pub mod Routes
+pub mod Scan

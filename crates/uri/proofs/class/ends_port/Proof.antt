@@ -1,0 +1,13 @@
+-- `uri::ends_port` meets its contract. Assumes nothing.
+use borrow.Author.Tests.{eq-eqb, ne-eqb}
+use Rattle.uri.proofs.class.ends_port.Statement.{statement}
+use Rattle.uri.proofs.class.ends_port.Tie as tie
+
+returns : tie.Need-returns
+returns c = rw (eq-eqb _ _ (c .if1 .taken))
+
+returns-2 : tie.Need-returns-2
+returns-2 c = rw (ne-eqb _ _ (c .if1 .left))
+
+pub ends-port-spec : {M : Type 1} → statement M
+ends-port-spec = tie.close (tie.spec returns returns-2)

@@ -1,0 +1,64 @@
+-- `uri::run` meets its contract: at each turn the whole run is the bytes passed and the run of the rest. Assumes nothing.
+use Prim.Native.Nat.{_+_, _-_, _≤_}
+use mathlib.Core.Path.{_≡_, sym, _∙_}
+use native.Mathlib.Nat.{zero-add}
+use lib.ListN.{length, drop}
+use borrow.Author.Tests.{not-true, not-false}
+use Rattle.text.specs.Text.{span}
+use Rattle.text.proofs.Runs.{span-done, span-stop, span-next}
+use Rattle.uri.specs.Steps.{inClass}
+use native.Mathlib.Omega.{arith}
+use borrow.Author.Needs.{needs}
+use Rattle.uri.proofs.class.run.Statement.{statement}
+use Rattle.uri.proofs.class.run.Tie as tie
+
+abbrev Inv-loop : tie.InvT-loop
+Inv-loop s k i₀ i = (i ≤ length s) × (span (inClass k) s ≡ i + span (inClass k) (drop i s))
+
+abbrev μ-loop : tie.MeasureT-loop
+μ-loop s k i₀ i = length s - i
+
+loop-holds : tie.Need-loop-holds Inv-loop μ-loop
+loop-holds c = (omega arith, sym (zero-add _))
+
+shared-slice-read-holds : tie.Need-shared-slice-read-holds Inv-loop μ-loop
+shared-slice-read-holds c = omega arith
+
+holds-requires : tie.Need-holds-requires Inv-loop μ-loop
+holds-requires c κs = search needs
+
+returns : tie.Need-returns Inv-loop μ-loop
+returns c =
+    let l = c .before .before .before .before .loop in
+    (sym (l .inv .1 ∙ span-stop _ _ (l .i) (omega arith) (sym (c .before .holds .ensures) ∙ not-true _ (c .if1 .taken))), omega arith)
+
+add-i : tie.Need-add-i Inv-loop μ-loop
+add-i c = omega arith
+
+loop-less : tie.Need-loop-less Inv-loop μ-loop
+loop-less c = omega arith
+
+loop-again : tie.Need-loop-again Inv-loop μ-loop
+loop-again c =
+    let l = c .before .before .before .before .loop in
+    (omega arith, l .inv .1 ∙ span-next _ _ (l .i) (omega arith) (sym (c .before .holds .ensures) ∙ not-false _ (c .if1 .left)))
+
+returns-2 : tie.Need-returns-2 Inv-loop μ-loop
+returns-2 c =
+    let l = c .before .loop in
+    (sym (l .inv .1 ∙ span-done _ _ (l .i) (omega arith)), omega arith)
+
+pub run-spec : {M : Type 1} → statement M
+run-spec =
+    tie.close
+    (tie.spec
+    Inv-loop
+    μ-loop
+    loop-holds
+    shared-slice-read-holds
+    holds-requires
+    returns
+    add-i
+    loop-less
+    loop-again
+    returns-2)

@@ -1,0 +1,3 @@
+pub mod HeaderUri
+pub mod SipUri
+pub mod Steps
