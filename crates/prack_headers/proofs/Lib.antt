@@ -1,0 +1,9 @@
+pub mod ClassLaws
+pub mod DecimalLaws
+pub mod MethodLaws
+pub mod OutputLaws
+pub mod RAckLaws
+pub mod ReadingLaws
+pub mod RoundTrip
+pub mod Sheet
+pub mod WordLaws

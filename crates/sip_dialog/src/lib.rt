@@ -1,0 +1,8 @@
+// The C face: functions on numbers and byte runs. Nothing but calls, and answers handed over.
+mod blocks;
+mod given;
+mod identifiers;
+mod prack;
+mod timers;
+mod uris;
+mod values;

@@ -1,0 +1,66 @@
+//! The differential run: every operation of the Rattle port against the Rust, or against a stand-in written from
+//! document 01 where the Rust has no such function.
+//!
+//!     driver leaves [--calls N] [--seed S]     compares, prints the table, fails on any difference
+//!     driver planted [--calls N] [--seed S]    plants one fault per operation and fails if any goes unreported
+//!     driver bench                             times both sides
+
+mod answer;
+mod bench;
+mod blocks;
+mod messages;
+mod operations;
+mod places;
+mod random;
+mod report;
+mod rules;
+mod run;
+mod texts;
+mod uris;
+
+use std::process::ExitCode;
+
+const USAGE: &str = "use: driver leaves|planted [--calls N] [--seed S], driver bench";
+
+/// What the command line asks for.
+struct Options {
+    command: String,
+    calls: usize,
+    seed: u64,
+}
+
+/// Runs the command; exit 0 where all is well, 1 where it is not, 2 for bad usage.
+fn main() -> ExitCode {
+    let Some(options) = options(std::env::args().skip(1)) else {
+        eprintln!("{USAGE}");
+        return ExitCode::from(2);
+    };
+    let good = match options.command.as_str() {
+        "leaves" => report::leaves(options.calls, options.seed),
+        "planted" => report::planted(options.calls, options.seed),
+        "bench" => bench::run(),
+        _ => {
+            eprintln!("{USAGE}");
+            return ExitCode::from(2);
+        }
+    };
+    ExitCode::from(u8::from(!good))
+}
+
+/// Reads the command line; nothing where it is not of the form above.
+fn options(mut words: impl Iterator<Item = String>) -> Option<Options> {
+    let mut options = Options {
+        command: words.next()?,
+        calls: 20_000,
+        seed: 1,
+    };
+    while let Some(word) = words.next() {
+        let number = words.next()?;
+        match word.as_str() {
+            "--calls" => options.calls = number.parse().ok()?,
+            "--seed" => options.seed = number.parse().ok()?,
+            _ => return None,
+        }
+    }
+    Some(options)
+}

@@ -1,0 +1,69 @@
+//! The port's operations, each with what it is held against, its calls and its planted fault. One file per module of
+//! the Rust, or per kind of value.
+
+mod identifiers;
+mod metrics;
+mod msg;
+mod numbers;
+mod status;
+mod timers;
+mod uri;
+mod values;
+
+use crate::answer::{Answer, Out, Width};
+use crate::run::Operation;
+
+/// All operations, in the order of the C declarations.
+pub fn all() -> Vec<&'static Operation> {
+    let files: [&'static [Operation]; 8] = [
+        msg::OPERATIONS,
+        status::OPERATIONS,
+        uri::OPERATIONS,
+        identifiers::OPERATIONS,
+        values::OPERATIONS,
+        numbers::OPERATIONS,
+        timers::OPERATIONS,
+        metrics::OPERATIONS,
+    ];
+    files.into_iter().flatten().collect()
+}
+
+/// The out numbers of an operation that may find a part.
+const PART: &[Out] = &[("found", Width::U8), ("place", Width::U64), ("length", Width::U64)];
+
+/// The out numbers of one step of a list.
+const LIST_PART: &[Out] = &[
+    ("found", Width::U8),
+    ("place", Width::U64),
+    ("length", Width::U64),
+    ("next", Width::U64),
+];
+
+/// The answer of an operation that says yes or no.
+const YES: &[Out] = &[("yes", Width::U8)];
+
+/// The out numbers of a part, to lend.
+fn lent_part(answer: &Answer) -> port::Part {
+    port::Part {
+        found: answer.outs[0] as u8,
+        place: answer.outs[1] as usize,
+        length: answer.outs[2] as usize,
+    }
+}
+
+/// Takes the lent numbers back.
+fn take_part(answer: &mut Answer, part: port::Part) {
+    answer.outs[0] = u64::from(part.found);
+    answer.outs[1] = part.place as u64;
+    answer.outs[2] = part.length as u64;
+}
+
+/// The out numbers of a step, to lend.
+fn lent_list_part(answer: &Answer) -> port::ListPart {
+    port::ListPart {
+        found: answer.outs[0] as u8,
+        place: answer.outs[1] as usize,
+        length: answer.outs[2] as usize,
+        next: answer.outs[3] as usize,
+    }
+}

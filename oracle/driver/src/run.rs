@@ -1,0 +1,173 @@
+//! The comparison: one operation's calls on both sides, and the counts.
+
+use crate::answer::{class, Answer, Input, Out, NOTHING};
+use crate::random::Random;
+use crate::rules::LONGEST;
+use std::collections::BTreeMap;
+
+/// One operation of the port, and what it is held against.
+pub struct Operation {
+    pub name: &'static str,
+    /// What the expected answer comes from.
+    pub against: &'static str,
+    /// The names of its byte runs and numbers, for print.
+    pub texts: &'static [&'static str],
+    pub numbers: &'static [&'static str],
+    pub outs: &'static [Out],
+    /// The rows that must be met often enough: 0, `NOTHING`, and every refusal that can be reached.
+    pub rows: &'static [u8],
+    /// The answer by the Rust or a stand-in: out numbers are set where they are answered.
+    pub expect: fn(&Input, &mut Answer) -> Result<(), u8>,
+    /// The port's answer.
+    pub ask: fn(&Input, &mut Answer) -> u8,
+    /// Feeds the calls.
+    pub inputs: fn(&mut Feed),
+    /// A planted fault: what it is, and how it changes the port's answer.
+    pub fault: &'static str,
+    pub distort: fn(&Input, &mut Answer),
+}
+
+/// How often a row was compared, and how often the two sides differed.
+#[derive(Debug, Clone, Copy, Default)]
+pub struct Count {
+    pub compared: u64,
+    pub differing: u64,
+}
+
+/// An operation's counts by row, and its first differing calls in full.
+#[derive(Default)]
+pub struct Tally {
+    pub rows: BTreeMap<u8, Count>,
+    /// How many calls had a text of the longest length and weren't refused by 1.
+    pub longest_read: u64,
+    pub shown: Vec<String>,
+}
+
+impl Tally {
+    /// The sum over all rows.
+    pub fn total(&self) -> Count {
+        let add = |sum: Count, row: &Count| Count {
+            compared: sum.compared + row.compared,
+            differing: sum.differing + row.differing,
+        };
+        self.rows.values().fold(Count::default(), add)
+    }
+}
+
+/// The calls of an operation must be at least this many, and each row must be met at least this often.
+pub const LEAST_CALLS: u64 = 10_000;
+pub const LEAST_IN_ROW: u64 = 100;
+
+/// A text of the longest length must be read at least this often.
+pub const LEAST_LONGEST: u64 = 20;
+
+/// At most so many differing calls of an operation are printed.
+const MOST_SHOWN: usize = 3;
+
+/// What fills out numbers and lent output before a call; the calls take turns.
+const PATTERNS: [u64; 3] = [0xa5a5_a5a5_a5a5_a5a5, 0x5a3c_5a3c_5a3c_5a3c, u64::MAX];
+
+/// Takes an operation's calls and compares them as they come.
+pub struct Feed<'a> {
+    pub random: Random,
+    /// How many random calls to feed.
+    pub calls: usize,
+    operation: &'a Operation,
+    planted: bool,
+    turn: usize,
+    tally: Tally,
+}
+
+/// Compares all calls of one operation.
+pub fn compare_all(operation: &Operation, calls: usize, seed: u64, planted: bool) -> Tally {
+    let mut feed = Feed {
+        random: Random::new(seed, operation.name),
+        calls,
+        operation,
+        planted,
+        turn: 0,
+        tally: Tally::default(),
+    };
+    (operation.inputs)(&mut feed);
+    feed.tally
+}
+
+impl Feed<'_> {
+    /// Compares one call.
+    pub fn compare(&mut self, input: &Input) {
+        let operation = self.operation;
+        let pattern = PATTERNS[self.turn % PATTERNS.len()];
+        self.turn += 1;
+        let mut expected = Answer::before(operation.outs, pattern);
+        let mut answered = expected.clone();
+        expected.number = (operation.expect)(input, &mut expected).err().unwrap_or(0);
+        answered.number = (operation.ask)(input, &mut answered);
+        if self.planted {
+            (operation.distort)(input, &mut answered);
+        }
+        let longest = input.texts.iter().any(|text| text.len() == LONGEST);
+        self.tally.longest_read += u64::from(longest && expected.number != 1);
+        let row = class(operation.outs, &expected);
+        let count = self.tally.rows.entry(row).or_default();
+        count.compared += 1;
+        if expected != answered {
+            count.differing += 1;
+            self.show(input, &expected, &answered);
+        }
+    }
+
+    /// How many calls were compared so far: lets generators vary what they feed.
+    pub fn turn(&self) -> usize {
+        self.turn
+    }
+
+    /// Keeps a differing call in full.
+    fn show(&mut self, input: &Input, expected: &Answer, answered: &Answer) {
+        if self.tally.shown.len() < MOST_SHOWN {
+            let operation = self.operation;
+            self.tally.shown.push(format!(
+                "{}\n{}      expected {}\n      answered {}",
+                operation.name,
+                describe_input(operation, input),
+                describe_answer(operation, expected),
+                describe_answer(operation, answered),
+            ));
+        }
+    }
+}
+
+/// A call's arguments, a line each; bytes are escaped as Rust does.
+fn describe_input(operation: &Operation, input: &Input) -> String {
+    let mut lines = String::new();
+    for (name, text) in operation.texts.iter().zip(input.texts) {
+        let escaped = text.escape_ascii();
+        lines += &format!("      {name} ({} bytes) \"{escaped}\"\n", text.len());
+    }
+    for (name, number) in operation.numbers.iter().zip(input.numbers) {
+        lines += &format!("      {name} {number}\n");
+    }
+    lines
+}
+
+/// An answer in one line.
+fn describe_answer(operation: &Operation, answer: &Answer) -> String {
+    let mut line = format!("{}", answer.number);
+    for ((name, _), value) in operation.outs.iter().zip(answer.outs) {
+        line += &format!(", {name} {value}");
+    }
+    if !answer.bytes.is_empty() {
+        line += &format!(", output \"{}\"", answer.bytes.escape_ascii());
+    }
+    if !answer.steps.is_empty() {
+        line += &format!(", steps (number, found, place, length, next) {:?}", answer.steps);
+    }
+    line
+}
+
+/// A row's name in the table.
+pub fn row_name(row: u8) -> String {
+    match row {
+        NOTHING => "0, nothing or no".to_string(),
+        number => number.to_string(),
+    }
+}

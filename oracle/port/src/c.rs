@@ -1,0 +1,186 @@
+//! The C declarations of the Rattle functions, as in include/sip_dialog.h. A byte run is a pointer and a length.
+
+extern "C" {
+    // msg: the header block, status classes
+    pub fn sip_dialog_check_block(block: *const u8, block_len: usize) -> u8;
+    pub fn sip_dialog_header(
+        block: *const u8,
+        block_len: usize,
+        name: *const u8,
+        name_len: usize,
+        found: *mut u8,
+        place: *mut usize,
+        length: *mut usize,
+    ) -> u8;
+    pub fn sip_dialog_next_header(
+        block: *const u8,
+        block_len: usize,
+        name: *const u8,
+        name_len: usize,
+        from: usize,
+        found: *mut u8,
+        place: *mut usize,
+        length: *mut usize,
+        next: *mut usize,
+    ) -> u8;
+    pub fn sip_dialog_is_informational(code: u16) -> bool;
+    pub fn sip_dialog_is_success(code: u16) -> bool;
+    pub fn sip_dialog_is_redirection(code: u16) -> bool;
+    pub fn sip_dialog_is_client_error(code: u16) -> bool;
+    pub fn sip_dialog_is_server_error(code: u16) -> bool;
+    pub fn sip_dialog_is_global_failure(code: u16) -> bool;
+    pub fn sip_dialog_is_error(code: u16) -> bool;
+
+    // uri
+    pub fn sip_dialog_sip_uri(
+        text: *const u8,
+        text_len: usize,
+        secure: *mut u8,
+        user: *mut usize,
+        user_length: *mut usize,
+        host: *mut usize,
+        host_length: *mut usize,
+        has_port: *mut u8,
+        port: *mut u16,
+    ) -> u8;
+    pub fn sip_dialog_uri_estimate(text: *const u8, text_len: usize, estimate: *mut usize) -> u8;
+    pub fn sip_dialog_parse_uri_from_header(
+        value: *const u8,
+        value_len: usize,
+        found: *mut u8,
+        place: *mut usize,
+        length: *mut usize,
+    ) -> u8;
+
+    // headers: identifiers
+    pub fn sip_dialog_extract_tag(value: *const u8, value_len: usize, place: *mut usize, length: *mut usize) -> u8;
+    pub fn sip_dialog_dialog_id_new(
+        call_id: *const u8,
+        call_id_len: usize,
+        local_tag: *const u8,
+        local_tag_len: usize,
+        remote_tag: *const u8,
+        remote_tag_len: usize,
+    ) -> u8;
+    pub fn sip_dialog_from_request(
+        block: *const u8,
+        block_len: usize,
+        call_id: *mut usize,
+        call_id_length: *mut usize,
+        local_tag: *mut usize,
+        local_tag_length: *mut usize,
+        remote_tag: *mut usize,
+        remote_tag_length: *mut usize,
+    ) -> u8;
+    pub fn sip_dialog_from_response_uac(
+        block: *const u8,
+        block_len: usize,
+        call_id: *mut usize,
+        call_id_length: *mut usize,
+        local_tag: *mut usize,
+        local_tag_length: *mut usize,
+        remote_tag: *mut usize,
+        remote_tag_length: *mut usize,
+    ) -> u8;
+    pub fn sip_dialog_from_response_uas(
+        block: *const u8,
+        block_len: usize,
+        call_id: *mut usize,
+        call_id_length: *mut usize,
+        local_tag: *mut usize,
+        local_tag_length: *mut usize,
+        remote_tag: *mut usize,
+        remote_tag_length: *mut usize,
+    ) -> u8;
+
+    // headers: values
+    pub fn sip_dialog_next_header_value(
+        value: *const u8,
+        value_len: usize,
+        from: usize,
+        found: *mut u8,
+        place: *mut usize,
+        length: *mut usize,
+        next: *mut usize,
+    ) -> u8;
+    pub fn sip_dialog_contact(
+        block: *const u8,
+        block_len: usize,
+        found: *mut u8,
+        place: *mut usize,
+        length: *mut usize,
+    ) -> u8;
+    pub fn sip_dialog_route_count(block: *const u8, block_len: usize, count: *mut usize) -> u8;
+    pub fn sip_dialog_route(
+        block: *const u8,
+        block_len: usize,
+        reversed: bool,
+        index: usize,
+        found: *mut u8,
+        place: *mut usize,
+        length: *mut usize,
+    ) -> u8;
+    pub fn sip_dialog_cseq_number(block: *const u8, block_len: usize, number: *mut u32) -> u8;
+    pub fn sip_dialog_cseq_method(block: *const u8, block_len: usize, method: *mut u8) -> u8;
+    pub fn sip_dialog_rseq(block: *const u8, block_len: usize, number: *mut u32) -> u8;
+    pub fn sip_dialog_is_reliable_provisional(status: u16, block: *const u8, block_len: usize, reliable: *mut u8)
+        -> u8;
+    pub fn sip_dialog_parse_session_expires(
+        value: *const u8,
+        value_len: usize,
+        found: *mut u8,
+        seconds: *mut u32,
+        refresher: *mut u8,
+    ) -> u8;
+    pub fn sip_dialog_session_expires(
+        block: *const u8,
+        block_len: usize,
+        found: *mut u8,
+        seconds: *mut u32,
+        refresher: *mut u8,
+    ) -> u8;
+    pub fn sip_dialog_method_number(text: *const u8, text_len: usize, found: *mut u8, method: *mut u8) -> u8;
+    pub fn sip_dialog_method_text(method: u8, out: *mut u8, out_len: usize, length: *mut usize) -> u8;
+    pub fn sip_dialog_parse_rack(
+        value: *const u8,
+        value_len: usize,
+        rseq: *mut u32,
+        cseq: *mut u32,
+        method: *mut u8,
+    ) -> u8;
+    pub fn sip_dialog_format_rack(
+        rseq: u32,
+        cseq: u32,
+        method: u8,
+        out: *mut u8,
+        out_len: usize,
+        length: *mut usize,
+    ) -> u8;
+
+    // session_timer_manager
+    pub fn sip_dialog_validate_session_expires(interval: u64, has_minimum: bool, minimum: u64, least: *mut u64) -> u8;
+    pub fn sip_dialog_negotiate_session_expires(
+        requested: u64,
+        local_minimum: u64,
+        has_remote_minimum: bool,
+        remote_minimum: u64,
+        has_preference: bool,
+        preference: u64,
+        interval: *mut u64,
+        least: *mut u64,
+    ) -> u8;
+    pub fn sip_dialog_non_refresher_expiry(interval: u64) -> u64;
+    pub fn sip_dialog_calculate_refresh_time(interval: u64) -> u64;
+    pub fn sip_dialog_needs_refresh(has_interval: bool, seconds: u32, elapsed: u64) -> bool;
+    pub fn sip_dialog_determine_refresher_role(
+        given: bool,
+        text: *const u8,
+        text_len: usize,
+        is_uac: bool,
+        refresher: *mut u8,
+    ) -> u8;
+
+    // metrics
+    pub fn sip_dialog_record_created(created: u64) -> u64;
+    pub fn sip_dialog_record_terminated(terminated: u64) -> u64;
+}

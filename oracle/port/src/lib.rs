@@ -1,0 +1,416 @@
+//! Safe wrappers over the C functions of the Rattle port. Each hands its arguments on and answers the function's own
+//! number (0 accepted, else document 01's refusal); an out number is lent as `&mut`, so the caller sees whether it was
+//! kept. Byte runs are lent as slices, which cannot overlap a lent out number or each other where one is changed.
+
+mod c;
+
+/// A found part: the flag, and place and length in the caller's bytes.
+#[derive(Debug, Clone, Copy)]
+pub struct Part {
+    pub found: u8,
+    pub place: usize,
+    pub length: usize,
+}
+
+/// A part of a list, and where to ask for the next one.
+#[derive(Debug, Clone, Copy)]
+pub struct ListPart {
+    pub found: u8,
+    pub place: usize,
+    pub length: usize,
+    pub next: usize,
+}
+
+/// The parts of a SIP URI.
+#[derive(Debug, Clone, Copy)]
+pub struct Uri {
+    pub secure: u8,
+    pub user: usize,
+    pub user_length: usize,
+    pub host: usize,
+    pub host_length: usize,
+    pub has_port: u8,
+    pub port: u16,
+}
+
+/// Places and lengths of an identifier's three parts: Call-ID, local tag, remote tag.
+pub type Identifier = [usize; 6];
+
+/// What a Session-Expires value says: refresher 0 none, 1 uac, 2 uas.
+#[derive(Debug, Clone, Copy)]
+pub struct SessionExpires {
+    pub found: u8,
+    pub seconds: u32,
+    pub refresher: u8,
+}
+
+/// What a RAck value says.
+#[derive(Debug, Clone, Copy)]
+pub struct Rack {
+    pub rseq: u32,
+    pub cseq: u32,
+    pub method: u8,
+}
+
+/// Whether the bytes are a header block.
+pub fn check_block(block: &[u8]) -> u8 {
+    unsafe { c::sip_dialog_check_block(block.as_ptr(), block.len()) }
+}
+
+/// The first line of a name.
+pub fn header(block: &[u8], name: &[u8], part: &mut Part) -> u8 {
+    unsafe {
+        c::sip_dialog_header(
+            block.as_ptr(),
+            block.len(),
+            name.as_ptr(),
+            name.len(),
+            &mut part.found,
+            &mut part.place,
+            &mut part.length,
+        )
+    }
+}
+
+/// The first line of a name that starts at `from` or after it.
+pub fn next_header(block: &[u8], name: &[u8], from: usize, part: &mut ListPart) -> u8 {
+    unsafe {
+        c::sip_dialog_next_header(
+            block.as_ptr(),
+            block.len(),
+            name.as_ptr(),
+            name.len(),
+            from,
+            &mut part.found,
+            &mut part.place,
+            &mut part.length,
+            &mut part.next,
+        )
+    }
+}
+
+/// 1xx.
+pub fn is_informational(code: u16) -> bool {
+    unsafe { c::sip_dialog_is_informational(code) }
+}
+
+/// 2xx.
+pub fn is_success(code: u16) -> bool {
+    unsafe { c::sip_dialog_is_success(code) }
+}
+
+/// 3xx.
+pub fn is_redirection(code: u16) -> bool {
+    unsafe { c::sip_dialog_is_redirection(code) }
+}
+
+/// 4xx.
+pub fn is_client_error(code: u16) -> bool {
+    unsafe { c::sip_dialog_is_client_error(code) }
+}
+
+/// 5xx.
+pub fn is_server_error(code: u16) -> bool {
+    unsafe { c::sip_dialog_is_server_error(code) }
+}
+
+/// 6xx.
+pub fn is_global_failure(code: u16) -> bool {
+    unsafe { c::sip_dialog_is_global_failure(code) }
+}
+
+/// 4xx, 5xx or 6xx.
+pub fn is_error(code: u16) -> bool {
+    unsafe { c::sip_dialog_is_error(code) }
+}
+
+/// The parts of a SIP URI.
+pub fn sip_uri(text: &[u8], uri: &mut Uri) -> u8 {
+    unsafe {
+        c::sip_dialog_sip_uri(
+            text.as_ptr(),
+            text.len(),
+            &mut uri.secure,
+            &mut uri.user,
+            &mut uri.user_length,
+            &mut uri.host,
+            &mut uri.host_length,
+            &mut uri.has_port,
+            &mut uri.port,
+        )
+    }
+}
+
+/// A SIP URI's estimated length.
+pub fn uri_estimate(text: &[u8], estimate: &mut usize) -> u8 {
+    unsafe { c::sip_dialog_uri_estimate(text.as_ptr(), text.len(), estimate) }
+}
+
+/// The URI in a header value.
+pub fn parse_uri_from_header(value: &[u8], part: &mut Part) -> u8 {
+    unsafe {
+        c::sip_dialog_parse_uri_from_header(
+            value.as_ptr(),
+            value.len(),
+            &mut part.found,
+            &mut part.place,
+            &mut part.length,
+        )
+    }
+}
+
+/// The tag of a From or To value.
+pub fn extract_tag(value: &[u8], place: &mut usize, length: &mut usize) -> u8 {
+    unsafe { c::sip_dialog_extract_tag(value.as_ptr(), value.len(), place, length) }
+}
+
+/// Whether three texts make an identifier.
+pub fn dialog_id_new(call_id: &[u8], local_tag: &[u8], remote_tag: &[u8]) -> u8 {
+    unsafe {
+        c::sip_dialog_dialog_id_new(
+            call_id.as_ptr(),
+            call_id.len(),
+            local_tag.as_ptr(),
+            local_tag.len(),
+            remote_tag.as_ptr(),
+            remote_tag.len(),
+        )
+    }
+}
+
+/// A request's identifier: From's tag is the local one.
+pub fn from_request(block: &[u8], parts: &mut Identifier) -> u8 {
+    let [call_id, call_id_length, local, local_length, remote, remote_length] = parts;
+    unsafe {
+        c::sip_dialog_from_request(
+            block.as_ptr(),
+            block.len(),
+            call_id,
+            call_id_length,
+            local,
+            local_length,
+            remote,
+            remote_length,
+        )
+    }
+}
+
+/// A response's identifier for uac: From's tag is the local one.
+pub fn from_response_uac(block: &[u8], parts: &mut Identifier) -> u8 {
+    let [call_id, call_id_length, local, local_length, remote, remote_length] = parts;
+    unsafe {
+        c::sip_dialog_from_response_uac(
+            block.as_ptr(),
+            block.len(),
+            call_id,
+            call_id_length,
+            local,
+            local_length,
+            remote,
+            remote_length,
+        )
+    }
+}
+
+/// A response's identifier for uas: To's tag is the local one.
+pub fn from_response_uas(block: &[u8], parts: &mut Identifier) -> u8 {
+    let [call_id, call_id_length, local, local_length, remote, remote_length] = parts;
+    unsafe {
+        c::sip_dialog_from_response_uas(
+            block.as_ptr(),
+            block.len(),
+            call_id,
+            call_id_length,
+            local,
+            local_length,
+            remote,
+            remote_length,
+        )
+    }
+}
+
+/// The first comma part at `from` or after it.
+pub fn next_header_value(value: &[u8], from: usize, part: &mut ListPart) -> u8 {
+    unsafe {
+        c::sip_dialog_next_header_value(
+            value.as_ptr(),
+            value.len(),
+            from,
+            &mut part.found,
+            &mut part.place,
+            &mut part.length,
+            &mut part.next,
+        )
+    }
+}
+
+/// The Contact's URI.
+pub fn contact(block: &[u8], part: &mut Part) -> u8 {
+    unsafe {
+        c::sip_dialog_contact(
+            block.as_ptr(),
+            block.len(),
+            &mut part.found,
+            &mut part.place,
+            &mut part.length,
+        )
+    }
+}
+
+/// How many routes the Record-Route lines have.
+pub fn route_count(block: &[u8], count: &mut usize) -> u8 {
+    unsafe { c::sip_dialog_route_count(block.as_ptr(), block.len(), count) }
+}
+
+/// One route, counted from the front or the back.
+pub fn route(block: &[u8], reversed: bool, index: usize, part: &mut Part) -> u8 {
+    unsafe {
+        c::sip_dialog_route(
+            block.as_ptr(),
+            block.len(),
+            reversed,
+            index,
+            &mut part.found,
+            &mut part.place,
+            &mut part.length,
+        )
+    }
+}
+
+/// The CSeq's number.
+pub fn cseq_number(block: &[u8], number: &mut u32) -> u8 {
+    unsafe { c::sip_dialog_cseq_number(block.as_ptr(), block.len(), number) }
+}
+
+/// The CSeq's method, as a number.
+pub fn cseq_method(block: &[u8], method: &mut u8) -> u8 {
+    unsafe { c::sip_dialog_cseq_method(block.as_ptr(), block.len(), method) }
+}
+
+/// The RSeq.
+pub fn rseq(block: &[u8], number: &mut u32) -> u8 {
+    unsafe { c::sip_dialog_rseq(block.as_ptr(), block.len(), number) }
+}
+
+/// Whether a response is a reliable provisional.
+pub fn is_reliable_provisional(status: u16, block: &[u8], reliable: &mut u8) -> u8 {
+    unsafe { c::sip_dialog_is_reliable_provisional(status, block.as_ptr(), block.len(), reliable) }
+}
+
+/// What a Session-Expires value says.
+pub fn parse_session_expires(value: &[u8], said: &mut SessionExpires) -> u8 {
+    unsafe {
+        c::sip_dialog_parse_session_expires(
+            value.as_ptr(),
+            value.len(),
+            &mut said.found,
+            &mut said.seconds,
+            &mut said.refresher,
+        )
+    }
+}
+
+/// What a block's Session-Expires says.
+pub fn session_expires(block: &[u8], said: &mut SessionExpires) -> u8 {
+    unsafe {
+        c::sip_dialog_session_expires(
+            block.as_ptr(),
+            block.len(),
+            &mut said.found,
+            &mut said.seconds,
+            &mut said.refresher,
+        )
+    }
+}
+
+/// The number of a method text.
+pub fn method_number(text: &[u8], found: &mut u8, method: &mut u8) -> u8 {
+    unsafe { c::sip_dialog_method_number(text.as_ptr(), text.len(), found, method) }
+}
+
+/// The text of a method number, into the lent output.
+pub fn method_text(method: u8, out: &mut [u8], length: &mut usize) -> u8 {
+    unsafe { c::sip_dialog_method_text(method, out.as_mut_ptr(), out.len(), length) }
+}
+
+/// What a RAck value says.
+pub fn parse_rack(value: &[u8], rack: &mut Rack) -> u8 {
+    unsafe {
+        c::sip_dialog_parse_rack(
+            value.as_ptr(),
+            value.len(),
+            &mut rack.rseq,
+            &mut rack.cseq,
+            &mut rack.method,
+        )
+    }
+}
+
+/// A RAck value, into the lent output.
+pub fn format_rack(rack: &Rack, out: &mut [u8], length: &mut usize) -> u8 {
+    unsafe { c::sip_dialog_format_rack(rack.rseq, rack.cseq, rack.method, out.as_mut_ptr(), out.len(), length) }
+}
+
+/// Without a minimum, `absent` is the number handed over in its place.
+pub fn validate_session_expires(interval: u64, minimum: Option<u64>, absent: u64, least: &mut u64) -> u8 {
+    let given = minimum.unwrap_or(absent);
+    unsafe { c::sip_dialog_validate_session_expires(interval, minimum.is_some(), given, least) }
+}
+
+/// An offer of a session interval; `absent` stands where a number isn't given.
+#[derive(Debug, Clone, Copy)]
+pub struct Offer {
+    pub requested: u64,
+    pub local_minimum: u64,
+    pub remote_minimum: Option<u64>,
+    pub preference: Option<u64>,
+    pub absent: u64,
+}
+
+/// The interval that an offer comes to.
+pub fn negotiate_session_expires(offer: &Offer, interval: &mut u64, least: &mut u64) -> u8 {
+    unsafe {
+        c::sip_dialog_negotiate_session_expires(
+            offer.requested,
+            offer.local_minimum,
+            offer.remote_minimum.is_some(),
+            offer.remote_minimum.unwrap_or(offer.absent),
+            offer.preference.is_some(),
+            offer.preference.unwrap_or(offer.absent),
+            interval,
+            least,
+        )
+    }
+}
+
+/// When the side that does not refresh gives up.
+pub fn non_refresher_expiry(interval: u64) -> u64 {
+    unsafe { c::sip_dialog_non_refresher_expiry(interval) }
+}
+
+/// When to refresh.
+pub fn calculate_refresh_time(interval: u64) -> u64 {
+    unsafe { c::sip_dialog_calculate_refresh_time(interval) }
+}
+
+/// Without an interval, `absent` is the number handed over in its place.
+pub fn needs_refresh(seconds: Option<u32>, absent: u32, elapsed: u64) -> bool {
+    let given = seconds.unwrap_or(absent);
+    unsafe { c::sip_dialog_needs_refresh(seconds.is_some(), given, elapsed) }
+}
+
+/// Without a text, `absent` is the text handed over in its place.
+pub fn determine_refresher_role(text: Option<&[u8]>, absent: &[u8], is_uac: bool, refresher: &mut u8) -> u8 {
+    let given = text.unwrap_or(absent);
+    unsafe { c::sip_dialog_determine_refresher_role(text.is_some(), given.as_ptr(), given.len(), is_uac, refresher) }
+}
+
+/// The created count after one more.
+pub fn record_created(created: u64) -> u64 {
+    unsafe { c::sip_dialog_record_created(created) }
+}
+
+/// The terminated count after one more.
+pub fn record_terminated(terminated: u64) -> u64 {
+    unsafe { c::sip_dialog_record_terminated(terminated) }
+}

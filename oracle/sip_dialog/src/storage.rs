@@ -1,0 +1,41 @@
+//! Stand-in for the module `storage`, which is in no listed file and out of scope. A child module sees its parent's
+//! private items, so it also hands lib.rs's private functions to the run. It alters none of them.
+
+/// In scope nothing is stored through this trait.
+pub trait DialogStore {}
+
+/// The name that lib.rs re-exports.
+pub struct InMemoryDialogStore;
+
+/// lib.rs's private functions, each as it is.
+pub mod private {
+    use crate::{DialogError, Duration, Headers, RefresherRole, Response, SipUri};
+
+    pub fn split_header_values(value: &str) -> Vec<String> {
+        crate::split_header_values(value)
+    }
+
+    pub fn parse_uri_from_header(value: &str) -> Option<SipUri> {
+        crate::parse_uri_from_header(value)
+    }
+
+    pub fn extract_contact_uri(headers: &Headers) -> Option<SipUri> {
+        crate::extract_contact_uri(headers)
+    }
+
+    pub fn build_route_set(headers: &Headers, reverse: bool) -> Result<Vec<SipUri>, DialogError> {
+        crate::build_route_set(headers, reverse)
+    }
+
+    pub fn parse_cseq_number(headers: &Headers) -> Option<u32> {
+        crate::parse_cseq_number(headers)
+    }
+
+    pub fn extract_session_timer(response: &Response) -> (Option<Duration>, Option<RefresherRole>) {
+        crate::extract_session_timer(response)
+    }
+
+    pub fn validate_uri(uri: &SipUri) -> Result<(), DialogError> {
+        crate::validate_uri(uri)
+    }
+}
