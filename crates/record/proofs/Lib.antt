@@ -1,0 +1,6 @@
+pub mod CodecLaws
+pub mod MapLaws
+pub mod NumberLaws
+pub mod RecordLaws
+pub mod StoreLaws
+pub mod WellFormedLaws

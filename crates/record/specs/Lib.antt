@@ -1,0 +1,5 @@
+pub mod Codec
+pub mod NumbersForm
+pub mod Record
+pub mod Rules
+pub mod Store

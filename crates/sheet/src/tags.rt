@@ -1,0 +1,43 @@
+// The tags of From and To values.
+use crate::show::ask;
+use crate::show::end_line;
+use crate::show::show_tag;
+
+pub fn tags() {
+    tag(b"01 sheet P", b"\"a;tag=x\" <sip:r@h>;tag=y");
+    tag(b"01 Identifier", b"<sip:r@h>; TAG=z");
+    tag(b"01 Identifier", b"<sip:r@h>;tag=");
+    tag(b"01 Identifier", b"<sip:r@h>;tag =z");
+    tag(b"RFC 3261 8.1.1.2", b"Carol <sip:carol@chicago.com>");
+    tag(
+        b"RFC 3261 8.1.1.3",
+        b"\"Bob\" <sips:bob@biloxi.com> ;tag=a48s",
+    );
+    tag(
+        b"RFC 3261 8.1.1.3",
+        b"sip:+12125551212@phone2net.com;tag=887s",
+    );
+    tag(
+        b"RFC 3261 8.1.1.3",
+        b"Anonymous <sip:c8oqz84zk7z@privacy.org>;tag=hyh8",
+    );
+    tag(
+        b"RFC 3261 20.20",
+        b"\"A. G. Bell\" <sip:agb@bell-telephone.com> ;tag=a48s",
+    );
+    tag(
+        b"RFC 3261 20.20",
+        b"sip:+12125551212@server.phone2net.com;tag=887s",
+    );
+    tag(
+        b"RFC 3261 20.39",
+        b"The Operator <sip:operator@cs.columbia.edu>;tag=287447",
+    );
+    tag(b"RFC 3261 20.39", b"sip:+12125551212@server.phone2net.com");
+}
+
+fn tag(place: &[u8], value: &[u8]) {
+    ask(place, b"tag of ", value);
+    show_tag(value, headers::extract_tag(value));
+    end_line();
+}

@@ -1,0 +1,239 @@
+/*
+ * sip_dialog: readings of SIP dialogs (RFC 3261 section 12), reliable provisional responses (RFC 3262) and session timers
+ * (RFC 4028). The functions are proved in Rattle; `rt staticlib sip_dialog` writes them to target/staticlib/libsip_dialog.a,
+ * for x86-64.
+ *
+ * For every call:
+ * - It finishes on all bytes, allocates nothing and remembers nothing.
+ * - A byte run is a pointer and its length in bytes; no zero byte ends it. A null pointer is allowed only with length 0.
+ * - Byte runs of one call must not overlap, neither each other nor a lent number.
+ * - A lent number (found, place, ..) is a pointer to a number of its own, never null. It keeps its value except where its
+ *   answer is given: a refused call changes none of them (but 13's `least`), and with `found` 0 the others keep theirs.
+ * - A function that can refuse returns 0 (accepted) or the number of the first cause that holds, in the order given with it.
+ * - Refused, lent bytes stay as they were; accepted, those past the written length do.
+ * - A place counts from 0 at the start of the run that was given; a length is in bytes. Both always lie within that run.
+ *
+ * Header block: lines `name:value` CRLF, the last one too; a name has letters, digits and `-`, at least one; a value has
+ * bytes 9 and 32 to 126. An empty block is valid. Blanks (space and tab) at both ends aren't part of a value that is answered.
+ * Names of headers are compared without regard to letter case; short forms of them aren't known.
+ */
+#ifndef SIP_DIALOG_H
+#define SIP_DIALOG_H
+
+#include <stdbool.h>
+#include <stddef.h>
+#include <stdint.h>
+
+#ifdef __cplusplus
+extern "C" {
+#endif
+
+/* Why a call is turned back. None of the functions below returns 3, 5, 9 to 12, 14 to 17 or 20 to 24: these belong to calls
+   on stores. */
+enum sip_dialog_refusal {
+    SIP_DIALOG_ACCEPTED = 0,
+    SIP_DIALOG_TEXT_TOO_LONG = 1,              /* a given text or block is over 8,192 bytes */
+    SIP_DIALOG_MALFORMED = 2,                  /* a block, or a value given alone, isn't of its form */
+    SIP_DIALOG_BAD_STORE = 3,                  /* a store or record isn't whole images */
+    SIP_DIALOG_MISSING_HEADER = 4,             /* an identifier part, CSeq or RSeq is absent or unreadable */
+    SIP_DIALOG_INVALID_STATUS = 5,             /* status outside 100 to 299 at creation */
+    SIP_DIALOG_INVALID_URI = 6,                /* a given URI is unreadable */
+    SIP_DIALOG_URI_TOO_LONG = 7,               /* a URI's estimate is over 512 */
+    SIP_DIALOG_ROUTE_SET_TOO_LARGE = 8,        /* over 50 routes */
+    SIP_DIALOG_CSEQ_ZERO = 9,                  /* CSeq 0 */
+    SIP_DIALOG_CSEQ_TOO_LARGE = 10,            /* CSeq over 2,147,483,647 */
+    SIP_DIALOG_INVALID_CSEQ = 11,              /* CSeq not above the last one; ACK's unequal to it */
+    SIP_DIALOG_CSEQ_JUMP_TOO_LARGE = 12,       /* CSeq over 1,000 above the last one */
+    SIP_DIALOG_SESSION_EXPIRES_TOO_SMALL = 13, /* interval too short; the minimum is answered beside it */
+    SIP_DIALOG_SESSION_EXPIRES_TOO_LARGE = 14, /* interval over 86,400 s */
+    SIP_DIALOG_NOT_FOUND = 15,                 /* no such record; no RSeq number held */
+    SIP_DIALOG_TOO_MANY_DIALOGS = 16,          /* 10,000 records held */
+    SIP_DIALOG_TOO_MANY_EARLY_DIALOGS = 17,    /* 100 other Early records of this Call-ID */
+    SIP_DIALOG_NO_ROOM = 18,                   /* the result is larger than the lent bytes */
+    SIP_DIALOG_INVALID_RACK = 19,              /* RAck absent, not three parts, or a part unreadable */
+    SIP_DIALOG_NO_PENDING_LIST = 20,           /* no PRACK list of this identifier */
+    SIP_DIALOG_UNKNOWN_RSEQ = 21,              /* no such RSeq in the list */
+    SIP_DIALOG_RACK_CSEQ_MISMATCH = 22,        /* RAck's CSeq is another */
+    SIP_DIALOG_RACK_METHOD_MISMATCH = 23,      /* RAck's method is another */
+    SIP_DIALOG_DUPLICATE_PRACK = 24,           /* acknowledged before */
+    SIP_DIALOG_IDENTIFIER_EMPTY = 25,          /* an identifier part is empty */
+    SIP_DIALOG_IDENTIFIER_TOO_LONG = 26,       /* Call-ID over 256 bytes, or a tag over 128 */
+    SIP_DIALOG_CONTROL_CHARACTERS = 27,        /* an identifier part has bytes 0 to 31 or over 126 */
+    SIP_DIALOG_INVALID_METHOD = 28             /* method number outside 1 to 14 */
+};
+
+/* The numbers of the methods. */
+enum sip_dialog_method {
+    SIP_DIALOG_METHOD_INVITE = 1,
+    SIP_DIALOG_METHOD_ACK = 2,
+    SIP_DIALOG_METHOD_BYE = 3,
+    SIP_DIALOG_METHOD_CANCEL = 4,
+    SIP_DIALOG_METHOD_REGISTER = 5,
+    SIP_DIALOG_METHOD_OPTIONS = 6,
+    SIP_DIALOG_METHOD_INFO = 7,
+    SIP_DIALOG_METHOD_UPDATE = 8,
+    SIP_DIALOG_METHOD_MESSAGE = 9,
+    SIP_DIALOG_METHOD_PRACK = 10,
+    SIP_DIALOG_METHOD_REFER = 11,
+    SIP_DIALOG_METHOD_SUBSCRIBE = 12,
+    SIP_DIALOG_METHOD_NOTIFY = 13,
+    SIP_DIALOG_METHOD_PUBLISH = 14
+};
+
+/* ---- Header blocks and status codes */
+
+/* Whether the bytes are a header block. Refuses with 1, 2. */
+uint8_t sip_dialog_check_block(const uint8_t *block, size_t block_len);
+
+/* The value of the first line of that name: found 1 with place and length in the block, or found 0.
+   An empty value's place is that of its CR. Refuses with 1 (block or name), 2 (block). */
+uint8_t sip_dialog_header(const uint8_t *block, size_t block_len, const uint8_t *name, size_t name_len,
+                          uint8_t *found, size_t *place, size_t *length);
+
+/* The same for the first line of that name that starts at `from` or after it; `next` is where the line after it starts.
+   All lines are had by asking from 0 on, and then from each answered `next`. Refuses with 1 (block or name), 2 (block). */
+uint8_t sip_dialog_next_header(const uint8_t *block, size_t block_len, const uint8_t *name, size_t name_len, size_t from,
+                               uint8_t *found, size_t *place, size_t *length, size_t *next);
+
+/* Classes of status codes: 100 to 199, 200 to 299, .., 600 to 699; an error is 400 to 699. Any number may be asked. */
+bool sip_dialog_is_informational(uint16_t code);
+bool sip_dialog_is_success(uint16_t code);
+bool sip_dialog_is_redirection(uint16_t code);
+bool sip_dialog_is_client_error(uint16_t code);
+bool sip_dialog_is_server_error(uint16_t code);
+bool sip_dialog_is_global_failure(uint16_t code);
+bool sip_dialog_is_error(uint16_t code);
+
+/* ---- URIs */
+
+/* The parts of a URI: secure 1 for `sips:`, 0 for `sip:`; user and host as places in the text; has_port 1 with its port, or 0
+   (port keeps its value). Without a user part user_length is 0 and user the host's place. Refuses with 1, 6. */
+uint8_t sip_dialog_sip_uri(const uint8_t *text, size_t text_len, uint8_t *secure, size_t *user, size_t *user_length,
+                           size_t *host, size_t *host_length, uint8_t *has_port, uint16_t *port);
+
+/* The estimate of a URI: length of user + length of host + 6 if it has a port + 10. Refuses with 1, 6, 7 (over 512). */
+uint8_t sip_dialog_uri_estimate(const uint8_t *text, size_t text_len, size_t *estimate);
+
+/* The URI in a header value: found 1 with place and length of its text in the value, or found 0 where it is unreadable.
+   It stands between the first `<`, in quotes too, and the next `>`; without `<`, before the first `;`. Refuses with 1, 2. */
+uint8_t sip_dialog_parse_uri_from_header(const uint8_t *value, size_t value_len, uint8_t *found, size_t *place, size_t *length);
+
+/* ---- Identifiers */
+
+/* The tag of a From or To value: place and length in the value; it may be empty. It is the first `;` segment that begins with
+   `tag=`, in quotes too. Refuses with 1, 2, 4 (no tag). */
+uint8_t sip_dialog_extract_tag(const uint8_t *value, size_t value_len, size_t *place, size_t *length);
+
+/* Whether three texts may be a dialog's identifier. Refuses with 1 (any of them); then 25, 26, 27 of the Call-ID, then of the
+   local tag, then of the remote tag. */
+uint8_t sip_dialog_dialog_id_new(const uint8_t *call_id, size_t call_id_len, const uint8_t *local_tag, size_t local_tag_len,
+                                 const uint8_t *remote_tag, size_t remote_tag_len);
+
+/* The identifier of a request: places and lengths of its parts in the block. The tag of From is the local one, as seen by
+   the sender; for a request from the peer, swap the tags. The parts may be empty. Refuses with 1, 2, 4. */
+uint8_t sip_dialog_from_request(const uint8_t *block, size_t block_len, size_t *call_id, size_t *call_id_length,
+                                size_t *local_tag, size_t *local_tag_length, size_t *remote_tag, size_t *remote_tag_length);
+
+/* The identifier of a response to a request that we sent: the tag of From is the local one. Refuses with 1, 2, 4. */
+uint8_t sip_dialog_from_response_uac(const uint8_t *block, size_t block_len, size_t *call_id, size_t *call_id_length,
+                                     size_t *local_tag, size_t *local_tag_length,
+                                     size_t *remote_tag, size_t *remote_tag_length);
+
+/* The identifier of a response that we sent: the tag of To is the local one. Refuses with 1, 2, 4. */
+uint8_t sip_dialog_from_response_uas(const uint8_t *block, size_t block_len, size_t *call_id, size_t *call_id_length,
+                                     size_t *local_tag, size_t *local_tag_length,
+                                     size_t *remote_tag, size_t *remote_tag_length);
+
+/* ---- Header values and routes */
+
+/* The next part between commas of a value: found 1 with place, length and the `next` place to ask from, or found 0. `from` is
+   0 or an answered `next`, which is value_len + 1 after the last part. Empty parts are skipped. Refuses with 1, 2. */
+uint8_t sip_dialog_next_header_value(const uint8_t *value, size_t value_len, size_t from,
+                                     uint8_t *found, size_t *place, size_t *length, size_t *next);
+
+/* The URI of the first Contact line: found 1 with place and length of its text in the block, or found 0 where there is no such
+   line or its URI is unreadable. Refuses with 1, 2. */
+uint8_t sip_dialog_contact(const uint8_t *block, size_t block_len, uint8_t *found, size_t *place, size_t *length);
+
+/* How many routes all Record-Route lines give; unreadable parts are skipped. Refuses with 1, 2; then 7 or 8, whichever is met
+   first: a route's estimate over 512, or any part met when 50 routes are held. */
+uint8_t sip_dialog_route_count(const uint8_t *block, size_t block_len, size_t *count);
+
+/* The route at an index from 0, in the order of the block or reversed: found 1 with place and length of its URI in the block,
+   or found 0 from the count on. Refuses as sip_dialog_route_count does, whatever the index. */
+uint8_t sip_dialog_route(const uint8_t *block, size_t block_len, bool reversed, size_t index,
+                         uint8_t *found, size_t *place, size_t *length);
+
+/* The interval of a Session-Expires value: found 1 with seconds (0 and over 86,400 too) and refresher (0 none, 1 uac, 2 uas),
+   or found 0 where it is unreadable. Refuses with 1, 2. */
+uint8_t sip_dialog_parse_session_expires(const uint8_t *value, size_t value_len,
+                                         uint8_t *found, uint32_t *seconds, uint8_t *refresher);
+
+/* The same of a block's first Session-Expires line; found 0 where there is none too. Refuses with 1, 2. */
+uint8_t sip_dialog_session_expires(const uint8_t *block, size_t block_len,
+                                   uint8_t *found, uint32_t *seconds, uint8_t *refresher);
+
+/* ---- CSeq, RSeq, RAck and methods */
+
+/* The number of a block's CSeq, 0 too: its first word, one `+` allowed. Refuses with 1, 2, 4. */
+uint8_t sip_dialog_cseq_number(const uint8_t *block, size_t block_len, uint32_t *number);
+
+/* The method's number of a block's CSeq: its second word, whatever the first is. Refuses with 1, 2, 4 (unknown ones too). */
+uint8_t sip_dialog_cseq_method(const uint8_t *block, size_t block_len, uint8_t *method);
+
+/* The number of a block's RSeq, 0 too: its whole value, one `+` allowed. Refuses with 1, 2, 4. */
+uint8_t sip_dialog_rseq(const uint8_t *block, size_t block_len, uint32_t *number);
+
+/* Whether a response is a reliable provisional: reliable 1 for status 101 to 199 with an RSeq line, readable or not, else 0.
+   Refuses with 1, 2, whatever the status. */
+uint8_t sip_dialog_is_reliable_provisional(uint16_t status, const uint8_t *block, size_t block_len, uint8_t *reliable);
+
+/* The number of a method's text, letter case ignored: found 1 with method, or found 0. Refuses with 1. */
+uint8_t sip_dialog_method_number(const uint8_t *text, size_t text_len, uint8_t *found, uint8_t *method);
+
+/* Writes a method's text in capitals to the front of out, without a zero byte, and answers its length, at most 9.
+   Refuses with 28, 18. */
+uint8_t sip_dialog_method_text(uint8_t method, uint8_t *out, size_t out_len, size_t *length);
+
+/* The parts of a RAck value: RSeq, CSeq and the method's number. Refuses with 1, 2, 19. */
+uint8_t sip_dialog_parse_rack(const uint8_t *value, size_t value_len, uint32_t *rseq, uint32_t *cseq, uint8_t *method);
+
+/* Writes a RAck value to the front of out, without a zero byte, and answers its length, at most 31. Refuses with 28, 18. */
+uint8_t sip_dialog_format_rack(uint32_t rseq, uint32_t cseq, uint8_t method, uint8_t *out, size_t out_len, size_t *length);
+
+/* ---- Session intervals: nanoseconds where nothing is said of seconds. A value whose has_.. is false isn't looked at. */
+
+/* Whether an interval reaches the minimum: the given one, even below 90 s, or else 90 s. Refuses with 13 and then answers
+   the minimum in least, in nanoseconds; accepted, least keeps its value. */
+uint8_t sip_dialog_validate_session_expires(uint64_t interval, bool has_minimum, uint64_t minimum, uint64_t *least);
+
+/* The interval for both sides: the requested one, reduced to the preference but not below the larger minimum. Refuses with 13
+   if it is itself below that minimum, which least then answers in nanoseconds; interval keeps its value then. */
+uint8_t sip_dialog_negotiate_session_expires(uint64_t requested, uint64_t local_minimum,
+                                             bool has_remote_minimum, uint64_t remote_minimum,
+                                             bool has_preference, uint64_t preference, uint64_t *interval, uint64_t *least);
+
+/* When the side that doesn't refresh gives the session up: before its end by 32 s, or by a third if that is less. */
+uint64_t sip_dialog_non_refresher_expiry(uint64_t interval);
+
+/* When the side that refreshes does so: at half the interval, rounded down. */
+uint64_t sip_dialog_calculate_refresh_time(uint64_t interval);
+
+/* Whether two thirds of an interval in seconds have passed, with elapsed in nanoseconds. Without an interval: no. */
+bool sip_dialog_needs_refresh(bool has_interval, uint32_t seconds, uint64_t elapsed);
+
+/* Whether we refresh, by the text of a refresher parameter, if one is given: refresher 1 for yes, 0 for no (not uac or uas).
+   `uas`, `UAS`: if we aren't uac; all else, `Uas` too: if we are. Refuses with 1, if a text is given. */
+uint8_t sip_dialog_determine_refresher_role(bool given, const uint8_t *text, size_t text_len, bool is_uac, uint8_t *refresher);
+
+/* ---- Counts of dialogs */
+
+/* The count with one more; the largest number stays. */
+uint64_t sip_dialog_record_created(uint64_t created);
+uint64_t sip_dialog_record_terminated(uint64_t terminated);
+
+#ifdef __cplusplus
+}
+#endif
+
+#endif

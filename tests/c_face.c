@@ -1,0 +1,1403 @@
+/*
+ * Calls every function of include/sip_dialog.h, accepted and refused: what it returns, what the lent numbers and bytes then
+ * hold, and that the rest is kept. Expected values come from document 01, not from the code.
+ */
+#include "sip_dialog.h"
+
+#include <stdio.h>
+#include <stdlib.h>
+#include <string.h>
+
+enum {
+    KEPT = 0xA5,    /* what every lent number and byte holds before a call */
+    LONGEST = 8192, /* the longest text or block that is taken */
+    ROUTES = 50     /* the most routes of a block */
+};
+
+#define SECOND UINT64_C(1000000000)
+
+static unsigned checks_run;
+static unsigned checks_failed;
+
+#define CHECK(expression) check((expression), __FILE__, __LINE__, #expression)
+
+static void check(bool holds, const char *file, int line, const char *expression)
+{
+    checks_run++;
+    if (holds) {
+        return;
+    }
+    checks_failed++;
+    printf("%s:%d: %s\n", file, line, expression);
+}
+
+/* ---- Lent bytes */
+
+struct run {
+    const char *text;
+    uint8_t *bytes;
+    size_t length;
+};
+
+/* Memory that ends where its bytes end, so that valgrind sees any step past it. */
+static uint8_t *memory(size_t length)
+{
+    uint8_t *bytes = malloc(length);
+    if (bytes == NULL && length > 0) {
+        puts("c_face: no memory");
+        exit(2);
+    }
+    return bytes;
+}
+
+/* A text as a byte run; NULL is lent as a null pointer with length 0. */
+static struct run lend(const char *text)
+{
+    struct run r = {text, NULL, 0};
+    if (text != NULL) {
+        r.length = strlen(text);
+        r.bytes = memory(r.length);
+        memcpy(r.bytes, text, r.length);
+    }
+    return r;
+}
+
+static void take_back(struct run r)
+{
+    CHECK(r.length == 0 || memcmp(r.bytes, r.text, r.length) == 0);
+    free(r.bytes);
+}
+
+/* A text of `total` bytes: head, then so many of one byte, then tail. The buffer has room for LONGEST + 1 bytes and a zero. */
+static const char *filled(char *buffer, const char *head, char byte, const char *tail, size_t total)
+{
+    size_t first = strlen(head);
+    size_t last = strlen(tail);
+    memcpy(buffer, head, first);
+    memset(buffer + first, byte, total - first - last);
+    memcpy(buffer + total - last, tail, last + 1);
+    return buffer;
+}
+
+/* A header block of `total` bytes that begins with these lines. */
+static const char *long_block(char *buffer, const char *lines, size_t total)
+{
+    char head[256];
+    snprintf(head, sizeof head, "%sX-1:", lines);
+    return filled(buffer, head, 'a', "\r\n", total);
+}
+
+static size_t place_of(const char *whole, const char *part)
+{
+    const char *at = strstr(whole, part);
+    return at == NULL ? SIZE_MAX : (size_t)(at - whole);
+}
+
+/* ---- Answers of look-ups. Numbers narrower than size_t are followed by one that must stay KEPT. */
+
+struct lookup {
+    uint8_t number;
+    uint8_t found[2];
+    size_t place;
+    size_t length;
+    size_t next;
+};
+
+static const struct lookup fresh_lookup = {KEPT, {KEPT, KEPT}, KEPT, KEPT, KEPT};
+
+static bool is_at(struct lookup l, size_t place, size_t length)
+{
+    return l.number == 0 && l.found[0] == 1 && l.found[1] == KEPT && l.place == place && l.length == length;
+}
+
+/* The answer is this part of the whole, where it first stands there. */
+static bool is_part(struct lookup l, const char *whole, const char *part)
+{
+    return is_at(l, place_of(whole, part), strlen(part));
+}
+
+static bool rest_is_kept(struct lookup l)
+{
+    return l.found[1] == KEPT && l.place == KEPT && l.length == KEPT && l.next == KEPT;
+}
+
+static bool is_nothing(struct lookup l)
+{
+    return l.number == 0 && l.found[0] == 0 && rest_is_kept(l);
+}
+
+static bool is_refused(struct lookup l, uint8_t number)
+{
+    return l.number == number && l.found[0] == KEPT && rest_is_kept(l);
+}
+
+/* ---- Header blocks */
+
+static uint8_t check_block(const char *block)
+{
+    struct run b = lend(block);
+    uint8_t number = sip_dialog_check_block(b.bytes, b.length);
+    take_back(b);
+    return number;
+}
+
+static void test_check_block(void)
+{
+    char buffer[LONGEST + 2];
+    CHECK(check_block(NULL) == 0);
+    CHECK(check_block("") == 0);
+    CHECK(check_block("-:\r\n") == 0);
+    CHECK(check_block("A1-z:\t~ b \r\nA1-z::\r\n") == 0);
+    CHECK(check_block("A:b") == 2);
+    CHECK(check_block("A:b\r") == 2);
+    CHECK(check_block("A:b\n") == 2);
+    CHECK(check_block("A:b\n\r") == 2);
+    CHECK(check_block("A") == 2);
+    CHECK(check_block("\r\n") == 2);
+    CHECK(check_block(":b\r\n") == 2);
+    CHECK(check_block("A :b\r\n") == 2);
+    CHECK(check_block("A_:b\r\n") == 2);
+    CHECK(check_block("A:b\r\n\r\n") == 2);
+    CHECK(check_block("A:b\r\n c\r\n") == 2);
+    CHECK(check_block("A:\x1f\r\n") == 2);
+    CHECK(check_block("A:\x7f\r\n") == 2);
+    CHECK(check_block("A:\xff\r\n") == 2);
+    CHECK(check_block(long_block(buffer, "", LONGEST)) == 0);
+    CHECK(check_block(long_block(buffer, "", LONGEST + 1)) == 1);
+    CHECK(check_block(filled(buffer, "", 'a', "", LONGEST)) == 2);
+    CHECK(check_block(filled(buffer, "", 'a', "", LONGEST + 1)) == 1);
+}
+
+/* Every byte in a name and in a value. */
+static void test_bytes_of_blocks(void)
+{
+    unsigned byte;
+    for (byte = 0; byte < 256; byte++) {
+        uint8_t name[4] = {0, ':', '\r', '\n'};
+        uint8_t value[5] = {'A', ':', 0, '\r', '\n'};
+        bool letter = (byte >= 'A' && byte <= 'Z') || (byte >= 'a' && byte <= 'z');
+        bool in_name = letter || (byte >= '0' && byte <= '9') || byte == '-';
+        bool in_value = byte == 9 || (byte >= 32 && byte <= 126);
+        name[0] = (uint8_t)byte;
+        value[2] = (uint8_t)byte;
+        CHECK(sip_dialog_check_block(name, sizeof name) == (in_name ? 0 : 2));
+        CHECK(sip_dialog_check_block(value, sizeof value) == (in_value ? 0 : 2));
+    }
+}
+
+static struct lookup header(const char *block, const char *name)
+{
+    struct run b = lend(block);
+    struct run n = lend(name);
+    struct lookup l = fresh_lookup;
+    l.number = sip_dialog_header(b.bytes, b.length, n.bytes, n.length, l.found, &l.place, &l.length);
+    take_back(b);
+    take_back(n);
+    return l;
+}
+
+static void test_header(void)
+{
+    const char *block = "Via:v1\r\nTo: \tto text \t\r\nVIA:v2\r\nE: \t\r\n";
+    char buffer[LONGEST + 2];
+    CHECK(is_at(header(block, "Via"), 4, 2));
+    CHECK(is_at(header(block, "vIA"), 4, 2));
+    CHECK(is_part(header(block, "to"), block, "to text"));
+    CHECK(is_at(header(block, "E"), strlen(block) - 2, 0));
+    CHECK(is_nothing(header(block, "T")));
+    CHECK(is_nothing(header(block, "Too")));
+    CHECK(is_nothing(header(block, "To:")));
+    CHECK(is_nothing(header(block, "")));
+    CHECK(is_nothing(header(block, NULL)));
+    CHECK(is_nothing(header("", "Via")));
+    CHECK(is_nothing(header(NULL, "Via")));
+    CHECK(is_nothing(header(NULL, NULL)));
+    CHECK(is_refused(header("Via:v1\r\nTo", "Via"), 2));
+    CHECK(is_at(header(long_block(buffer, "Via:v1\r\n", LONGEST), "x-1"), 12, LONGEST - 14));
+    CHECK(is_refused(header(long_block(buffer, "Via:v1\r\n", LONGEST + 1), "Via"), 1));
+    CHECK(is_nothing(header(block, filled(buffer, "", 'a', "", LONGEST))));
+    CHECK(is_refused(header(block, filled(buffer, "", 'a', "", LONGEST + 1)), 1));
+    CHECK(is_refused(header("Via", buffer), 1));
+}
+
+static struct lookup next_header(const char *block, const char *name, size_t from)
+{
+    struct run b = lend(block);
+    struct run n = lend(name);
+    struct lookup l = fresh_lookup;
+    l.number = sip_dialog_next_header(b.bytes, b.length, n.bytes, n.length, from, l.found, &l.place, &l.length, &l.next);
+    take_back(b);
+    take_back(n);
+    return l;
+}
+
+static void test_next_header(void)
+{
+    const char *block = "Via: v1\r\nTo:t\r\nvia:\r\nE:e\r\n";
+    char buffer[LONGEST + 2];
+    struct lookup l = next_header(block, "VIA", 0);
+    CHECK(is_at(l, 5, 2) && l.next == 9);
+    l = next_header(block, "VIA", l.next);
+    CHECK(is_at(l, 19, 0) && l.next == 21);
+    CHECK(is_nothing(next_header(block, "VIA", l.next)));
+    l = next_header(block, "E", 0);
+    CHECK(is_at(l, 23, 1) && l.next == strlen(block));
+    CHECK(is_nothing(next_header(block, "E", l.next)));
+    l = next_header(block, "VIA", 1);
+    CHECK(is_at(l, 19, 0) && l.next == 21);
+    l = next_header(block, "VIA", 15);
+    CHECK(is_at(l, 19, 0) && l.next == 21);
+    CHECK(is_nothing(next_header(block, "VIA", 16)));
+    CHECK(is_nothing(next_header(block, "VIA", SIZE_MAX)));
+    CHECK(is_nothing(next_header(block, NULL, 0)));
+    CHECK(is_nothing(next_header(NULL, "VIA", 0)));
+    CHECK(is_nothing(next_header("", "VIA", 1)));
+    CHECK(is_refused(next_header("Via:v1", "Via", 0), 2));
+    CHECK(is_refused(next_header("Via:v1", "Via", SIZE_MAX), 2));
+    l = next_header(long_block(buffer, "", LONGEST), "X-1", 0);
+    CHECK(is_at(l, 4, LONGEST - 6) && l.next == LONGEST);
+    l = next_header(long_block(buffer, "Y-:\r\n", LONGEST), "X-1", 1);
+    CHECK(is_at(l, 9, LONGEST - 11) && l.next == LONGEST);
+    CHECK(is_refused(next_header(long_block(buffer, "", LONGEST + 1), "X-1", 0), 1));
+    CHECK(is_nothing(next_header(block, filled(buffer, "", 'a', "", LONGEST), 0)));
+    CHECK(is_refused(next_header("Via", filled(buffer, "", 'a', "", LONGEST + 1), 0), 1));
+}
+
+/* ---- Status codes */
+
+/* Whether a class has the codes from low on, below high, and no others. */
+static bool is_class(bool (*class_of)(uint16_t), unsigned low, unsigned high)
+{
+    unsigned code;
+    for (code = 0; code <= UINT16_MAX; code++) {
+        if (class_of((uint16_t)code) != (low <= code && code < high)) {
+            return false;
+        }
+    }
+    return true;
+}
+
+static void test_status_codes(void)
+{
+    CHECK(is_class(sip_dialog_is_informational, 100, 200));
+    CHECK(is_class(sip_dialog_is_success, 200, 300));
+    CHECK(is_class(sip_dialog_is_redirection, 300, 400));
+    CHECK(is_class(sip_dialog_is_client_error, 400, 500));
+    CHECK(is_class(sip_dialog_is_server_error, 500, 600));
+    CHECK(is_class(sip_dialog_is_global_failure, 600, 700));
+    CHECK(is_class(sip_dialog_is_error, 400, 700));
+}
+
+/* ---- URIs */
+
+struct uri {
+    uint8_t number;
+    uint8_t secure[2];
+    size_t user;
+    size_t user_length;
+    size_t host;
+    size_t host_length;
+    uint8_t has_port[2];
+    uint16_t port[2];
+};
+
+static struct uri sip_uri(const char *text)
+{
+    struct run t = lend(text);
+    struct uri u = {KEPT, {KEPT, KEPT}, KEPT, KEPT, KEPT, KEPT, {KEPT, KEPT}, {KEPT, KEPT}};
+    u.number = sip_dialog_sip_uri(t.bytes, t.length, u.secure, &u.user, &u.user_length, &u.host, &u.host_length, u.has_port,
+                                  u.port);
+    take_back(t);
+    CHECK(u.secure[1] == KEPT && u.has_port[1] == KEPT && u.port[1] == KEPT);
+    return u;
+}
+
+static bool uri_is_refused(const char *text, uint8_t number)
+{
+    struct uri u = sip_uri(text);
+    bool parts_kept = u.user == KEPT && u.user_length == KEPT && u.host == KEPT && u.host_length == KEPT;
+    return u.number == number && u.secure[0] == KEPT && parts_kept && u.has_port[0] == KEPT && u.port[0] == KEPT;
+}
+
+static bool parts_are(struct uri u, size_t user, size_t user_length, size_t host, size_t host_length)
+{
+    bool user_is = u.user == user && u.user_length == user_length;
+    return u.number == 0 && user_is && u.host == host && u.host_length == host_length;
+}
+
+static bool port_is(const char *text, uint16_t port)
+{
+    struct uri u = sip_uri(text);
+    return u.number == 0 && u.has_port[0] == 1 && u.port[0] == port;
+}
+
+static bool port_is_absent(const char *text)
+{
+    struct uri u = sip_uri(text);
+    return u.number == 0 && u.has_port[0] == 0 && u.port[0] == KEPT;
+}
+
+static void test_sip_uri(void)
+{
+    CHECK(parts_are(sip_uri("sip:u@h"), 4, 1, 6, 1));
+    CHECK(parts_are(sip_uri("sip:h"), 4, 0, 4, 1));
+    CHECK(parts_are(sip_uri("sips:a:b@H-1.z"), 5, 3, 9, 5));
+    CHECK(parts_are(sip_uri("sip:a@h;p=b@c"), 4, 1, 6, 1));
+    CHECK(parts_are(sip_uri("sip:u@[::aF.1]:5060"), 4, 1, 6, 8));
+    CHECK(sip_uri("SiP:h").secure[0] == 0);
+    CHECK(sip_uri("sIPs:h").secure[0] == 1);
+    CHECK(port_is("sip:u@h:5060", 5060));
+    CHECK(port_is("sip:[::1]:1;x", 1));
+    CHECK(port_is("sip:h:65535?x", 65535));
+    CHECK(port_is("sip:h:00080", 80));
+    CHECK(port_is("sip:h:0", 0));
+    CHECK(port_is_absent("sip:u@h"));
+    CHECK(port_is_absent("sip:h;x:1"));
+    CHECK(port_is_absent("sip:h?x"));
+    CHECK(port_is_absent("sip:[1:2]"));
+}
+
+static void test_sip_uri_refused(void)
+{
+    static const char *const unreadable[] = {
+        NULL, "", "sip:", "sips:", "sip", "tel:1", "sip:@h", "sip:u@", "sip:h:", "sip:h:x", "sip:h:1x", "sip:h:+1",
+        "sip:h_x", "sip:;x", "sip:h h", " sip:h", "sip:h ", "sip:[]", "sip:[::1", "sip:[::1]x", "sip:[g]", "sip:[1g]",
+        "sip:u@[]", "<sip:h>", "sip:\"@h", "sip:<@h", "sip:>@h", "sip:u@@h", "sip:\x7f@h", "sip:\x80@h", "sip:\x1f@h",
+        "sip:h:65536", "sip:h:000080", "sip:h:99999",
+    };
+    char buffer[LONGEST + 2];
+    size_t i;
+    for (i = 0; i < sizeof unreadable / sizeof unreadable[0]; i++) {
+        CHECK(uri_is_refused(unreadable[i], 6));
+    }
+    CHECK(parts_are(sip_uri(filled(buffer, "sip:", 'a', "", LONGEST)), 4, 0, 4, LONGEST - 4));
+    CHECK(uri_is_refused(filled(buffer, "sip:", 'a', "", LONGEST + 1), 1));
+    CHECK(uri_is_refused(filled(buffer, "", ' ', "", LONGEST), 6));
+    CHECK(uri_is_refused(filled(buffer, "", ' ', "", LONGEST + 1), 1));
+}
+
+struct estimate {
+    uint8_t number;
+    size_t value;
+};
+
+static struct estimate uri_estimate(const char *text)
+{
+    struct run t = lend(text);
+    struct estimate e = {KEPT, KEPT};
+    e.number = sip_dialog_uri_estimate(t.bytes, t.length, &e.value);
+    take_back(t);
+    return e;
+}
+
+static bool estimate_is(const char *text, size_t value)
+{
+    struct estimate e = uri_estimate(text);
+    return e.number == 0 && e.value == value;
+}
+
+static bool estimate_is_refused(const char *text, uint8_t number)
+{
+    struct estimate e = uri_estimate(text);
+    return e.number == number && e.value == KEPT;
+}
+
+static void test_uri_estimate(void)
+{
+    char buffer[LONGEST + 2];
+    CHECK(estimate_is("sip:h", 11));
+    CHECK(estimate_is("sips:us@h", 13));
+    CHECK(estimate_is("sip:us@h:1", 19));
+    CHECK(estimate_is("sip:[::1];x=y?z", 15));
+    CHECK(estimate_is(filled(buffer, "sip:", 'h', "", 4 + 502), 512));
+    CHECK(estimate_is_refused(filled(buffer, "sip:", 'h', "", 4 + 503), 7));
+    CHECK(estimate_is(filled(buffer, "sip:", 'u', "@h:5060", 4 + 495 + 7), 512));
+    CHECK(estimate_is_refused(filled(buffer, "sip:", 'u', "@h:5060", 4 + 496 + 7), 7));
+    CHECK(estimate_is_refused(filled(buffer, "sip:", 'u', "@h", LONGEST), 7));
+    CHECK(estimate_is(filled(buffer, "sip:h;", 'p', "", LONGEST), 11));
+    CHECK(estimate_is_refused(filled(buffer, "sip:h;", 'p', "", LONGEST + 1), 1));
+    CHECK(estimate_is_refused("sip:", 6));
+    CHECK(estimate_is_refused(NULL, 6));
+}
+
+static struct lookup parse_uri_from_header(const char *value)
+{
+    struct run v = lend(value);
+    struct lookup l = fresh_lookup;
+    l.number = sip_dialog_parse_uri_from_header(v.bytes, v.length, l.found, &l.place, &l.length);
+    take_back(v);
+    return l;
+}
+
+static void test_parse_uri_from_header(void)
+{
+    char buffer[LONGEST + 2];
+    CHECK(is_at(parse_uri_from_header("\"A\" <sip:a@h;lr>;tag=1"), 5, 10));
+    CHECK(is_at(parse_uri_from_header(" sip:a@h ;tag=1"), 1, 7));
+    CHECK(is_at(parse_uri_from_header("< sip:p@h\t>"), 2, 7));
+    CHECK(is_at(parse_uri_from_header("\t <  sip:p@h \t > "), 5, 7));
+    CHECK(is_at(parse_uri_from_header(" \tsip:a@h\t "), 2, 7));
+    CHECK(is_at(parse_uri_from_header("a;b<SIPS:h>>"), 4, 6));
+    CHECK(is_nothing(parse_uri_from_header("<sip:a@h")));
+    CHECK(is_nothing(parse_uri_from_header("<>")));
+    CHECK(is_nothing(parse_uri_from_header("<")));
+    CHECK(is_nothing(parse_uri_from_header("< \t>")));
+    CHECK(is_nothing(parse_uri_from_header(" \t")));
+    CHECK(is_nothing(parse_uri_from_header("; sip:h")));
+    CHECK(is_nothing(parse_uri_from_header(" \t;sip:h")));
+    CHECK(is_nothing(parse_uri_from_header("\"a<b\" <sip:p@h>")));
+    CHECK(is_nothing(parse_uri_from_header("tel:1")));
+    CHECK(is_nothing(parse_uri_from_header("")));
+    CHECK(is_nothing(parse_uri_from_header(NULL)));
+    CHECK(is_refused(parse_uri_from_header("sip:a@h\r\n"), 2));
+    CHECK(is_refused(parse_uri_from_header("sip:a@h\x7f"), 2));
+    CHECK(is_at(parse_uri_from_header(filled(buffer, "sip:h;", '\t', "", LONGEST)), 0, 5));
+    CHECK(is_refused(parse_uri_from_header(filled(buffer, "sip:h;", '\t', "", LONGEST + 1)), 1));
+    CHECK(is_refused(parse_uri_from_header(filled(buffer, "", '\n', "", LONGEST + 1)), 1));
+}
+
+/* ---- Identifiers */
+
+/* As a look-up: no `found` is lent, so it is made 1 where the call was accepted. */
+static struct lookup extract_tag(const char *value)
+{
+    struct run v = lend(value);
+    struct lookup l = fresh_lookup;
+    l.number = sip_dialog_extract_tag(v.bytes, v.length, &l.place, &l.length);
+    l.found[0] = l.number == 0 ? 1 : KEPT;
+    take_back(v);
+    return l;
+}
+
+static void test_extract_tag(void)
+{
+    const char *quoted = "\"a;tag=x\" <sip:r@h>;tag=y";
+    char buffer[LONGEST + 2];
+    CHECK(is_part(extract_tag(quoted), quoted, "x\" <sip:r@h>"));
+    CHECK(is_at(extract_tag("<sip:a@h>;x;\t TaG=12\t;tag=3"), 18, 2));
+    CHECK(is_at(extract_tag("tag=x"), 4, 1));
+    CHECK(is_at(extract_tag("a;tag="), 6, 0));
+    CHECK(is_at(extract_tag("a;tag= x "), 6, 2));
+    CHECK(is_refused(extract_tag("a;tag =x"), 4));
+    CHECK(is_refused(extract_tag("a;xtag=x;tag"), 4));
+    CHECK(is_refused(extract_tag(""), 4));
+    CHECK(is_refused(extract_tag(NULL), 4));
+    CHECK(is_refused(extract_tag("tag=x\r"), 2));
+    CHECK(is_at(extract_tag(filled(buffer, "tag=", 'x', "", LONGEST)), 4, LONGEST - 4));
+    CHECK(is_refused(extract_tag(filled(buffer, "tag=", 'x', "", LONGEST + 1)), 1));
+    CHECK(is_refused(extract_tag(filled(buffer, "", '\r', "", LONGEST + 1)), 1));
+}
+
+static uint8_t dialog_id_new(const char *call_id, const char *local_tag, const char *remote_tag)
+{
+    struct run c = lend(call_id);
+    struct run l = lend(local_tag);
+    struct run r = lend(remote_tag);
+    uint8_t number = sip_dialog_dialog_id_new(c.bytes, c.length, l.bytes, l.length, r.bytes, r.length);
+    take_back(c);
+    take_back(l);
+    take_back(r);
+    return number;
+}
+
+static void test_dialog_id_new(void)
+{
+    char buffer[LONGEST + 2];
+    CHECK(dialog_id_new("c", "l", "r") == 0);
+    CHECK(dialog_id_new(NULL, "l", "r") == 25);
+    CHECK(dialog_id_new("", "l", "r") == 25);
+    CHECK(dialog_id_new("c", NULL, "r") == 25);
+    CHECK(dialog_id_new("c", "l", NULL) == 25);
+    CHECK(dialog_id_new("c", "l", "r\t") == 27);
+    CHECK(dialog_id_new("c", "\x80", NULL) == 27);
+    CHECK(dialog_id_new("\x7f", NULL, NULL) == 27);
+    CHECK(dialog_id_new(filled(buffer, "", 'c', "", 256), "l", "r") == 0);
+    CHECK(dialog_id_new(filled(buffer, "", 'c', "", 257), "l", "r") == 26);
+    CHECK(dialog_id_new(filled(buffer, "", '\n', "", 257), NULL, "r") == 26);
+    CHECK(dialog_id_new("c", filled(buffer, "", 'l', "", 128), "r") == 0);
+    CHECK(dialog_id_new("c", filled(buffer, "", 'l', "", 129), NULL) == 26);
+    CHECK(dialog_id_new("c", "l", filled(buffer, "", 'r', "", 128)) == 0);
+    CHECK(dialog_id_new("c", "l", filled(buffer, "", 'r', "", 129)) == 26);
+    CHECK(dialog_id_new(filled(buffer, "", 'c', "", LONGEST), "l", "r") == 26);
+    CHECK(dialog_id_new(filled(buffer, "", 'c', "", LONGEST + 1), "l", "r") == 1);
+    CHECK(dialog_id_new(NULL, buffer, "r") == 1);
+    CHECK(dialog_id_new(NULL, "l", buffer) == 1);
+}
+
+/* Every byte in each part. */
+static void test_bytes_of_identifiers(void)
+{
+    const uint8_t plain = 'x';
+    const uint8_t other = 'y';
+    unsigned byte;
+    for (byte = 0; byte < 256; byte++) {
+        const uint8_t part[2] = {'a', (uint8_t)byte};
+        uint8_t number = byte < 32 || byte > 126 ? 27 : 0;
+        CHECK(sip_dialog_dialog_id_new(part, 2, &plain, 1, &other, 1) == number);
+        CHECK(sip_dialog_dialog_id_new(&plain, 1, part, 2, &other, 1) == number);
+        CHECK(sip_dialog_dialog_id_new(&plain, 1, &other, 1, part, 2) == number);
+    }
+}
+
+struct identifier {
+    uint8_t number;
+    size_t call_id;
+    size_t call_id_length;
+    size_t local_tag;
+    size_t local_tag_length;
+    size_t remote_tag;
+    size_t remote_tag_length;
+};
+
+typedef uint8_t identifier_function(const uint8_t *, size_t, size_t *, size_t *, size_t *, size_t *, size_t *, size_t *);
+
+static struct identifier identifier_of(identifier_function *read, const char *block)
+{
+    struct run b = lend(block);
+    struct identifier i = {KEPT, KEPT, KEPT, KEPT, KEPT, KEPT, KEPT};
+    i.number = read(b.bytes, b.length, &i.call_id, &i.call_id_length, &i.local_tag, &i.local_tag_length, &i.remote_tag,
+                    &i.remote_tag_length);
+    take_back(b);
+    return i;
+}
+
+static bool id_is(identifier_function *read, const char *block, const char *call_id, const char *local, const char *remote)
+{
+    struct identifier i = identifier_of(read, block);
+    bool call_is = i.call_id == place_of(block, call_id) && i.call_id_length == strlen(call_id);
+    bool local_is = i.local_tag == place_of(block, local) && i.local_tag_length == strlen(local);
+    bool remote_is = i.remote_tag == place_of(block, remote) && i.remote_tag_length == strlen(remote);
+    return i.number == 0 && call_is && local_is && remote_is;
+}
+
+static bool id_is_refused(identifier_function *read, const char *block, uint8_t number)
+{
+    struct identifier i = identifier_of(read, block);
+    bool call_kept = i.call_id == KEPT && i.call_id_length == KEPT;
+    bool local_kept = i.local_tag == KEPT && i.local_tag_length == KEPT;
+    return i.number == number && call_kept && local_kept && i.remote_tag == KEPT && i.remote_tag_length == KEPT;
+}
+
+/* What the three readings have in common; `local` and `remote` are the tags that they name so. */
+static void test_identifier(identifier_function *read, const char *local, const char *remote)
+{
+    const char *parts = "To:<sip:b@h>;tag=two\r\nfrom:<sip:a@h>;tag=one\r\nCALL-ID: id@x \r\n";
+    const char *empty = "From:;tag=\r\nTo:;tag=\r\nCall-ID:\r\n";
+    char buffer[LONGEST + 2];
+    struct identifier i = identifier_of(read, empty);
+    CHECK(i.number == 0 && i.call_id == 30 && i.call_id_length == 0);
+    CHECK(i.local_tag_length == 0 && i.remote_tag_length == 0 && i.local_tag + i.remote_tag == 10 + 20);
+    CHECK(id_is(read, parts, "id@x", local, remote));
+    CHECK(id_is(read, long_block(buffer, parts, LONGEST), "id@x", local, remote));
+    CHECK(id_is_refused(read, long_block(buffer, parts, LONGEST + 1), 1));
+    CHECK(id_is_refused(read, "From:;tag=one\r\nTo:;tag=two\r\n", 4));
+    CHECK(id_is_refused(read, "From:a\r\nTo:;tag=two\r\nCall-ID:c\r\n", 4));
+    CHECK(id_is_refused(read, "From:;tag=one\r\nTo:b\r\nCall-ID:c\r\n", 4));
+    CHECK(id_is_refused(read, "From:;tag=one\r\nCall-ID:c\r\n", 4));
+    CHECK(id_is_refused(read, "f:;tag=one\r\nt:;tag=two\r\ni:c\r\n", 4));
+    CHECK(id_is_refused(read, "", 4));
+    CHECK(id_is_refused(read, NULL, 4));
+    CHECK(id_is_refused(read, "From:;tag=one\r\nTo:;tag=two\r\nCall-ID:c", 2));
+}
+
+static void test_identifiers(void)
+{
+    test_identifier(sip_dialog_from_request, "one", "two");
+    test_identifier(sip_dialog_from_response_uac, "one", "two");
+    test_identifier(sip_dialog_from_response_uas, "two", "one");
+}
+
+/* ---- Header values and routes */
+
+static struct lookup next_header_value(const char *value, size_t from)
+{
+    struct run v = lend(value);
+    struct lookup l = fresh_lookup;
+    l.number = sip_dialog_next_header_value(v.bytes, v.length, from, l.found, &l.place, &l.length, &l.next);
+    take_back(v);
+    return l;
+}
+
+/* Whether the parts of a value are these, up to NULL, and nothing after them. */
+static bool values_are(const char *value, const char *const *parts)
+{
+    size_t from = 0;
+    for (; *parts != NULL; parts++) {
+        struct lookup l = next_header_value(value, from);
+        if (!is_part(l, value, *parts) || l.next <= l.place) {
+            return false;
+        }
+        from = l.next;
+    }
+    return is_nothing(next_header_value(value, from));
+}
+
+static void test_next_header_value(void)
+{
+    static const char *const three[] = {"a", "\"b,c\"", "<d,e>;f", NULL};
+    static const char *const quoted[] = {"\"a<b\" <sip:p@h>, <sip:q@h>", NULL};
+    static const char *const closed[] = {"x>", "y", NULL};
+    char buffer[LONGEST + 2];
+    struct lookup l = next_header_value("a, b", 0);
+    CHECK(is_at(l, 0, 1) && l.next == 2);
+    l = next_header_value("a, b", 2);
+    CHECK(is_at(l, 3, 1) && l.next == 5);
+    CHECK(is_nothing(next_header_value("a, b", 5)));
+    CHECK(is_nothing(next_header_value("a, b", SIZE_MAX)));
+    CHECK(values_are(", a ,\t,\"b,c\",<d,e>;f, ", three));
+    CHECK(values_are(quoted[0], quoted));
+    CHECK(values_are("x>,y", closed));
+    CHECK(is_nothing(next_header_value(" ,\t, ", 0)));
+    CHECK(is_nothing(next_header_value("", 0)));
+    CHECK(is_nothing(next_header_value(NULL, 0)));
+    CHECK(is_refused(next_header_value("a,\n", 0), 2));
+    CHECK(is_refused(next_header_value("a,\n", SIZE_MAX), 2));
+    l = next_header_value(filled(buffer, "", ',', "z", LONGEST), 0);
+    CHECK(is_at(l, LONGEST - 1, 1) && l.next == LONGEST + 1);
+    CHECK(is_refused(next_header_value(filled(buffer, "", ',', "z", LONGEST + 1), 0), 1));
+    CHECK(is_refused(next_header_value(filled(buffer, "", '\n', "", LONGEST + 1), 0), 1));
+}
+
+static struct lookup contact(const char *block)
+{
+    struct run b = lend(block);
+    struct lookup l = fresh_lookup;
+    l.number = sip_dialog_contact(b.bytes, b.length, l.found, &l.place, &l.length);
+    take_back(b);
+    return l;
+}
+
+static void test_contact(void)
+{
+    const char *block = "To:<sip:t@h>\r\ncontact: \"P\" < sip:p@h >;x\r\nContact:<sip:q@h>\r\n";
+    char buffer[LONGEST + 2];
+    CHECK(is_part(contact(block), block, "sip:p@h"));
+    CHECK(is_at(contact("Contact:sip:p@h;x\r\n"), 8, 7));
+    CHECK(is_nothing(contact("Contact:*\r\nContact:<sip:q@h>\r\n")));
+    CHECK(is_nothing(contact("Contact:\r\n")));
+    CHECK(is_nothing(contact("Contact: \t\r\n")));
+    CHECK(is_nothing(contact("To:<sip:t@h>\r\n")));
+    CHECK(is_nothing(contact("")));
+    CHECK(is_nothing(contact(NULL)));
+    CHECK(is_refused(contact("Contact:<sip:p@h>"), 2));
+    CHECK(is_part(contact(long_block(buffer, block, LONGEST)), block, "sip:p@h"));
+    CHECK(is_refused(contact(long_block(buffer, block, LONGEST + 1)), 1));
+}
+
+struct count {
+    uint8_t number;
+    size_t value;
+};
+
+static struct count route_count(const char *block)
+{
+    struct run b = lend(block);
+    struct count c = {KEPT, KEPT};
+    c.number = sip_dialog_route_count(b.bytes, b.length, &c.value);
+    take_back(b);
+    return c;
+}
+
+static struct lookup route(const char *block, bool reversed, size_t index)
+{
+    struct run b = lend(block);
+    struct lookup l = fresh_lookup;
+    l.number = sip_dialog_route(b.bytes, b.length, reversed, index, l.found, &l.place, &l.length);
+    take_back(b);
+    return l;
+}
+
+static bool count_is(const char *block, size_t count)
+{
+    struct count c = route_count(block);
+    return c.number == 0 && c.value == count && is_nothing(route(block, false, count));
+}
+
+static bool routes_are_refused(const char *block, uint8_t number)
+{
+    struct count c = route_count(block);
+    bool count_kept = c.number == number && c.value == KEPT;
+    return count_kept && is_refused(route(block, false, 0), number) && is_refused(route(block, true, SIZE_MAX), number);
+}
+
+/* A block of `count` lines with a route each, then these lines. */
+static const char *routes(char *buffer, size_t count, const char *lines)
+{
+    size_t i;
+    buffer[0] = '\0';
+    for (i = 0; i < count; i++) {
+        strcat(buffer, "Record-Route:<sip:h>\r\n");
+    }
+    return strcat(buffer, lines);
+}
+
+static void test_route_count(void)
+{
+    char buffer[LONGEST + 2];
+    CHECK(count_is(NULL, 0));
+    CHECK(count_is("", 0));
+    CHECK(count_is("Route:<sip:h>\r\n", 0));
+    CHECK(count_is("Record-Route:\"a<b\" <sip:p@h>, <sip:q@h>\r\n", 0));
+    CHECK(count_is("Record-Route: \t<sip:p> \t, \t,sip:q \t\r\n", 2));
+    CHECK(count_is("Record-Route:<sip:p>, <x>,, sip:q;lr\r\nTo:t\r\nRECORD-route:<sips:r>\r\n", 3));
+    CHECK(count_is(routes(buffer, ROUTES, ""), ROUTES));
+    CHECK(count_is(routes(buffer, ROUTES, "Record-Route:, ,\r\nTo:<sip:h>\r\n"), ROUTES));
+    CHECK(count_is(routes(buffer, ROUTES - 1, "Record-Route:x,y,<sip:h>\r\n"), ROUTES));
+    CHECK(count_is(long_block(buffer, "Record-Route:<sip:h>\r\n", LONGEST), 1));
+    CHECK(routes_are_refused(routes(buffer, ROUTES + 1, ""), 8));
+    CHECK(routes_are_refused(routes(buffer, ROUTES, "Record-Route:x\r\n"), 8));
+    CHECK(routes_are_refused(routes(buffer, ROUTES - 1, "Record-Route:<sip:h>,x\r\n"), 8));
+    CHECK(routes_are_refused(long_block(buffer, "Record-Route:<sip:h>\r\n", LONGEST + 1), 1));
+    CHECK(routes_are_refused("Record-Route:<sip:h>", 2));
+    CHECK(routes_are_refused(routes(buffer, ROUTES + 1, "x"), 2));
+}
+
+/* A route whose estimate is 512, and one more; met before 50 routes are held, and then. */
+static void test_long_routes(void)
+{
+    char line[1024];
+    char buffer[LONGEST + 2];
+    filled(line, "Record-Route:<sip:", 'h', ">\r\n", 18 + 502 + 3);
+    CHECK(count_is(line, 1));
+    CHECK(count_is(routes(buffer, ROUTES - 1, line), ROUTES));
+    CHECK(routes_are_refused(routes(buffer, ROUTES, line), 8));
+    filled(line, "Record-Route:<sip:", 'h', ">\r\n", 18 + 503 + 3);
+    CHECK(routes_are_refused(line, 7));
+    CHECK(routes_are_refused(routes(buffer, ROUTES - 1, line), 7));
+    CHECK(routes_are_refused(routes(buffer, ROUTES, line), 8));
+    strcat(line, "Record-Route:x\r\n");
+    CHECK(routes_are_refused(routes(buffer, 1, line), 7));
+}
+
+static void test_route(void)
+{
+    const char *block = "Record-Route:<sip:p>, <x>\r\nTo:t\r\nRecord-Route: sip:q;lr,\"R\" < sip:r;lr >\r\n";
+    char buffer[LONGEST + 2];
+    CHECK(is_part(route(block, false, 0), block, "sip:p"));
+    CHECK(is_part(route(block, false, 1), block, "sip:q"));
+    CHECK(is_part(route(block, false, 2), block, "sip:r;lr"));
+    CHECK(is_nothing(route(block, false, 3)));
+    CHECK(is_part(route(block, true, 0), block, "sip:r;lr"));
+    CHECK(is_part(route(block, true, 1), block, "sip:q"));
+    CHECK(is_part(route(block, true, 2), block, "sip:p"));
+    CHECK(is_nothing(route(block, true, 3)));
+    CHECK(is_nothing(route(block, true, SIZE_MAX)));
+    CHECK(is_nothing(route(NULL, true, 0)));
+    routes(buffer, ROUTES, "");
+    CHECK(is_at(route(buffer, false, ROUTES - 1), (ROUTES - 1) * 22 + 14, 5));
+    CHECK(is_at(route(buffer, true, ROUTES - 1), 14, 5));
+    CHECK(is_nothing(route(buffer, true, ROUTES)));
+}
+
+struct expires {
+    uint8_t number;
+    uint8_t found[2];
+    uint32_t seconds[2];
+    uint8_t refresher[2];
+};
+
+typedef uint8_t expires_function(const uint8_t *, size_t, uint8_t *, uint32_t *, uint8_t *);
+
+static struct expires expires_of(expires_function *read, const char *text)
+{
+    struct run t = lend(text);
+    struct expires e = {KEPT, {KEPT, KEPT}, {KEPT, KEPT}, {KEPT, KEPT}};
+    e.number = read(t.bytes, t.length, e.found, e.seconds, e.refresher);
+    take_back(t);
+    CHECK(e.found[1] == KEPT && e.seconds[1] == KEPT && e.refresher[1] == KEPT);
+    return e;
+}
+
+static bool expires_is(struct expires e, uint32_t seconds, uint8_t refresher)
+{
+    return e.number == 0 && e.found[0] == 1 && e.seconds[0] == seconds && e.refresher[0] == refresher;
+}
+
+static bool no_expires(struct expires e)
+{
+    return e.number == 0 && e.found[0] == 0 && e.seconds[0] == KEPT && e.refresher[0] == KEPT;
+}
+
+static bool expires_is_refused(struct expires e, uint8_t number)
+{
+    return e.number == number && e.found[0] == KEPT && e.seconds[0] == KEPT && e.refresher[0] == KEPT;
+}
+
+static void test_parse_session_expires(void)
+{
+    expires_function *read = sip_dialog_parse_session_expires;
+    char buffer[LONGEST + 2];
+    CHECK(expires_is(expires_of(read, "1800;refresher=uas"), 1800, 2));
+    CHECK(expires_is(expires_of(read, " 90\t;x; Refresher=UAC ;refresher=uas"), 90, 1));
+    CHECK(expires_is(expires_of(read, "90"), 90, 0));
+    CHECK(expires_is(expires_of(read, "90;"), 90, 0));
+    CHECK(expires_is(expires_of(read, "90; \t"), 90, 0));
+    CHECK(expires_is(expires_of(read, "90;; \t;refresher=uac"), 90, 1));
+    CHECK(expires_is(expires_of(read, "90;refresher= uac;refresher=uacs;refresher"), 90, 0));
+    CHECK(expires_is(expires_of(read, "90;refresher=x;refresher=uas"), 90, 2));
+    CHECK(expires_is(expires_of(read, "0"), 0, 0));
+    CHECK(expires_is(expires_of(read, "86401"), 86401, 0));
+    CHECK(expires_is(expires_of(read, "004294967295"), UINT32_MAX, 0));
+    CHECK(no_expires(expires_of(read, "4294967296")));
+    CHECK(no_expires(expires_of(read, "18446744073709551706")));
+    CHECK(no_expires(expires_of(read, "+90")));
+    CHECK(no_expires(expires_of(read, "9 0")));
+    CHECK(no_expires(expires_of(read, "9/")));
+    CHECK(no_expires(expires_of(read, "9:")));
+    CHECK(no_expires(expires_of(read, ";refresher=uac")));
+    CHECK(no_expires(expires_of(read, " \t")));
+    CHECK(no_expires(expires_of(read, " ;refresher=uac")));
+    CHECK(no_expires(expires_of(read, "")));
+    CHECK(no_expires(expires_of(read, NULL)));
+    CHECK(expires_is_refused(expires_of(read, "90\r\n"), 2));
+    CHECK(expires_is(expires_of(read, filled(buffer, "", '0', "90", LONGEST)), 90, 0));
+    CHECK(expires_is_refused(expires_of(read, filled(buffer, "", '0', "90", LONGEST + 1)), 1));
+    CHECK(expires_is_refused(expires_of(read, filled(buffer, "", '\r', "", LONGEST + 1)), 1));
+}
+
+static void test_session_expires(void)
+{
+    expires_function *read = sip_dialog_session_expires;
+    char buffer[LONGEST + 2];
+    CHECK(expires_is(expires_of(read, "To:t\r\nsession-expires: 90;refresher=uas\r\nSession-Expires:91\r\n"), 90, 2));
+    CHECK(expires_is(expires_of(read, "Session-Expires:7;REFRESHER=uac\r\n"), 7, 1));
+    CHECK(expires_is(expires_of(read, "Session-Expires:7\r\n"), 7, 0));
+    CHECK(no_expires(expires_of(read, "Session-Expires:x\r\nSession-Expires:91\r\n")));
+    CHECK(no_expires(expires_of(read, "Session-Expires:\r\n")));
+    CHECK(no_expires(expires_of(read, "x:90\r\n")));
+    CHECK(no_expires(expires_of(read, "")));
+    CHECK(no_expires(expires_of(read, NULL)));
+    CHECK(expires_is_refused(expires_of(read, "Session-Expires:90"), 2));
+    CHECK(expires_is(expires_of(read, long_block(buffer, "Session-Expires:90\r\n", LONGEST)), 90, 0));
+    CHECK(expires_is_refused(expires_of(read, long_block(buffer, "Session-Expires:90\r\n", LONGEST + 1)), 1));
+}
+
+/* ---- CSeq, RSeq, RAck and methods */
+
+struct number {
+    uint8_t number;
+    uint32_t value[2];
+};
+
+typedef uint8_t number_function(const uint8_t *, size_t, uint32_t *);
+
+static struct number number_of(number_function *read, const char *block)
+{
+    struct run b = lend(block);
+    struct number n = {KEPT, {KEPT, KEPT}};
+    n.number = read(b.bytes, b.length, n.value);
+    take_back(b);
+    CHECK(n.value[1] == KEPT);
+    return n;
+}
+
+static bool number_is(number_function *read, const char *block, uint32_t value)
+{
+    struct number n = number_of(read, block);
+    return n.number == 0 && n.value[0] == value;
+}
+
+static bool number_is_refused(number_function *read, const char *block, uint8_t number)
+{
+    struct number n = number_of(read, block);
+    return n.number == number && n.value[0] == KEPT;
+}
+
+static void test_cseq_number(void)
+{
+    number_function *read = sip_dialog_cseq_number;
+    char buffer[LONGEST + 2];
+    CHECK(number_is(read, "CSeq:+5 INVITE\r\n", 5));
+    CHECK(number_is_refused(read, "CSeq:-0 INVITE\r\n", 4));
+    CHECK(number_is(read, "To:t\r\ncseq: \t007\tx\r\nCSeq:8 BYE\r\n", 7));
+    CHECK(number_is(read, "CSeq:0\r\n", 0));
+    CHECK(number_is(read, "CSeq:4294967295 ACK\r\n", UINT32_MAX));
+    CHECK(number_is_refused(read, "CSeq:4294967296 ACK\r\n", 4));
+    CHECK(number_is_refused(read, "CSeq:18446744073709551617 ACK\r\n", 4));
+    CHECK(number_is_refused(read, "CSeq:++5 ACK\r\n", 4));
+    CHECK(number_is_refused(read, "CSeq:+ 5 ACK\r\n", 4));
+    CHECK(number_is_refused(read, "CSeq:5x ACK\r\n", 4));
+    CHECK(number_is_refused(read, "CSeq:\r\nCSeq:5 ACK\r\n", 4));
+    CHECK(number_is_refused(read, "RSeq:5\r\n", 4));
+    CHECK(number_is_refused(read, "", 4));
+    CHECK(number_is_refused(read, NULL, 4));
+    CHECK(number_is_refused(read, "CSeq:5 ACK", 2));
+    CHECK(number_is(read, long_block(buffer, "CSeq:5 ACK\r\n", LONGEST), 5));
+    CHECK(number_is_refused(read, long_block(buffer, "CSeq:5 ACK\r\n", LONGEST + 1), 1));
+}
+
+static void test_rseq(void)
+{
+    number_function *read = sip_dialog_rseq;
+    char buffer[LONGEST + 2];
+    CHECK(number_is(read, "RSEQ: +7\t\r\nRSeq:8\r\n", 7));
+    CHECK(number_is(read, "RSeq:0\r\n", 0));
+    CHECK(number_is(read, "RSeq:4294967295\r\n", UINT32_MAX));
+    CHECK(number_is_refused(read, "RSeq:4294967296\r\n", 4));
+    CHECK(number_is_refused(read, "RSeq:7 8\r\n", 4));
+    CHECK(number_is_refused(read, "RSeq:\r\n", 4));
+    CHECK(number_is_refused(read, "CSeq:7 ACK\r\n", 4));
+    CHECK(number_is_refused(read, "", 4));
+    CHECK(number_is_refused(read, NULL, 4));
+    CHECK(number_is_refused(read, "RSeq:7\r\n\n", 2));
+    CHECK(number_is(read, long_block(buffer, "RSeq:7\r\n", LONGEST), 7));
+    CHECK(number_is_refused(read, long_block(buffer, "RSeq:7\r\n", LONGEST + 1), 1));
+}
+
+struct flagged {
+    uint8_t number;
+    uint8_t value[2];
+};
+
+static struct flagged cseq_method(const char *block)
+{
+    struct run b = lend(block);
+    struct flagged m = {KEPT, {KEPT, KEPT}};
+    m.number = sip_dialog_cseq_method(b.bytes, b.length, m.value);
+    take_back(b);
+    return m;
+}
+
+/* Accepted with a byte, or refused with the byte kept. */
+static bool byte_is(struct flagged f, uint8_t value)
+{
+    return f.number == 0 && f.value[0] == value && f.value[1] == KEPT;
+}
+
+static bool byte_is_refused(struct flagged f, uint8_t number)
+{
+    return f.number == number && f.value[0] == KEPT && f.value[1] == KEPT;
+}
+
+static void test_cseq_method(void)
+{
+    char buffer[LONGEST + 2];
+    CHECK(byte_is(cseq_method("CSeq:1 INVITE\r\nCSeq:1 BYE\r\n"), SIP_DIALOG_METHOD_INVITE));
+    CHECK(byte_is(cseq_method("cseq: 1 \t publish \r\n"), SIP_DIALOG_METHOD_PUBLISH));
+    CHECK(byte_is(cseq_method("CSeq:bad ACK more\r\n"), SIP_DIALOG_METHOD_ACK));
+    CHECK(byte_is_refused(cseq_method("CSeq:1 INVITED\r\n"), 4));
+    CHECK(byte_is(cseq_method("CSeq:1\tPRACK\tx\r\n"), SIP_DIALOG_METHOD_PRACK));
+    CHECK(byte_is_refused(cseq_method("CSeq:INVITE\r\n"), 4));
+    CHECK(byte_is_refused(cseq_method("CSeq:\r\n"), 4));
+    CHECK(byte_is_refused(cseq_method("To:t\r\n"), 4));
+    CHECK(byte_is_refused(cseq_method(""), 4));
+    CHECK(byte_is_refused(cseq_method(NULL), 4));
+    CHECK(byte_is_refused(cseq_method("CSeq:1 INVITE\n"), 2));
+    CHECK(byte_is(cseq_method(long_block(buffer, "CSeq:1 BYE\r\n", LONGEST)), SIP_DIALOG_METHOD_BYE));
+    CHECK(byte_is_refused(cseq_method(long_block(buffer, "CSeq:1 BYE\r\n", LONGEST + 1)), 1));
+}
+
+static struct flagged is_reliable_provisional(uint16_t status, const char *block)
+{
+    struct run b = lend(block);
+    struct flagged f = {KEPT, {KEPT, KEPT}};
+    f.number = sip_dialog_is_reliable_provisional(status, b.bytes, b.length, f.value);
+    take_back(b);
+    return f;
+}
+
+static void test_is_reliable_provisional(void)
+{
+    const char *block = "To:t\r\nrseq:1\r\n";
+    char buffer[LONGEST + 2];
+    CHECK(byte_is(is_reliable_provisional(0, block), 0));
+    CHECK(byte_is(is_reliable_provisional(100, block), 0));
+    CHECK(byte_is(is_reliable_provisional(101, block), 1));
+    CHECK(byte_is(is_reliable_provisional(199, block), 1));
+    CHECK(byte_is(is_reliable_provisional(200, block), 0));
+    CHECK(byte_is(is_reliable_provisional(UINT16_MAX, block), 0));
+    CHECK(byte_is(is_reliable_provisional(183, "RSeq:\r\n"), 1));
+    CHECK(byte_is(is_reliable_provisional(183, "CSeq:1 INVITE\r\n"), 0));
+    CHECK(byte_is(is_reliable_provisional(183, ""), 0));
+    CHECK(byte_is(is_reliable_provisional(183, NULL), 0));
+    CHECK(byte_is_refused(is_reliable_provisional(183, "RSeq:1"), 2));
+    CHECK(byte_is_refused(is_reliable_provisional(200, "RSeq:1"), 2));
+    CHECK(byte_is(is_reliable_provisional(183, long_block(buffer, block, LONGEST)), 1));
+    CHECK(byte_is_refused(is_reliable_provisional(183, long_block(buffer, block, LONGEST + 1)), 1));
+    CHECK(byte_is_refused(is_reliable_provisional(200, buffer), 1));
+}
+
+static const char *const method_texts[] = {
+    "INVITE", "ACK", "BYE", "CANCEL", "REGISTER", "OPTIONS", "INFO", "UPDATE", "MESSAGE", "PRACK", "REFER", "SUBSCRIBE",
+    "NOTIFY", "PUBLISH",
+};
+
+struct method {
+    uint8_t number;
+    uint8_t found[2];
+    uint8_t method[2];
+};
+
+static struct method method_number(const char *text)
+{
+    struct run t = lend(text);
+    struct method m = {KEPT, {KEPT, KEPT}, {KEPT, KEPT}};
+    m.number = sip_dialog_method_number(t.bytes, t.length, m.found, m.method);
+    take_back(t);
+    CHECK(m.found[1] == KEPT && m.method[1] == KEPT);
+    return m;
+}
+
+static bool method_is(const char *text, uint8_t method)
+{
+    struct method m = method_number(text);
+    return m.number == 0 && m.found[0] == 1 && m.method[0] == method;
+}
+
+static bool no_method(const char *text)
+{
+    struct method m = method_number(text);
+    return m.number == 0 && m.found[0] == 0 && m.method[0] == KEPT;
+}
+
+static void test_method_number(void)
+{
+    char buffer[LONGEST + 2];
+    struct method m;
+    uint8_t method;
+    for (method = SIP_DIALOG_METHOD_INVITE; method <= SIP_DIALOG_METHOD_PUBLISH; method++) {
+        CHECK(method_is(method_texts[method - 1], method));
+    }
+    CHECK(method_is("invite", SIP_DIALOG_METHOD_INVITE));
+    CHECK(method_is("Subscribe", SIP_DIALOG_METHOD_SUBSCRIBE));
+    CHECK(no_method("INVIT"));
+    CHECK(no_method("INVITE "));
+    CHECK(no_method("\x41\x03\x4b"));
+    CHECK(no_method("@CK"));
+    CHECK(no_method(""));
+    CHECK(no_method(NULL));
+    CHECK(no_method(filled(buffer, "ACK", 'K', "", LONGEST)));
+    m = method_number(filled(buffer, "ACK", 'K', "", LONGEST + 1));
+    CHECK(m.number == 1 && m.found[0] == KEPT && m.method[0] == KEPT);
+}
+
+/* Lent output: `room` bytes of KEPT, and what a call left there. */
+struct written {
+    uint8_t number;
+    size_t length;
+    size_t room;
+    uint8_t *out;
+};
+
+/* No room is lent as a null pointer. */
+static struct written fresh_output(size_t room)
+{
+    struct written w = {KEPT, KEPT, room, NULL};
+    if (room > 0) {
+        w.out = memory(room);
+        memset(w.out, KEPT, room);
+    }
+    return w;
+}
+
+static bool kept_from(struct written w, size_t place)
+{
+    for (; place < w.room; place++) {
+        if (w.out[place] != KEPT) {
+            return false;
+        }
+    }
+    return true;
+}
+
+/* Whether the text was written, and the bytes past it kept. */
+static bool wrote(struct written w, const char *text)
+{
+    size_t length = strlen(text);
+    bool fits = w.number == 0 && w.length == length && length <= w.room;
+    bool answer = fits && memcmp(w.out, text, length) == 0 && kept_from(w, length);
+    free(w.out);
+    return answer;
+}
+
+static bool wrote_nothing(struct written w, uint8_t number)
+{
+    bool answer = w.number == number && w.length == KEPT && kept_from(w, 0);
+    free(w.out);
+    return answer;
+}
+
+static struct written method_text(uint8_t method, size_t room)
+{
+    struct written w = fresh_output(room);
+    w.number = sip_dialog_method_text(method, w.out, room, &w.length);
+    return w;
+}
+
+static void test_method_text(void)
+{
+    uint8_t method;
+    for (method = SIP_DIALOG_METHOD_INVITE; method <= SIP_DIALOG_METHOD_PUBLISH; method++) {
+        const char *text = method_texts[method - 1];
+        CHECK(wrote(method_text(method, 32), text));
+        CHECK(wrote(method_text(method, strlen(text)), text));
+        CHECK(wrote_nothing(method_text(method, strlen(text) - 1), 18));
+        CHECK(wrote_nothing(method_text(method, 0), 18));
+    }
+    CHECK(wrote_nothing(method_text(0, 32), 28));
+    CHECK(wrote_nothing(method_text(15, 32), 28));
+    CHECK(wrote_nothing(method_text(UINT8_MAX, 32), 28));
+    CHECK(wrote_nothing(method_text(15, 0), 28));
+}
+
+struct rack {
+    uint8_t number;
+    uint32_t rseq[2];
+    uint32_t cseq[2];
+    uint8_t method[2];
+};
+
+static struct rack parse_rack(const char *value)
+{
+    struct run v = lend(value);
+    struct rack r = {KEPT, {KEPT, KEPT}, {KEPT, KEPT}, {KEPT, KEPT}};
+    r.number = sip_dialog_parse_rack(v.bytes, v.length, r.rseq, r.cseq, r.method);
+    take_back(v);
+    CHECK(r.rseq[1] == KEPT && r.cseq[1] == KEPT && r.method[1] == KEPT);
+    return r;
+}
+
+static bool rack_is(const char *value, uint32_t rseq, uint32_t cseq, uint8_t method)
+{
+    struct rack r = parse_rack(value);
+    return r.number == 0 && r.rseq[0] == rseq && r.cseq[0] == cseq && r.method[0] == method;
+}
+
+static bool rack_is_refused(const char *value, uint8_t number)
+{
+    struct rack r = parse_rack(value);
+    return r.number == number && r.rseq[0] == KEPT && r.cseq[0] == KEPT && r.method[0] == KEPT;
+}
+
+static void test_parse_rack(void)
+{
+    static const char *const unreadable[] = {
+        NULL, "", " \t", "1", "1 2", "1 2 INVITE x", "1 2 INVITE x ", "1 2 FOO", "x 2 ACK", "1 x ACK", "-1 2 ACK", "1 2ACK",
+        "4294967296 2 ACK", "1 4294967296 ACK",
+    };
+    char buffer[LONGEST + 2];
+    size_t i;
+    CHECK(rack_is("776656 1 INVITE", 776656, 1, SIP_DIALOG_METHOD_INVITE));
+    CHECK(rack_is("\t+0 \t 002  bye ", 0, 2, SIP_DIALOG_METHOD_BYE));
+    CHECK(rack_is("  1\t2\tprack\t ", 1, 2, SIP_DIALOG_METHOD_PRACK));
+    CHECK(rack_is("4294967295 +4294967295 SUBSCRIBE", UINT32_MAX, UINT32_MAX, SIP_DIALOG_METHOD_SUBSCRIBE));
+    for (i = 0; i < sizeof unreadable / sizeof unreadable[0]; i++) {
+        CHECK(rack_is_refused(unreadable[i], 19));
+    }
+    CHECK(rack_is_refused("1 2 ACK\r\n", 2));
+    CHECK(rack_is_refused("1\xa0", 2));
+    CHECK(rack_is(filled(buffer, "1 2", ' ', "ACK", LONGEST), 1, 2, SIP_DIALOG_METHOD_ACK));
+    CHECK(rack_is_refused(filled(buffer, "1 2", ' ', "ACK", LONGEST + 1), 1));
+    CHECK(rack_is_refused(filled(buffer, "", '\n', "", LONGEST + 1), 1));
+}
+
+static struct written format_rack(uint32_t rseq, uint32_t cseq, uint8_t method, size_t room)
+{
+    struct written w = fresh_output(room);
+    w.number = sip_dialog_format_rack(rseq, cseq, method, w.out, room, &w.length);
+    return w;
+}
+
+static void test_format_rack(void)
+{
+    const char *longest = "4294967295 4294967295 SUBSCRIBE";
+    CHECK(strlen(longest) == 31);
+    CHECK(wrote(format_rack(776656, 1, SIP_DIALOG_METHOD_INVITE, 64), "776656 1 INVITE"));
+    CHECK(wrote(format_rack(0, 10, SIP_DIALOG_METHOD_ACK, 8), "0 10 ACK"));
+    CHECK(wrote(format_rack(UINT32_MAX, UINT32_MAX, SIP_DIALOG_METHOD_SUBSCRIBE, 31), longest));
+    CHECK(wrote(format_rack(UINT32_MAX, UINT32_MAX, SIP_DIALOG_METHOD_SUBSCRIBE, 32), longest));
+    CHECK(wrote_nothing(format_rack(UINT32_MAX, UINT32_MAX, SIP_DIALOG_METHOD_SUBSCRIBE, 30), 18));
+    CHECK(wrote_nothing(format_rack(0, 0, SIP_DIALOG_METHOD_ACK, 6), 18));
+    CHECK(wrote_nothing(format_rack(0, 0, SIP_DIALOG_METHOD_ACK, 0), 18));
+    CHECK(wrote_nothing(format_rack(1, 2, 0, 64), 28));
+    CHECK(wrote_nothing(format_rack(1, 2, 15, 64), 28));
+    CHECK(wrote_nothing(format_rack(1, 2, 15, 0), 28));
+}
+
+/* ---- Session intervals */
+
+static bool interval_is_valid(uint64_t interval, bool has_minimum, uint64_t minimum)
+{
+    uint64_t least = KEPT;
+    return sip_dialog_validate_session_expires(interval, has_minimum, minimum, &least) == 0 && least == KEPT;
+}
+
+static bool interval_is_under(uint64_t interval, bool has_minimum, uint64_t minimum, uint64_t least_due)
+{
+    uint64_t least = KEPT;
+    uint8_t number = sip_dialog_validate_session_expires(interval, has_minimum, minimum, &least);
+    return number == 13 && least == least_due;
+}
+
+static void test_validate_session_expires(void)
+{
+    CHECK(interval_is_valid(90 * SECOND, false, 0));
+    CHECK(interval_is_valid(90 * SECOND, false, UINT64_MAX));
+    CHECK(interval_is_under(90 * SECOND - 1, false, 0, 90 * SECOND));
+    CHECK(interval_is_under(0, false, 1, 90 * SECOND));
+    CHECK(interval_is_valid(5 * SECOND, true, 5 * SECOND));
+    CHECK(interval_is_under(5 * SECOND - 1, true, 5 * SECOND, 5 * SECOND));
+    CHECK(interval_is_under(90 * SECOND, true, 120 * SECOND, 120 * SECOND));
+    CHECK(interval_is_valid(0, true, 0));
+    CHECK(interval_is_valid(86401 * SECOND, false, 0));
+    CHECK(interval_is_valid(UINT64_MAX, true, UINT64_MAX));
+    CHECK(interval_is_under(UINT64_MAX - 1, true, UINT64_MAX, UINT64_MAX));
+}
+
+/* An argument of a negotiation that may be absent; absent, its value must not count. */
+struct optional {
+    bool given;
+    uint64_t value;
+};
+
+static const struct optional none = {false, 1};
+static const struct optional none_largest = {false, UINT64_MAX};
+
+static struct optional seconds(uint64_t value)
+{
+    struct optional o = {true, 0};
+    o.value = value * SECOND;
+    return o;
+}
+
+struct negotiated {
+    uint8_t number;
+    uint64_t interval;
+    uint64_t least;
+};
+
+static struct negotiated negotiate(uint64_t requested, uint64_t local, struct optional remote, struct optional preference)
+{
+    struct negotiated n = {KEPT, KEPT, KEPT};
+    n.number = sip_dialog_negotiate_session_expires(requested, local, remote.given, remote.value, preference.given,
+                                                    preference.value, &n.interval, &n.least);
+    return n;
+}
+
+static bool agreed(struct negotiated n, uint64_t interval)
+{
+    return n.number == 0 && n.interval == interval && n.least == KEPT;
+}
+
+static bool is_under(struct negotiated n, uint64_t least)
+{
+    return n.number == 13 && n.interval == KEPT && n.least == least;
+}
+
+static void test_negotiate_session_expires(void)
+{
+    CHECK(agreed(negotiate(1800 * SECOND, 90 * SECOND, seconds(120), seconds(60)), 120 * SECOND));
+    CHECK(is_under(negotiate(100 * SECOND, 90 * SECOND, seconds(120), seconds(60)), 120 * SECOND));
+    CHECK(agreed(negotiate(1800 * SECOND, 90 * SECOND, seconds(120), seconds(600)), 600 * SECOND));
+    CHECK(agreed(negotiate(1800 * SECOND, 90 * SECOND, seconds(120), seconds(3600)), 1800 * SECOND));
+    CHECK(agreed(negotiate(1800 * SECOND, 90 * SECOND, none_largest, none), 1800 * SECOND));
+    CHECK(agreed(negotiate(1800 * SECOND, 90 * SECOND, none, none_largest), 1800 * SECOND));
+    CHECK(agreed(negotiate(1800 * SECOND, 90 * SECOND, none, seconds(60)), 90 * SECOND));
+    CHECK(agreed(negotiate(120 * SECOND, 90 * SECOND, seconds(120), none), 120 * SECOND));
+    CHECK(is_under(negotiate(120 * SECOND - 1, 90 * SECOND, seconds(120), none), 120 * SECOND));
+    CHECK(is_under(negotiate(120 * SECOND - 1, 120 * SECOND, seconds(90), none), 120 * SECOND));
+    CHECK(is_under(negotiate(89 * SECOND, 90 * SECOND, none_largest, none), 90 * SECOND));
+    CHECK(agreed(negotiate(10 * SECOND, 5 * SECOND, none, none), 10 * SECOND));
+    CHECK(agreed(negotiate(0, 0, none, none), 0));
+    CHECK(agreed(negotiate(UINT64_MAX, UINT64_MAX, none, seconds(1)), UINT64_MAX));
+}
+
+static void test_intervals(void)
+{
+    CHECK(sip_dialog_non_refresher_expiry(300 * SECOND) == 268 * SECOND);
+    CHECK(sip_dialog_non_refresher_expiry(96 * SECOND) == 64 * SECOND);
+    CHECK(sip_dialog_non_refresher_expiry(96 * SECOND + 3) == 64 * SECOND + 3);
+    CHECK(sip_dialog_non_refresher_expiry(90 * SECOND) == 60 * SECOND);
+    CHECK(sip_dialog_non_refresher_expiry(5) == 4);
+    CHECK(sip_dialog_non_refresher_expiry(2) == 2);
+    CHECK(sip_dialog_non_refresher_expiry(0) == 0);
+    CHECK(sip_dialog_non_refresher_expiry(UINT64_MAX) == UINT64_MAX - 32 * SECOND);
+    CHECK(sip_dialog_calculate_refresh_time(90 * SECOND) == 45 * SECOND);
+    CHECK(sip_dialog_calculate_refresh_time(3) == 1);
+    CHECK(sip_dialog_calculate_refresh_time(0) == 0);
+    CHECK(sip_dialog_calculate_refresh_time(UINT64_MAX) == UINT64_MAX / 2);
+}
+
+static void test_needs_refresh(void)
+{
+    CHECK(sip_dialog_needs_refresh(true, 90, 60 * SECOND));
+    CHECK(!sip_dialog_needs_refresh(true, 90, 60 * SECOND - 1));
+    CHECK(sip_dialog_needs_refresh(true, 1, 666666666));
+    CHECK(!sip_dialog_needs_refresh(true, 1, 666666665));
+    CHECK(sip_dialog_needs_refresh(true, 0, 0));
+    CHECK(sip_dialog_needs_refresh(true, UINT32_MAX, 2863311530 * SECOND));
+    CHECK(!sip_dialog_needs_refresh(true, UINT32_MAX, 2863311530 * SECOND - 1));
+    CHECK(sip_dialog_needs_refresh(true, UINT32_MAX, UINT64_MAX));
+    CHECK(!sip_dialog_needs_refresh(false, 0, 0));
+    CHECK(!sip_dialog_needs_refresh(false, 90, UINT64_MAX));
+}
+
+static struct flagged determine_refresher_role(bool given, const char *text, bool is_uac)
+{
+    struct run t = lend(text);
+    struct flagged f = {KEPT, {KEPT, KEPT}};
+    f.number = sip_dialog_determine_refresher_role(given, t.bytes, t.length, is_uac, f.value);
+    take_back(t);
+    return f;
+}
+
+/* Whether we refresh by this text if we are uac, and if we are uas. */
+static bool role_is(bool given, const char *text, uint8_t as_uac, uint8_t as_uas)
+{
+    bool uac_is = byte_is(determine_refresher_role(given, text, true), as_uac);
+    return uac_is && byte_is(determine_refresher_role(given, text, false), as_uas);
+}
+
+static void test_determine_refresher_role(void)
+{
+    char buffer[LONGEST + 2];
+    CHECK(role_is(true, "uac", 1, 0));
+    CHECK(role_is(true, "UAC", 1, 0));
+    CHECK(role_is(true, "uas", 0, 1));
+    CHECK(role_is(true, "UAS", 0, 1));
+    CHECK(role_is(true, "Uas", 1, 0));
+    CHECK(role_is(true, "uas ", 1, 0));
+    CHECK(role_is(true, "ua", 1, 0));
+    CHECK(role_is(true, "", 1, 0));
+    CHECK(role_is(true, NULL, 1, 0));
+    CHECK(role_is(false, NULL, 1, 0));
+    CHECK(role_is(false, "uas", 1, 0));
+    CHECK(role_is(true, filled(buffer, "uas", 's', "", LONGEST), 1, 0));
+    filled(buffer, "uas", 's', "", LONGEST + 1);
+    CHECK(byte_is_refused(determine_refresher_role(true, buffer, true), 1));
+    CHECK(byte_is_refused(determine_refresher_role(true, buffer, false), 1));
+    CHECK(role_is(false, buffer, 1, 0));
+}
+
+/* ---- Counts of dialogs */
+
+static void test_counts(void)
+{
+    CHECK(sip_dialog_record_created(0) == 1);
+    CHECK(sip_dialog_record_created(UINT32_MAX) == UINT64_C(1) << 32);
+    CHECK(sip_dialog_record_created(UINT64_MAX - 1) == UINT64_MAX);
+    CHECK(sip_dialog_record_created(UINT64_MAX) == UINT64_MAX);
+    CHECK(sip_dialog_record_terminated(0) == 1);
+    CHECK(sip_dialog_record_terminated(UINT32_MAX) == UINT64_C(1) << 32);
+    CHECK(sip_dialog_record_terminated(UINT64_MAX - 1) == UINT64_MAX);
+    CHECK(sip_dialog_record_terminated(UINT64_MAX) == UINT64_MAX);
+}
+
+int main(void)
+{
+    static void (*const tests[])(void) = {
+        test_check_block, test_bytes_of_blocks, test_header, test_next_header, test_status_codes, test_sip_uri,
+        test_sip_uri_refused, test_uri_estimate, test_parse_uri_from_header, test_extract_tag, test_dialog_id_new,
+        test_bytes_of_identifiers, test_identifiers, test_next_header_value, test_contact, test_route_count,
+        test_long_routes, test_route, test_parse_session_expires, test_session_expires, test_cseq_number, test_rseq,
+        test_cseq_method, test_is_reliable_provisional, test_method_number, test_method_text, test_parse_rack,
+        test_format_rack, test_validate_session_expires, test_negotiate_session_expires, test_intervals, test_needs_refresh,
+        test_determine_refresher_role, test_counts,
+    };
+    size_t i;
+    for (i = 0; i < sizeof tests / sizeof tests[0]; i++) {
+        tests[i]();
+    }
+    printf("%u checks, %u failed\n", checks_run, checks_failed);
+    return checks_failed == 0 ? 0 : 1;
+}
