@@ -222,9 +222,9 @@ uint64_t sip_dialog_calculate_refresh_time(uint64_t interval);
 /* Whether two thirds of an interval in seconds have passed, with elapsed in nanoseconds. Without an interval: no. */
 bool sip_dialog_needs_refresh(bool has_interval, uint32_t seconds, uint64_t elapsed);
 
-/* Whether we refresh, by the text of a refresher parameter, if one is given: refresher 1 for yes, 0 for no (not uac or uas).
+/* Whether we refresh, by the text of a refresher parameter, if one is given: we_refresh 1 for yes, 0 for no (not uac or uas).
    `uas`, `UAS`: if we aren't uac; all else, `Uas` too: if we are. Refuses with 1, if a text is given. */
-uint8_t sip_dialog_determine_refresher_role(bool given, const uint8_t *text, size_t text_len, bool is_uac, uint8_t *refresher);
+uint8_t sip_dialog_determine_refresher_role(bool given, const uint8_t *text, size_t text_len, bool is_uac, uint8_t *we_refresh);
 
 /* ---- Counts of dialogs */
 

@@ -21,58 +21,49 @@ pub fn blocks() {
 
 // What a block is.
 fn forms() {
-    block(b"01 Block", b"");
-    block(b"01 Block", b"a:b\r\n");
-    block(b"01 Block", b"a:\r\n");
-    block(b"01 Block", b"a:b");
-    block(b"01 Block", b"a:b\n");
-    block(b"01 Block", b"a:b\r\n\r\n");
-    block(b"01 Block", b":b\r\n");
-    block(b"01 Block", b"a_b:c\r\n");
+    let place: &[u8] = b"01 Block";
+    block(place, b"");
+    block(place, b"a:b\r\n");
+    block(place, b"a:\r\n");
+    block(place, b"a:b");
+    block(place, b"a:b\n");
+    block(place, b"a:b\r\n\r\n");
+    block(place, b":b\r\n");
+    block(place, b"a_b:c\r\n");
 }
 
 fn subjects() {
+    let place: &[u8] = b"RFC 3261 7.3.1";
+    value(place, b"Subject", b"Subject:            lunch\r\n");
+    value(place, b"Subject", b"Subject      :      lunch\r\n");
+    value(place, b"Subject", b"Subject            :lunch\r\n");
+    value(place, b"Subject", b"Subject: lunch\r\n");
     value(
-        b"RFC 3261 7.3.1",
-        b"Subject",
-        b"Subject:            lunch\r\n",
-    );
-    value(
-        b"RFC 3261 7.3.1",
-        b"Subject",
-        b"Subject      :      lunch\r\n",
-    );
-    value(
-        b"RFC 3261 7.3.1",
-        b"Subject",
-        b"Subject            :lunch\r\n",
-    );
-    value(b"RFC 3261 7.3.1", b"Subject", b"Subject: lunch\r\n");
-    value(
-        b"RFC 3261 7.3.1",
+        place,
         b"Subject",
         b"Subject: I know you're there, pick up the phone and talk to me!\r\n",
     );
     value(
-        b"RFC 3261 7.3.1",
+        place,
         b"Subject",
         b"Subject: I know you're there,\r\n         pick up the phone\r\n         and talk to me!\r\n",
     );
 }
 
 fn route_lines() {
+    let section_7_3_1: &[u8] = b"RFC 3261 7.3.1";
     lines(
-        b"RFC 3261 7.3.1",
+        section_7_3_1,
         b"Route",
         b"Route: <sip:alice@atlanta.com>\r\nSubject: Lunch\r\nRoute: <sip:bob@biloxi.com>\r\nRoute: <sip:carol@chicago.com>\r\n",
     );
     lines(
-        b"RFC 3261 7.3.1",
+        section_7_3_1,
         b"Route",
         b"Route: <sip:alice@atlanta.com>, <sip:bob@biloxi.com>\r\nRoute: <sip:carol@chicago.com>\r\nSubject: Lunch\r\n",
     );
     lines(
-        b"RFC 3261 7.3.1",
+        section_7_3_1,
         b"Route",
         b"Subject: Lunch\r\nRoute: <sip:alice@atlanta.com>, <sip:bob@biloxi.com>,\r\n       <sip:carol@chicago.com>\r\n",
     );
@@ -82,40 +73,41 @@ fn route_lines() {
         b"Subject: Lunch\r\nRoute: <sip:alice@atlanta.com>, <sip:bob@biloxi.com>, <sip:carol@chicago.com>\r\n",
     );
     lines(
-        b"RFC 3261 7.3.1",
+        section_7_3_1,
         b"Route",
         b"Route: <sip:bob@biloxi.com>\r\nRoute: <sip:alice@atlanta.com>\r\nRoute: <sip:carol@chicago.com>\r\n",
     );
 }
 
 fn letter_case() {
+    let place: &[u8] = b"RFC 3261 7.3.1";
     value(
-        b"RFC 3261 7.3.1",
+        place,
         b"Contact",
         b"Contact: <sip:alice@atlanta.com>;expires=3600\r\n",
     );
     value(
-        b"RFC 3261 7.3.1",
+        place,
         b"Contact",
         b"CONTACT: <sip:alice@atlanta.com>;ExPiReS=3600\r\n",
     );
     value(
-        b"RFC 3261 7.3.1",
+        place,
         b"Content-Disposition",
         b"Content-Disposition: session;handling=optional\r\n",
     );
     value(
-        b"RFC 3261 7.3.1",
+        place,
         b"Content-Disposition",
         b"content-disposition: Session;HANDLING=OPTIONAL\r\n",
     );
     value(
-        b"RFC 3261 7.3.1",
+        place,
         b"Warning",
         b"Warning: 370 devnull \"Choose a bigger pipe\"\r\n",
     );
     value(
-        b"RFC 3261 7.3.1",
+        place,
         b"Warning",
         b"Warning: 370 devnull \"CHOOSE A BIGGER PIPE\"\r\n",
     );
@@ -123,43 +115,38 @@ fn letter_case() {
 
 // Full names alone are looked up: a line under a compact name is another line.
 fn fields() {
+    let section_20_8: &[u8] = b"RFC 3261 20.8";
+    let section_20_14: &[u8] = b"RFC 3261 20.14";
+    let section_20_36: &[u8] = b"RFC 3261 20.36";
     value(
         b"RFC 3261 8.1.1.4",
         b"Call-ID",
         b"Call-ID: f81d4fae-7dec-11d0-a765-00a0c91e6bf6@foo.bar.com\r\n",
     );
     value(
-        b"RFC 3261 20.8",
+        section_20_8,
         b"Call-ID",
         b"Call-ID: f81d4fae-7dec-11d0-a765-00a0c91e6bf6@biloxi.com\r\n",
     );
     value(
-        b"RFC 3261 20.8",
+        section_20_8,
         b"Call-ID",
         b"i:f81d4fae-7dec-11d0-a765-00a0c91e6bf6@192.0.2.4\r\n",
     );
     value(
-        b"RFC 3261 20.8",
+        section_20_8,
         b"i",
         b"i:f81d4fae-7dec-11d0-a765-00a0c91e6bf6@192.0.2.4\r\n",
     );
-    value(
-        b"RFC 3261 20.14",
-        b"Content-Length",
-        b"Content-Length: 349\r\n",
-    );
-    value(b"RFC 3261 20.14", b"Content-Length", b"l: 173\r\n");
+    value(section_20_14, b"Content-Length", b"Content-Length: 349\r\n");
+    value(section_20_14, b"Content-Length", b"l: 173\r\n");
     value(
         b"RFC 3261 20.20",
         b"From",
         b"f: Anonymous <sip:c8oqz84zk7z@privacy.org>;tag=hyh8\r\n",
     );
-    value(
-        b"RFC 3261 20.36",
-        b"Subject",
-        b"Subject: Need more boxes\r\n",
-    );
-    value(b"RFC 3261 20.36", b"Subject", b"s: Tech Support\r\n");
+    value(section_20_36, b"Subject", b"Subject: Need more boxes\r\n");
+    value(section_20_36, b"Subject", b"s: Tech Support\r\n");
     value(
         b"RFC 3261 20.39",
         b"To",
@@ -169,6 +156,7 @@ fn fields() {
 
 // The elements of a value that commas separate.
 fn lists() {
+    let after_20_10: &[u8] = b"RFC 3261 after 20.10";
     elements(b"RFC 3261 20.5", b"INVITE, ACK, OPTIONS, CANCEL, BYE");
     elements(
         b"RFC 3261 7.3.1",
@@ -179,13 +167,10 @@ fn lists() {
         b"307 isi.edu \"Session parameter 'foo' not understood\"",
     );
     elements(
-        b"RFC 3261 after 20.10",
+        after_20_10,
         b"\"Mr. Watson\" <sip:watson@worcester.bell-telephone.com> ;q=0.7; expires=3600, \"Mr. Watson\" <mailto:watson@bell-telephone.com> ;q=0.1",
     );
-    elements(
-        b"RFC 3261 after 20.10",
-        b"\"Watson, Mr.\" <sip:watson@h>, <sip:a,b@h>",
-    );
+    elements(after_20_10, b"\"Watson, Mr.\" <sip:watson@h>, <sip:a,b@h>");
     elements(b"01 sheet", b"\"a<b\" <sip:p@h>, <sip:q@h>");
     elements(b"01 Routes", b" , ,");
 }

@@ -6,31 +6,25 @@ use crate::show::show_expires;
 use crate::show::show_lookup;
 
 pub fn expires() {
+    let after_4: &[u8] = b"RFC 4028 after 4";
+    let after_13: &[u8] = b"RFC 4028 after 13";
+    let rule: &[u8] = b"01 Response";
     value(b"RFC 4028 4", b"4000;refresher=uac");
-    value(b"RFC 4028 after 4", b"1800;refresher=uas");
-    value(b"RFC 4028 after 4", b"1800 ; refresher=uas");
-    value(b"RFC 4028 after 4", b"1800;a=b;refresher=uas");
-    value(b"RFC 4028 after 4", b"90");
-    block(b"RFC 4028 after 4", b"x: 4000;refresher=uac\r\n");
-    block(
-        b"RFC 4028 after 13",
-        b"Session-Expires: 3600\r\nMin-SE: 3600\r\n",
-    );
-    minimum(b"RFC 4028 after 13", b"Min-SE: 3600\r\n");
-    minimum(
-        b"RFC 4028 after 13",
-        b"Session-Expires: 4000\r\nMin-SE: 4000\r\n",
-    );
-    value(b"01 Response", b"1800;Refresher=UAS");
-    value(
-        b"01 Response",
-        b"1800;refresher=both;refresher=uac;refresher=uas",
-    );
-    value(b"01 Response", b"1800;refresher=both");
-    value(b"01 Response", b"4294967295");
-    value(b"01 Response", b"4294967296");
-    value(b"01 Response", b"+1800");
-    value(b"01 Response", b";refresher=uac");
+    value(after_4, b"1800;refresher=uas");
+    value(after_4, b"1800 ; refresher=uas");
+    value(after_4, b"1800;a=b;refresher=uas");
+    value(after_4, b"90");
+    block(after_4, b"x: 4000;refresher=uac\r\n");
+    block(after_13, b"Session-Expires: 3600\r\nMin-SE: 3600\r\n");
+    minimum(after_13, b"Min-SE: 3600\r\n");
+    minimum(after_13, b"Session-Expires: 4000\r\nMin-SE: 4000\r\n");
+    value(rule, b"1800;Refresher=UAS");
+    value(rule, b"1800;refresher=both;refresher=uac;refresher=uas");
+    value(rule, b"1800;refresher=both");
+    value(rule, b"4294967295");
+    value(rule, b"4294967296");
+    value(rule, b"+1800");
+    value(rule, b";refresher=uac");
 }
 
 fn value(place: &[u8], v: &[u8]) {

@@ -71,13 +71,14 @@ fn session_end() {
 }
 
 fn session_timer() {
+    let place: &[u8] = b"RFC 4028 after 13";
     request(
-        b"RFC 4028 after 13",
+        place,
         b"INVITE",
         b"Supported: timer\r\nSession-Expires: 50\r\nMax-Forwards: 70\r\nTo: Bob <sips:bob@biloxi.example.com>\r\nFrom: Alice <sips:alice@atlanta.example.com>;tag=1928301774\r\nCall-ID: a84b4c76e66710\r\nCSeq: 314159 INVITE\r\nContact: <sips:alice@pc33.atlanta.example.com>\r\n",
     );
     response(
-        b"RFC 4028 after 13",
+        place,
         b"200",
         b"Require: timer\r\nSupported: timer\r\nSession-Expires: 4000;refresher=uac\r\nTo: Bob <sips:bob@biloxi.example.com>;tag=9as888nd\r\nFrom: Alice <sips:alice@atlanta.example.com>;tag=1928301774\r\nCall-ID: a84b4c76e66710\r\nCSeq: 314161 INVITE\r\nContact: <sips:bob@192.0.2.4>\r\n",
     );

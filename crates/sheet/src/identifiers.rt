@@ -8,6 +8,7 @@ use crate::show::show_check;
 use headers::DialogId;
 
 pub fn identifiers() {
+    let rule: &[u8] = b"01 Identifier";
     identifier(
         b"RFC 3261 24.2",
         b"a84b4c76e66710",
@@ -20,10 +21,10 @@ pub fn identifiers() {
         b"887s",
         b"287447",
     );
-    identifier(b"01 Identifier", b"", b"l", b"r");
-    identifier(b"01 Identifier", b"c", b"", b"r");
-    identifier(b"01 Identifier", b"c", b"l", b"");
-    identifier(b"01 Identifier", b"c d", b"l", b"~");
+    identifier(rule, b"", b"l", b"r");
+    identifier(rule, b"c", b"", b"r");
+    identifier(rule, b"c", b"l", b"");
+    identifier(rule, b"c d", b"l", b"~");
     local_tag(b"a tab", b"l\t");
     local_tag(b"a byte 127", b"l\x7f");
     let long = [b'a'; 257];

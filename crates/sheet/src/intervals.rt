@@ -21,81 +21,77 @@ pub fn intervals() {
 }
 
 fn refreshes() {
-    due(b"01 sheet P", OptionalSeconds::Of(90), 60000000000);
-    due(b"01 sheet P", OptionalSeconds::Of(90), 59999999999);
-    due(b"01 Intervals", OptionalSeconds::Of(1), 666666666);
-    due(b"01 Intervals", OptionalSeconds::Of(1), 666666665);
-    due(b"01 Intervals", OptionalSeconds::Absent, 60000000000);
-    half(b"RFC 4028 after 10", 1800);
-    half(b"RFC 4028 after 10", 4000);
-    half(b"RFC 4028 after 10", 91);
+    let sheet: &[u8] = b"01 sheet P";
+    let rule: &[u8] = b"01 Intervals";
+    let after_10: &[u8] = b"RFC 4028 after 10";
+    due(sheet, OptionalSeconds::Of(90), 60000000000);
+    due(sheet, OptionalSeconds::Of(90), 59999999999);
+    due(rule, OptionalSeconds::Of(1), 666666666);
+    due(rule, OptionalSeconds::Of(1), 666666665);
+    due(rule, OptionalSeconds::Absent, 60000000000);
+    half(after_10, 1800);
+    half(after_10, 4000);
+    half(after_10, 91);
 }
 
 fn expiries() {
+    let after_10: &[u8] = b"RFC 4028 after 10";
     expiry(b"01 sheet P", 300);
-    expiry(b"RFC 4028 after 10", 1800);
-    expiry(b"RFC 4028 after 10", 4000);
-    expiry(b"RFC 4028 after 10", 96);
-    expiry(b"RFC 4028 after 10", 90);
+    expiry(after_10, 1800);
+    expiry(after_10, 4000);
+    expiry(after_10, 96);
+    expiry(after_10, 90);
 }
 
 fn minima() {
-    validate(b"RFC 4028 after 5", 90, OptionalTime::Absent);
-    validate(b"RFC 4028 after 5", 89, OptionalTime::Absent);
-    validate(b"RFC 4028 after 6", 50, seconds(3600));
-    validate(b"RFC 4028 after 6", 3600, seconds(3600));
-    checked(b"01 rows 13, 14", 89);
-    checked(b"01 rows 13, 14", 90);
-    checked(b"01 rows 13, 14", 86400);
-    checked(b"01 rows 13, 14", 86401);
-    checked(b"01 rows 13, 14", 4294967386);
+    let after_5: &[u8] = b"RFC 4028 after 5";
+    let after_6: &[u8] = b"RFC 4028 after 6";
+    let rows: &[u8] = b"01 rows 13, 14";
+    validate(after_5, 90, OptionalTime::Absent);
+    validate(after_5, 89, OptionalTime::Absent);
+    validate(after_6, 50, seconds(3600));
+    validate(after_6, 3600, seconds(3600));
+    checked(rows, 89);
+    checked(rows, 90);
+    checked(rows, 86400);
+    checked(rows, 86401);
+    checked(rows, 4294967386);
 }
 
 fn negotiations() {
-    negotiate(b"01 sheet P", 1800, 90, seconds(120), seconds(60));
-    negotiate(b"01 sheet P", 100, 90, seconds(120), seconds(60));
+    let sheet: &[u8] = b"01 sheet P";
+    let after_13: &[u8] = b"RFC 4028 after 13";
+    let after_9: &[u8] = b"RFC 4028 after 9";
+    negotiate(sheet, 1800, 90, seconds(120), seconds(60));
+    negotiate(sheet, 100, 90, seconds(120), seconds(60));
     negotiate(
-        b"RFC 4028 after 13",
+        after_13,
         50,
         3600,
         OptionalTime::Absent,
         OptionalTime::Absent,
     );
-    negotiate(
-        b"RFC 4028 after 13",
-        3600,
-        4000,
-        seconds(3600),
-        OptionalTime::Absent,
-    );
-    negotiate(
-        b"RFC 4028 after 13",
-        4000,
-        90,
-        seconds(4000),
-        OptionalTime::Absent,
-    );
-    negotiate(b"RFC 4028 after 9", 1800, 90, seconds(120), seconds(600));
-    negotiate(b"RFC 4028 after 9", 4000, 90, seconds(3600), seconds(1800));
-    negotiate(
-        b"RFC 4028 after 9",
-        1800,
-        90,
-        OptionalTime::Absent,
-        seconds(3600),
-    );
+    negotiate(after_13, 3600, 4000, seconds(3600), OptionalTime::Absent);
+    negotiate(after_13, 4000, 90, seconds(4000), OptionalTime::Absent);
+    negotiate(after_9, 1800, 90, seconds(120), seconds(600));
+    negotiate(after_9, 4000, 90, seconds(3600), seconds(1800));
+    negotiate(after_9, 1800, 90, OptionalTime::Absent, seconds(3600));
 }
 
 fn roles() {
-    role(b"RFC 4028 after 7.2", true, b"uac", true);
-    role(b"RFC 4028 after 7.2", true, b"uas", true);
-    role(b"RFC 4028 after 9", true, b"uac", false);
-    role(b"RFC 4028 after 9", true, b"uas", false);
-    role(b"01 errors", true, b"Uas", true);
-    role(b"01 errors", true, b"Uas", false);
-    role(b"01 errors", true, b"UAS", false);
-    role(b"01 Intervals", false, b"", true);
-    role(b"01 Intervals", false, b"", false);
+    let after_7_2: &[u8] = b"RFC 4028 after 7.2";
+    let after_9: &[u8] = b"RFC 4028 after 9";
+    let errors: &[u8] = b"01 errors";
+    let rule: &[u8] = b"01 Intervals";
+    role(after_7_2, true, b"uac", true);
+    role(after_7_2, true, b"uas", true);
+    role(after_9, true, b"uac", false);
+    role(after_9, true, b"uas", false);
+    role(errors, true, b"Uas", true);
+    role(errors, true, b"Uas", false);
+    role(errors, true, b"UAS", false);
+    role(rule, false, b"", true);
+    role(rule, false, b"", false);
 }
 
 fn due(place: &[u8], interval: OptionalSeconds, elapsed: u64) {

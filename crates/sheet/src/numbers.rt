@@ -8,24 +8,28 @@ use crate::show::show_number;
 use crate::show::show_sequence;
 
 pub fn numbers() {
-    cseq(b"01 sheet P", b"CSeq: +5 INVITE\r\n");
-    cseq(b"01 sheet P", b"CSeq: -0 INVITE\r\n");
-    number(b"01 CSeq", b"+5");
-    number(b"01 CSeq", b"-0");
-    number(b"01 CSeq", b"++5");
-    number(b"01 CSeq", b"+");
-    number(b"01 CSeq", b"0000000000007");
-    number(b"01 CSeq", b"4294967295");
-    number(b"01 CSeq", b"4294967296");
+    let sheet: &[u8] = b"01 sheet P";
+    let cseq_rule: &[u8] = b"01 CSeq";
+    let after_8_1_1_5: &[u8] = b"RFC 3261 after 8.1.1.5";
+    let after_20_16: &[u8] = b"RFC 3261 after 20.16";
+    cseq(sheet, b"CSeq: +5 INVITE\r\n");
+    cseq(sheet, b"CSeq: -0 INVITE\r\n");
+    number(cseq_rule, b"+5");
+    number(cseq_rule, b"-0");
+    number(cseq_rule, b"++5");
+    number(cseq_rule, b"+");
+    number(cseq_rule, b"0000000000007");
+    number(cseq_rule, b"4294967295");
+    number(cseq_rule, b"4294967296");
     cseq(b"RFC 3261 8.1.1.5", b"CSeq: 4711 INVITE\r\n");
     cseq(b"RFC 3261 20.16", b"CSeq: 4711 INVITE\r\n");
-    cseq(b"RFC 3261 after 8.1.1.5", b"CSeq: 2147483647 INVITE\r\n");
-    cseq(b"RFC 3261 after 8.1.1.5", b"CSeq: 4294967295 INVITE\r\n");
-    cseq(b"RFC 3261 after 8.1.1.5", b"CSeq: 4294967296 INVITE\r\n");
-    cseq(b"RFC 3261 after 20.16", b"CSeq: 4711 invite\r\n");
-    cseq(b"RFC 3261 after 20.16", b"CSeq: 4711 EXAMPLE\r\n");
-    cseq(b"RFC 3261 after 20.16", b"CSeq: 4711\r\n");
-    cseq(b"RFC 3261 after 20.16", b"Subject: no CSeq\r\n");
+    cseq(after_8_1_1_5, b"CSeq: 2147483647 INVITE\r\n");
+    cseq(after_8_1_1_5, b"CSeq: 4294967295 INVITE\r\n");
+    cseq(after_8_1_1_5, b"CSeq: 4294967296 INVITE\r\n");
+    cseq(after_20_16, b"CSeq: 4711 invite\r\n");
+    cseq(after_20_16, b"CSeq: 4711 EXAMPLE\r\n");
+    cseq(after_20_16, b"CSeq: 4711\r\n");
+    cseq(after_20_16, b"Subject: no CSeq\r\n");
 }
 
 fn number(place: &[u8], s: &[u8]) {

@@ -22,72 +22,78 @@ pub fn racks() {
 }
 
 fn methods() {
-    method(b"RFC 3261 7.1", b"INVITE");
-    method(b"RFC 3261 7.1", b"ACK");
-    method(b"RFC 3261 7.1", b"BYE");
-    method(b"RFC 3261 7.1", b"CANCEL");
-    method(b"RFC 3261 7.1", b"REGISTER");
-    method(b"RFC 3261 7.1", b"OPTIONS");
+    let section_7_1: &[u8] = b"RFC 3261 7.1";
+    let row: &[u8] = b"01 row 28";
+    let after_7_1: &[u8] = b"RFC 3261 after 7.1";
+    method(section_7_1, b"INVITE");
+    method(section_7_1, b"ACK");
+    method(section_7_1, b"BYE");
+    method(section_7_1, b"CANCEL");
+    method(section_7_1, b"REGISTER");
+    method(section_7_1, b"OPTIONS");
     method(b"RFC 3262 6", b"PRACK");
-    method(b"01 row 28", b"INFO");
-    method(b"01 row 28", b"UPDATE");
-    method(b"01 row 28", b"MESSAGE");
-    method(b"01 row 28", b"REFER");
-    method(b"01 row 28", b"SUBSCRIBE");
-    method(b"01 row 28", b"NOTIFY");
-    method(b"01 row 28", b"PUBLISH");
-    method(b"RFC 3261 after 7.1", b"invite");
-    method(b"RFC 3261 after 7.1", b"EXAMPLE");
+    method(row, b"INFO");
+    method(row, b"UPDATE");
+    method(row, b"MESSAGE");
+    method(row, b"REFER");
+    method(row, b"SUBSCRIBE");
+    method(row, b"NOTIFY");
+    method(row, b"PUBLISH");
+    method(after_7_1, b"invite");
+    method(after_7_1, b"EXAMPLE");
 }
 
 fn method_names() {
-    name(b"01 row 28", 0);
-    name(b"01 row 28", 1);
-    name(b"01 row 28", 10);
-    name(b"01 row 28", 14);
-    name(b"01 row 28", 15);
+    let place: &[u8] = b"01 row 28";
+    name(place, 0);
+    name(place, 1);
+    name(place, 10);
+    name(place, 14);
+    name(place, 15);
 }
 
 fn sequences() {
+    let after_3: &[u8] = b"RFC 3262 after 3";
+    let after_7_1: &[u8] = b"RFC 3262 after 7.1";
     rseq(b"RFC 3262 7.1", b"RSeq: 988789\r\n");
-    rseq(b"RFC 3262 after 3", b"RSeq: 1\r\n");
-    rseq(b"RFC 3262 after 3", b"RSeq: 2147483647\r\n");
-    rseq(b"RFC 3262 after 7.1", b"RSeq: 4294967295\r\n");
-    rseq(b"RFC 3262 after 7.1", b"RSeq: 4294967296\r\n");
-    rseq(b"RFC 3262 after 7.1", b"RSeq: 988789 1\r\n");
-    rseq(b"RFC 3262 after 7.1", b"CSeq: 988789 INVITE\r\n");
+    rseq(after_3, b"RSeq: 1\r\n");
+    rseq(after_3, b"RSeq: 2147483647\r\n");
+    rseq(after_7_1, b"RSeq: 4294967295\r\n");
+    rseq(after_7_1, b"RSeq: 4294967296\r\n");
+    rseq(after_7_1, b"RSeq: 988789 1\r\n");
+    rseq(after_7_1, b"CSeq: 988789 INVITE\r\n");
 }
 
 fn provisionals() {
-    reliable(b"RFC 3262 after 3", 100, b"RSeq: 988789\r\n");
-    reliable(b"RFC 3262 after 3", 101, b"RSeq: 988789\r\n");
-    reliable(
-        b"RFC 3262 after 3",
-        180,
-        b"Require: 100rel\r\nRSeq: 988789\r\n",
-    );
-    reliable(b"RFC 3262 after 3", 180, b"CSeq: 1 INVITE\r\n");
-    reliable(b"RFC 3262 after 3", 199, b"RSeq: 988789\r\n");
-    reliable(b"RFC 3262 after 3", 200, b"RSeq: 988789\r\n");
+    let place: &[u8] = b"RFC 3262 after 3";
+    reliable(place, 100, b"RSeq: 988789\r\n");
+    reliable(place, 101, b"RSeq: 988789\r\n");
+    reliable(place, 180, b"Require: 100rel\r\nRSeq: 988789\r\n");
+    reliable(place, 180, b"CSeq: 1 INVITE\r\n");
+    reliable(place, 199, b"RSeq: 988789\r\n");
+    reliable(place, 200, b"RSeq: 988789\r\n");
 }
 
 fn readings() {
+    let after_7_2: &[u8] = b"RFC 3262 after 7.2";
+    let row: &[u8] = b"01 row 19";
     rack(b"RFC 3262 7.2", b"776656 1 INVITE");
-    rack(b"RFC 3262 after 7.2", b"776656 1 invite");
-    rack(b"RFC 3262 after 7.2", b"4294967295 2147483647 INVITE");
-    rack(b"01 row 19", b"776656  +1  INVITE");
-    rack(b"01 row 19", b"776656 1");
-    rack(b"01 row 19", b"776656 1 INVITE 2");
-    rack(b"01 row 19", b"776656 one INVITE");
-    rack(b"01 row 19", b"776656 1 EXAMPLE");
-    rack(b"01 row 19", b"");
+    rack(after_7_2, b"776656 1 invite");
+    rack(after_7_2, b"4294967295 2147483647 INVITE");
+    rack(row, b"776656  +1  INVITE");
+    rack(row, b"776656 1");
+    rack(row, b"776656 1 INVITE 2");
+    rack(row, b"776656 one INVITE");
+    rack(row, b"776656 1 EXAMPLE");
+    rack(row, b"");
 }
 
 fn writings() {
+    let row: &[u8] = b"01 row 28";
     written(b"RFC 3262 7.2", 776656, 1, 1);
     written(b"RFC 3262 after 7.2", 4294967295, 4294967295, 12);
-    written(b"01 row 28", 776656, 1, 0);
-    written(b"01 row 28", 776656, 1, 15);
+    written(row, 776656, 1, 0);
+    written(row, 776656, 1, 15);
 }
 
 fn method(place: &[u8], s: &[u8]) {

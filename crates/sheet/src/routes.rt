@@ -23,28 +23,23 @@ pub fn routes() {
 
 // The callee takes the routes of the request in order, the caller those of the response reversed (12.1.1, 12.1.2).
 fn trapezoid() {
-    contact(
-        b"RFC 3261 16.12.1.1",
-        b"Contact: sip:caller@u1.example.com\r\n",
-    );
+    let place: &[u8] = b"RFC 3261 16.12.1.1";
+    contact(place, b"Contact: sip:caller@u1.example.com\r\n");
+    received(place, b"Contact: sip:caller@u1.example.com\r\n");
     received(
-        b"RFC 3261 16.12.1.1",
-        b"Contact: sip:caller@u1.example.com\r\n",
-    );
-    received(
-        b"RFC 3261 16.12.1.1",
+        place,
         b"Contact: sip:caller@u1.example.com\r\nRecord-Route: <sip:p1.example.com;lr>\r\n",
     );
     received(
-        b"RFC 3261 16.12.1.1",
+        place,
         b"Contact: sip:caller@u1.example.com\r\nRecord-Route: <sip:p2.domain.com;lr>\r\nRecord-Route: <sip:p1.example.com;lr>\r\n",
     );
     contact(
-        b"RFC 3261 16.12.1.1",
+        place,
         b"Contact: sip:callee@u2.domain.com\r\nRecord-Route: <sip:p2.domain.com;lr>\r\nRecord-Route: <sip:p1.example.com;lr>\r\n",
     );
     reversed(
-        b"RFC 3261 16.12.1.1",
+        place,
         b"Contact: sip:callee@u2.domain.com\r\nRecord-Route: <sip:p2.domain.com;lr>\r\nRecord-Route: <sip:p1.example.com;lr>\r\n",
     );
 }
@@ -61,55 +56,56 @@ fn strict_router() {
 }
 
 fn rewritten() {
+    let place: &[u8] = b"RFC 3261 16.12.1.3";
     contact(
-        b"RFC 3261 16.12.1.3",
+        place,
         b"Contact: <sip:caller@u1.leftprivatespace.com>\r\nRecord-Route: <sip:gateway.rightprivatespace.com;lr>\r\n",
     );
     received(
-        b"RFC 3261 16.12.1.3",
+        place,
         b"Contact: <sip:caller@u1.leftprivatespace.com>\r\nRecord-Route: <sip:gateway.rightprivatespace.com;lr>\r\n",
     );
     contact(
-        b"RFC 3261 16.12.1.3",
+        place,
         b"Contact: <sip:callee@u2.rightprivatespace.com>\r\nRecord-Route: <sip:gateway.leftprivatespace.com;lr>\r\n",
     );
     reversed(
-        b"RFC 3261 16.12.1.3",
+        place,
         b"Contact: <sip:callee@u2.rightprivatespace.com>\r\nRecord-Route: <sip:gateway.leftprivatespace.com;lr>\r\n",
     );
 }
 
 fn fields() {
+    let after_20_30: &[u8] = b"RFC 3261 after 20.30";
+    let section_7_3_1: &[u8] = b"RFC 3261 7.3.1";
+    let after_20_10: &[u8] = b"RFC 3261 after 20.10";
     received(
         b"RFC 3261 20.30",
         b"Record-Route: <sip:server10.biloxi.com;lr>,\r\n              <sip:bigbox3.site3.atlanta.com;lr>\r\n",
     );
     received(
-        b"RFC 3261 after 20.30",
+        after_20_30,
         b"Record-Route: <sip:server10.biloxi.com;lr>, <sip:bigbox3.site3.atlanta.com;lr>\r\n",
     );
     reversed(
-        b"RFC 3261 after 20.30",
+        after_20_30,
         b"Record-Route: <sip:server10.biloxi.com;lr>, <sip:bigbox3.site3.atlanta.com;lr>\r\n",
     );
     contact(
-        b"RFC 3261 7.3.1",
+        section_7_3_1,
         b"Contact: <sip:alice@atlanta.com>;expires=3600\r\n",
     );
     contact(
-        b"RFC 3261 7.3.1",
+        section_7_3_1,
         b"CONTACT: <sip:alice@atlanta.com>;ExPiReS=3600\r\n",
     );
     contact(
-        b"RFC 3261 after 20.10",
+        after_20_10,
         b"Contact: \"Mr. Watson\" <sip:watson@worcester.bell-telephone.com> ;q=0.7; expires=3600, \"Mr. Watson\" <mailto:watson@bell-telephone.com> ;q=0.1\r\n",
     );
     contact(b"RFC 3261 20.10", b"m: <sips:bob@192.0.2.4>;expires=60\r\n");
-    contact(
-        b"RFC 3261 after 20.10",
-        b"Contact: <sips:bob@192.0.2.4>;expires=60\r\n",
-    );
-    contact(b"RFC 3261 after 20.10", b"Contact: *\r\n");
+    contact(after_20_10, b"Contact: <sips:bob@192.0.2.4>;expires=60\r\n");
+    contact(after_20_10, b"Contact: *\r\n");
 }
 
 fn contact(place: &[u8], block: &[u8]) {

@@ -4,19 +4,20 @@ use crate::show::end_line;
 use crate::show::show;
 
 pub fn statuses() {
-    class(b"RFC 3261 after 7.2", 99);
+    let after_7_2: &[u8] = b"RFC 3261 after 7.2";
+    class(after_7_2, 99);
     class(b"RFC 3261 21.1.1", 100);
     class(b"RFC 3261 21.1.2", 180);
-    class(b"RFC 3261 after 7.2", 199);
+    class(after_7_2, 199);
     class(b"RFC 3261 21.2.1", 200);
-    class(b"RFC 3261 after 7.2", 299);
+    class(after_7_2, 299);
     class(b"RFC 3261 21.3.3", 302);
     class(b"RFC 3261 21.4.5", 404);
     class(b"RFC 4028 6", 422);
     class(b"RFC 3261 21.5.4", 503);
     class(b"RFC 3261 21.6.1", 600);
-    class(b"RFC 3261 after 7.2", 699);
-    class(b"RFC 3261 after 7.2", 700);
+    class(after_7_2, 699);
+    class(after_7_2, 700);
 }
 
 fn class(place: &[u8], code: u16) {

@@ -4,36 +4,34 @@ use crate::show::end_line;
 use crate::show::show_tag;
 
 pub fn tags() {
+    let rule: &[u8] = b"01 Identifier";
+    let section_8_1_1_3: &[u8] = b"RFC 3261 8.1.1.3";
+    let section_20_20: &[u8] = b"RFC 3261 20.20";
+    let section_20_39: &[u8] = b"RFC 3261 20.39";
     tag(b"01 sheet P", b"\"a;tag=x\" <sip:r@h>;tag=y");
-    tag(b"01 Identifier", b"<sip:r@h>; TAG=z");
-    tag(b"01 Identifier", b"<sip:r@h>;tag=");
-    tag(b"01 Identifier", b"<sip:r@h>;tag =z");
+    tag(rule, b"<sip:r@h>; TAG=z");
+    tag(rule, b"<sip:r@h>;tag=");
+    tag(rule, b"<sip:r@h>;tag =z");
     tag(b"RFC 3261 8.1.1.2", b"Carol <sip:carol@chicago.com>");
+    tag(section_8_1_1_3, b"\"Bob\" <sips:bob@biloxi.com> ;tag=a48s");
+    tag(section_8_1_1_3, b"sip:+12125551212@phone2net.com;tag=887s");
     tag(
-        b"RFC 3261 8.1.1.3",
-        b"\"Bob\" <sips:bob@biloxi.com> ;tag=a48s",
-    );
-    tag(
-        b"RFC 3261 8.1.1.3",
-        b"sip:+12125551212@phone2net.com;tag=887s",
-    );
-    tag(
-        b"RFC 3261 8.1.1.3",
+        section_8_1_1_3,
         b"Anonymous <sip:c8oqz84zk7z@privacy.org>;tag=hyh8",
     );
     tag(
-        b"RFC 3261 20.20",
+        section_20_20,
         b"\"A. G. Bell\" <sip:agb@bell-telephone.com> ;tag=a48s",
     );
     tag(
-        b"RFC 3261 20.20",
+        section_20_20,
         b"sip:+12125551212@server.phone2net.com;tag=887s",
     );
     tag(
-        b"RFC 3261 20.39",
+        section_20_39,
         b"The Operator <sip:operator@cs.columbia.edu>;tag=287447",
     );
-    tag(b"RFC 3261 20.39", b"sip:+12125551212@server.phone2net.com");
+    tag(section_20_39, b"sip:+12125551212@server.phone2net.com");
 }
 
 fn tag(place: &[u8], value: &[u8]) {

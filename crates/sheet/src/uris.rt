@@ -17,85 +17,87 @@ pub fn uris() {
 }
 
 fn examples() {
-    given(b"RFC 3261 19.1.3", b"sip:alice@atlanta.com");
+    let section_19_1_3: &[u8] = b"RFC 3261 19.1.3";
+    let section_19_1_6: &[u8] = b"RFC 3261 19.1.6";
+    given(section_19_1_3, b"sip:alice@atlanta.com");
     given(
-        b"RFC 3261 19.1.3",
+        section_19_1_3,
         b"sip:alice:secretword@atlanta.com;transport=tcp",
     );
     given(
-        b"RFC 3261 19.1.3",
+        section_19_1_3,
         b"sips:alice@atlanta.com?subject=project%20x&priority=urgent",
     );
     given(
-        b"RFC 3261 19.1.3",
+        section_19_1_3,
         b"sip:+1-212-555-1212:1234@gateway.com;user=phone",
     );
-    given(b"RFC 3261 19.1.3", b"sips:1212@gateway.com");
-    given(b"RFC 3261 19.1.3", b"sip:alice@192.0.2.4");
+    given(section_19_1_3, b"sips:1212@gateway.com");
+    given(section_19_1_3, b"sip:alice@192.0.2.4");
     given(
-        b"RFC 3261 19.1.3",
+        section_19_1_3,
         b"sip:atlanta.com;method=REGISTER?to=alice%40atlanta.com",
     );
-    given(b"RFC 3261 19.1.3", b"sip:alice;day=tuesday@atlanta.com");
-    given(b"RFC 3261 19.1.6", b"tel:+358-555-1234567;postd=pp22");
+    given(section_19_1_3, b"sip:alice;day=tuesday@atlanta.com");
+    given(section_19_1_6, b"tel:+358-555-1234567;postd=pp22");
     given(
-        b"RFC 3261 19.1.6",
+        section_19_1_6,
         b"sip:+358-555-1234567;postd=pp22@foo.com;user=phone",
     );
 }
 
 fn compared() {
-    given(b"RFC 3261 19.1.4", b"sip:%61lice@atlanta.com;transport=TCP");
-    given(b"RFC 3261 19.1.4", b"sip:alice@AtLanTa.CoM;Transport=tcp");
-    given(b"RFC 3261 19.1.4", b"sip:carol@chicago.com");
-    given(b"RFC 3261 19.1.4", b"sip:carol@chicago.com;newparam=5");
-    given(b"RFC 3261 19.1.4", b"sip:carol@chicago.com;security=on");
+    let place: &[u8] = b"RFC 3261 19.1.4";
+    given(place, b"sip:%61lice@atlanta.com;transport=TCP");
+    given(place, b"sip:alice@AtLanTa.CoM;Transport=tcp");
+    given(place, b"sip:carol@chicago.com");
+    given(place, b"sip:carol@chicago.com;newparam=5");
+    given(place, b"sip:carol@chicago.com;security=on");
     given(
-        b"RFC 3261 19.1.4",
+        place,
         b"sip:biloxi.com;transport=tcp;method=REGISTER?to=sip:bob%40biloxi.com",
     );
     given(
-        b"RFC 3261 19.1.4",
+        place,
         b"sip:biloxi.com;method=REGISTER;transport=tcp?to=sip:bob%40biloxi.com",
     );
     given(
-        b"RFC 3261 19.1.4",
+        place,
         b"sip:alice@atlanta.com?subject=project%20x&priority=urgent",
     );
     given(
-        b"RFC 3261 19.1.4",
+        place,
         b"sip:alice@atlanta.com?priority=urgent&subject=project%20x",
     );
-    given(b"RFC 3261 19.1.4", b"SIP:ALICE@AtLanTa.CoM;Transport=udp");
-    given(b"RFC 3261 19.1.4", b"sip:alice@AtLanTa.CoM;Transport=UDP");
-    given(b"RFC 3261 19.1.4", b"sip:bob@biloxi.com");
-    given(b"RFC 3261 19.1.4", b"sip:bob@biloxi.com:5060");
-    given(b"RFC 3261 19.1.4", b"sip:bob@biloxi.com;transport=udp");
-    given(b"RFC 3261 19.1.4", b"sip:bob@biloxi.com:6000;transport=tcp");
-    given(
-        b"RFC 3261 19.1.4",
-        b"sip:carol@chicago.com?Subject=next%20meeting",
-    );
-    given(b"RFC 3261 19.1.4", b"sip:bob@phone21.boxesbybob.com");
-    given(b"RFC 3261 19.1.4", b"sip:bob@192.0.2.4");
+    given(place, b"SIP:ALICE@AtLanTa.CoM;Transport=udp");
+    given(place, b"sip:alice@AtLanTa.CoM;Transport=UDP");
+    given(place, b"sip:bob@biloxi.com");
+    given(place, b"sip:bob@biloxi.com:5060");
+    given(place, b"sip:bob@biloxi.com;transport=udp");
+    given(place, b"sip:bob@biloxi.com:6000;transport=tcp");
+    given(place, b"sip:carol@chicago.com?Subject=next%20meeting");
+    given(place, b"sip:bob@phone21.boxesbybob.com");
+    given(place, b"sip:bob@192.0.2.4");
 }
 
 fn limits() {
-    given(b"01 Contact", b"sip:[2001:db8::1]:5060");
-    given(b"01 Contact", b"sip:[]");
-    given(b"01 Contact", b"sip:@h");
-    given(b"01 Contact", b"sip:u@");
-    given(b"01 Contact", b"sip:u v@h");
-    given(b"01 Contact", b"sip:h:65535");
-    given(b"01 Contact", b"sip:h:65536");
-    given(b"01 Contact", b"sip:h:00080");
-    given(b"01 Contact", b"sip:h:");
+    let place: &[u8] = b"01 Contact";
+    given(place, b"sip:[2001:db8::1]:5060");
+    given(place, b"sip:[]");
+    given(place, b"sip:@h");
+    given(place, b"sip:u@");
+    given(place, b"sip:u v@h");
+    given(place, b"sip:h:65535");
+    given(place, b"sip:h:65536");
+    given(place, b"sip:h:00080");
+    given(place, b"sip:h:");
 }
 
 fn estimates() {
-    estimate(b"01 Contact", b"sip:alice@atlanta.com");
-    estimate(b"01 Contact", b"sip:bob@biloxi.com:6000;transport=tcp");
-    estimate(b"01 Contact", b"mailto:watson@bell-telephone.com");
+    let place: &[u8] = b"01 Contact";
+    estimate(place, b"sip:alice@atlanta.com");
+    estimate(place, b"sip:bob@biloxi.com:6000;transport=tcp");
+    estimate(place, b"mailto:watson@bell-telephone.com");
     let mut long = [b'a'; 507];
     put(&mut long, 0, b's');
     put(&mut long, 1, b'i');
@@ -106,17 +108,13 @@ fn estimates() {
 }
 
 fn values() {
+    let section_8_1_1_3: &[u8] = b"RFC 3261 8.1.1.3";
+    let section_20_39: &[u8] = b"RFC 3261 20.39";
     value(b"RFC 3261 8.1.1.2", b"Carol <sip:carol@chicago.com>");
+    value(section_8_1_1_3, b"\"Bob\" <sips:bob@biloxi.com> ;tag=a48s");
+    value(section_8_1_1_3, b"sip:+12125551212@phone2net.com;tag=887s");
     value(
-        b"RFC 3261 8.1.1.3",
-        b"\"Bob\" <sips:bob@biloxi.com> ;tag=a48s",
-    );
-    value(
-        b"RFC 3261 8.1.1.3",
-        b"sip:+12125551212@phone2net.com;tag=887s",
-    );
-    value(
-        b"RFC 3261 8.1.1.3",
+        section_8_1_1_3,
         b"Anonymous <sip:c8oqz84zk7z@privacy.org>;tag=hyh8",
     );
     value(
@@ -124,10 +122,10 @@ fn values() {
         b"\"A. G. Bell\" <sip:agb@bell-telephone.com> ;tag=a48s",
     );
     value(
-        b"RFC 3261 20.39",
+        section_20_39,
         b"The Operator <sip:operator@cs.columbia.edu>;tag=287447",
     );
-    value(b"RFC 3261 20.39", b"sip:+12125551212@server.phone2net.com");
+    value(section_20_39, b"sip:+12125551212@server.phone2net.com");
     value(b"RFC 3261 20.31", b"Bob <sip:bob@biloxi.com>");
     value(
         b"RFC 3261 20.10",
