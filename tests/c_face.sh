@@ -1,9 +1,10 @@
 #!/bin/sh
 # The C face: tests/c_face.c against the static library, by itself and under valgrind; and that the library, the header and
 # the test have the same functions. Prints one line if all holds.
+# PORT_LIB: a folder with libsip_dialog.a (default: built by `rt staticlib sip_dialog`).
 set -eu
 cd "$(dirname "$0")/.."
-archive=target/staticlib/libsip_dialog.a
+archive=${PORT_LIB:-target/staticlib}/libsip_dialog.a
 header=include/sip_dialog.h
 out=target/c_face
 
@@ -16,7 +17,7 @@ if [ $# -gt 0 ]; then
 fi
 
 mkdir -p "$out"
-rt staticlib sip_dialog >&2
+[ -n "${PORT_LIB:-}" ] || rt staticlib sip_dialog >&2
 cc -std=c99 -Wall -Wextra -Werror -pedantic -Iinclude -g -c tests/c_face.c -o "$out/c_face.o"
 cc "$out/c_face.o" "$archive" -o "$out/c_face"
 

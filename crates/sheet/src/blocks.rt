@@ -1,11 +1,11 @@
 // Header blocks: their lines and the look-up of names.
-use crate::show::More;
-use crate::show::ask;
-use crate::show::ask_block;
-use crate::show::end_line;
-use crate::show::show_check;
-use crate::show::show_lookup;
-use crate::show::show_next;
+use sheet_lines::More;
+use sheet_lines::ask;
+use sheet_lines::ask_block;
+use sheet_lines::end_line;
+use sheet_lines::show_check;
+use sheet_lines::show_lookup;
+use sheet_lines::show_next;
 
 // No example has more.
 const MOST_ANSWERS: usize = 10;

@@ -1,13 +1,13 @@
 // Whole messages of the RFCs' call flows: the identifier, CSeq, Contact and Session-Expires of each.
-use crate::show::ask;
-use crate::show::end_line;
-use crate::show::show;
-use crate::show::show_expires;
-use crate::show::show_id;
-use crate::show::show_lookup;
-use crate::show::show_method;
-use crate::show::show_sequence;
 use headers::DialogId;
+use sheet_lines::ask;
+use sheet_lines::end_line;
+use sheet_lines::show;
+use sheet_lines::show_expires;
+use sheet_lines::show_id;
+use sheet_lines::show_lookup;
+use sheet_lines::show_method;
+use sheet_lines::show_sequence;
 
 pub fn flows() {
     registration();

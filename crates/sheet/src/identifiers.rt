@@ -1,11 +1,11 @@
 // A dialog's identifier from given parts.
-use crate::parts::first;
-use crate::show::ask;
-use crate::show::ask_size;
-use crate::show::end_line;
-use crate::show::show;
-use crate::show::show_check;
 use headers::DialogId;
+use sheet_lines::ask;
+use sheet_lines::ask_size;
+use sheet_lines::end_line;
+use sheet_lines::first;
+use sheet_lines::show;
+use sheet_lines::show_check;
 
 pub fn identifiers() {
     let rule: &[u8] = b"01 Identifier";

@@ -1,11 +1,11 @@
 // Numbers as Rust reads a u32, and the number and method of CSeq.
-use crate::show::ask;
-use crate::show::ask_block;
-use crate::show::end_line;
-use crate::show::show;
-use crate::show::show_method;
-use crate::show::show_number;
-use crate::show::show_sequence;
+use sheet_lines::ask;
+use sheet_lines::ask_block;
+use sheet_lines::end_line;
+use sheet_lines::show;
+use sheet_lines::show_method;
+use sheet_lines::show_number;
+use sheet_lines::show_sequence;
 
 pub fn numbers() {
     let sheet: &[u8] = b"01 sheet P";

@@ -1,14 +1,14 @@
 // Texts and blocks of 8,192 bytes, which are read, and of 8,193, which are not.
-use crate::parts::first;
-use crate::parts::put;
-use crate::show::ask_size;
-use crate::show::end_line;
-use crate::show::show;
-use crate::show::show_check;
-use crate::show::show_expires;
-use crate::show::show_refusal;
-use crate::show::show_size;
 use headers::PartAnswer;
+use sheet_lines::ask_size;
+use sheet_lines::end_line;
+use sheet_lines::first;
+use sheet_lines::put;
+use sheet_lines::show;
+use sheet_lines::show_check;
+use sheet_lines::show_expires;
+use sheet_lines::show_refusal;
+use sheet_lines::show_size;
 use text::Lookup;
 use uri::UriAnswer;
 

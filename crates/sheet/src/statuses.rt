@@ -1,7 +1,7 @@
 // The classes of a response's status code.
-use crate::show::ask_number;
-use crate::show::end_line;
-use crate::show::show;
+use sheet_lines::ask_number;
+use sheet_lines::end_line;
+use sheet_lines::show;
 
 pub fn statuses() {
     let after_7_2: &[u8] = b"RFC 3261 after 7.2";

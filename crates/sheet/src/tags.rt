@@ -1,7 +1,7 @@
 // The tags of From and To values.
-use crate::show::ask;
-use crate::show::end_line;
-use crate::show::show_tag;
+use sheet_lines::ask;
+use sheet_lines::end_line;
+use sheet_lines::show_tag;
 
 pub fn tags() {
     let rule: &[u8] = b"01 Identifier";

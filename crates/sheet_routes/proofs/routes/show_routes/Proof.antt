@@ -1,9 +1,9 @@
--- `sheet::routes::show_routes` is safe and ends: the measure is how many routes are left of the most. Assumes nothing.
+-- `sheet_routes::routes::show_routes` is safe and ends: the measure is how many routes are left of the most. Assumes nothing.
 use Prim.Native.Nat.{_-_}
 use native.Mathlib.Omega.{arith}
 use borrow.Author.Needs.{needs}
-use Rattle.sheet.proofs.routes.show_routes.Statement.{statement}
-use Rattle.sheet.proofs.routes.show_routes.Tie as tie
+use Rattle.sheet_routes.proofs.routes.show_routes.Statement.{statement}
+use Rattle.sheet_routes.proofs.routes.show_routes.Tie as tie
 
 abbrev Inv-loop : tie.InvT-loop
 Inv-loop block reversed i₀ i = Unit {0}

@@ -1,10 +1,10 @@
 // Contact and Record-Route: the remote target, and the route set as received and reversed.
-use crate::show::ask_block;
-use crate::show::end_line;
-use crate::show::show;
-use crate::show::show_bracketed;
-use crate::show::show_count;
-use crate::show::show_lookup;
+use sheet_lines::ask_block;
+use sheet_lines::end_line;
+use sheet_lines::show;
+use sheet_lines::show_bracketed;
+use sheet_lines::show_count;
+use sheet_lines::show_lookup;
 use text::Lookup;
 
 // No example has more.

@@ -1,11 +1,14 @@
-// How a line of the output is written: where the example stands, what is asked, and each kind of answer.
-use crate::parts::first;
+// How a line of the sheets is written: where the example stands, what is asked, and each kind of answer.
+mod parts;
+
 use headers::ExpiresAnswer;
 use headers::IdAnswer;
 use headers::PartAnswer;
 use headers::Refresher;
 use limits::Check;
 use limits::Refusal;
+pub use parts::first;
+pub use parts::put;
 use prack_headers::MethodAnswer;
 use prack_headers::MethodLookup;
 use prack_headers::NumberAnswer;

@@ -1,10 +1,10 @@
--- `sheet::show::show_block` is safe and ends. Assumes nothing.
+-- `sheet_lines::show_block` is safe and ends. Assumes nothing.
 use Prim.Native.Nat.{_-_}
 use native.Mathlib.Omega.{arith}
 use borrow.Author.Needs.{needs}
 use lib.ListN.{length}
-use Rattle.sheet.proofs.show.show_block.Statement.{statement}
-use Rattle.sheet.proofs.show.show_block.Tie as tie
+use Rattle.sheet_lines.proofs.show_block.Statement.{statement}
+use Rattle.sheet_lines.proofs.show_block.Tie as tie
 
 abbrev Inv-loop : tie.InvT-loop
 Inv-loop block i₀ i = Unit {0}

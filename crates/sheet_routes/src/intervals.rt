@@ -1,14 +1,14 @@
 // Session intervals: refresh, expiry, the minimum, negotiation, and who refreshes. Times are given here in seconds.
-use crate::show::end_line;
-use crate::show::show;
-use crate::show::show_checked;
-use crate::show::show_interval;
-use crate::show::show_role;
-use crate::show::show_seconds;
-use crate::show::show_time;
-use crate::show::show_yes;
 use session_timer_manager::OptionalSeconds;
 use session_timer_manager::OptionalTime;
+use sheet_lines::end_line;
+use sheet_lines::show;
+use sheet_lines::show_checked;
+use sheet_lines::show_interval;
+use sheet_lines::show_role;
+use sheet_lines::show_seconds;
+use sheet_lines::show_time;
+use sheet_lines::show_yes;
 
 const SECOND: u64 = 1000000000;
 

@@ -1,12 +1,12 @@
 // URIs, given ones and those in header values.
-use crate::parts::first;
-use crate::parts::put;
-use crate::show::ask;
-use crate::show::ask_size;
-use crate::show::end_line;
-use crate::show::show_estimate;
-use crate::show::show_lookup;
-use crate::show::show_uri;
+use sheet_lines::ask;
+use sheet_lines::ask_size;
+use sheet_lines::end_line;
+use sheet_lines::first;
+use sheet_lines::put;
+use sheet_lines::show_estimate;
+use sheet_lines::show_lookup;
+use sheet_lines::show_uri;
 
 pub fn uris() {
     examples();

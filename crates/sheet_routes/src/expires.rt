@@ -1,9 +1,9 @@
 // Session-Expires: the interval in seconds, and who refreshes.
-use crate::show::ask;
-use crate::show::ask_block;
-use crate::show::end_line;
-use crate::show::show_expires;
-use crate::show::show_lookup;
+use sheet_lines::ask;
+use sheet_lines::ask_block;
+use sheet_lines::end_line;
+use sheet_lines::show_expires;
+use sheet_lines::show_lookup;
 
 pub fn expires() {
     let after_4: &[u8] = b"RFC 4028 after 4";

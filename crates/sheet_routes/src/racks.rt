@@ -1,16 +1,16 @@
 // Methods by number, RSeq, reliable provisional responses, and RAck read and written.
-use crate::show::ask;
-use crate::show::ask_block;
-use crate::show::ask_number;
-use crate::show::end_line;
-use crate::show::show;
-use crate::show::show_block;
-use crate::show::show_decimal;
-use crate::show::show_method_number;
-use crate::show::show_rack;
-use crate::show::show_reliable;
-use crate::show::show_sequence;
-use crate::show::show_written;
+use sheet_lines::ask;
+use sheet_lines::ask_block;
+use sheet_lines::ask_number;
+use sheet_lines::end_line;
+use sheet_lines::show;
+use sheet_lines::show_block;
+use sheet_lines::show_decimal;
+use sheet_lines::show_method_number;
+use sheet_lines::show_rack;
+use sheet_lines::show_reliable;
+use sheet_lines::show_sequence;
+use sheet_lines::show_written;
 
 pub fn racks() {
     methods();

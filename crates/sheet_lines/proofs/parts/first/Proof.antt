@@ -1,10 +1,10 @@
--- `sheet::parts::first` is safe: the part that it hands out lies within the text. Assumes nothing.
+-- `sheet_lines::parts::first` is safe: the part that it hands out lies within the text. Assumes nothing.
 use native.Mathlib.Omega.{arith}
 use mathlib.Core.Path.{sym}
 use borrow.Author.Needs.{needs}
 use lib.Seq.{length-take-le}
-use Rattle.sheet.proofs.parts.first.Statement.{statement}
-use Rattle.sheet.proofs.parts.first.Tie as tie
+use Rattle.sheet_lines.proofs.parts.first.Statement.{statement}
+use Rattle.sheet_lines.proofs.parts.first.Tie as tie
 
 returns : tie.Need-returns
 returns c = search needs

@@ -1,9 +1,9 @@
 // The created and terminated counts.
-use crate::show::ask;
-use crate::show::end_line;
-use crate::show::show;
-use crate::show::show_decimal;
 use metrics::DialogMetrics;
+use sheet_lines::ask;
+use sheet_lines::end_line;
+use sheet_lines::show;
+use sheet_lines::show_decimal;
 
 const LARGEST: u64 = 18446744073709551615;
 
