@@ -1,7 +1,3 @@
-pub mod ClassLaws
-pub mod DecimalLaws
-pub mod MethodLaws
-pub mod OutputLaws
 pub mod RAckLaws
 pub mod ReadingLaws
 pub mod RoundTrip

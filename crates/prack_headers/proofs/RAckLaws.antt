@@ -3,7 +3,7 @@ use Prim.Native.Nat.{ℕ, _+_, _-_, _<_}
 use native.Mathlib.Omega.{arith}
 use mathlib.Core.Path.{_≡_, refl, sym, ap, _∙_}
 use mathlib.Core.Bool.{Bool, true, false, cond}
-use mathlib.Core.List.{List, [], _∷_, _++_}
+use mathlib.Core.List.{List, [], _∷_, _++_, append-assoc}
 use mathlib.Core.Option.{Option, none, some}
 use lib.ListN.{length, drop, length-drop, length-append, List·getD-eq-default}
 use lib.Dec.{eqb, ltb}
@@ -18,9 +18,11 @@ use Rattle.limits.proofs.Laws.{passed, stopped}
 use Rattle.text.specs.Text.{alike, words}
 use Rattle.text.specs.Number.{readNumber}
 use Rattle.text.specs.Answers.{valueCause}
-use Rattle.prack_headers.specs.Methods.{methodNames, positionFrom, methodOf, nameOf}
+use Rattle.methods.specs.Methods.{methodNames, positionFrom, methodOf, nameOf}
 use Rattle.prack_headers.specs.RAck.{rackOf, readRack, parseRack, rackFrom, spaced, rackText}
-use Rattle.prack_headers.specs.Decimal.{decimalOf}
+use Rattle.edit.specs.Edit.{putAt, over}
+use Rattle.output.proofs.OutputLaws.{put-first, put-next}
+use Rattle.output.specs.Decimal.{decimalOf}
 use Rattle.prack_headers.specs.Words.{wordAt}
 use Rattle.prack_headers.specs.declared.rack.RAck.{RAck}
 use Rattle.prack_headers.specs.declared.rack.RAckReading.the-variants.{Of, Unreadable}
@@ -120,3 +122,20 @@ rack-length r c m p q e = omega (arith, spaced-length (decimalOf r) (decimalOf c
 pub rack-text : (r c m : ℕ) {x y z : List ℕ} → x ≡ decimalOf r → y ≡ decimalOf c → z ≡ nameOf m → spaced x y z ≡ rackText r c m
 unfolding rackText
 rack-text r c m p q e = rw (p, q, e)
+
+-- three pieces with a space between them, put one after another
+pub put-spaced : (a b c bytes o₁ o₂ o₃ o₄ o₅ : List ℕ) → o₁ ≡ putAt 0 a bytes → o₂ ≡ putAt (length a) (32 ∷ []) o₁ → o₃ ≡ putAt (length a + 1) b o₂
+    → o₄ ≡ putAt (length a + 1 + length b) (32 ∷ []) o₃ → o₅ ≡ putAt (length a + 1 + length b + 1) c o₄ → o₅ ≡ over (spaced a b c) bytes
+put-spaced a b c bytes o₁ o₂ o₃ o₄ o₅ p₁ p₂ p₃ p₄ p₅ =
+    let w₂ : List ℕ = a ++ (32 ∷ []) in
+    let w₃ : List ℕ = w₂ ++ b in
+    let w₄ : List ℕ = w₃ ++ (32 ∷ []) in
+    let l₂ : length w₂ ≡ length a + 1 = length-append a (32 ∷ []) in
+    let l₃ : length w₃ ≡ length a + 1 + length b = length-append w₂ b ∙ ap (λ (n : ℕ). n + length b) l₂ in
+    let l₄ : length w₄ ≡ length a + 1 + length b + 1 = length-append w₃ (32 ∷ []) ∙ ap (λ (n : ℕ). n + 1) l₃ in
+    let q₁ : o₁ ≡ over a bytes = p₁ ∙ put-first a bytes in
+    let q₂ : o₂ ≡ over w₂ bytes = p₂ ∙ ap (putAt (length a) (32 ∷ [])) q₁ ∙ put-next a (32 ∷ []) bytes (length a) refl in
+    let q₃ : o₃ ≡ over w₃ bytes = p₃ ∙ ap (putAt (length a + 1) b) q₂ ∙ put-next w₂ b bytes (length a + 1) l₂ in
+    let q₄ : o₄ ≡ over w₄ bytes = p₄ ∙ ap (putAt (length a + 1 + length b) (32 ∷ [])) q₃ ∙ put-next w₃ (32 ∷ []) bytes (length a + 1 + length b) l₃ in
+    let q₅ : w₄ ++ c ≡ spaced a b c = simp append-assoc in
+    p₅ ∙ ap (putAt (length a + 1 + length b + 1) c) q₄ ∙ put-next w₄ c bytes (length a + 1 + length b + 1) l₄ ∙ ap (λ s. over s bytes) q₅

@@ -21,10 +21,7 @@ use Rattle.text.specs.declared.Span.{Span}
 use Rattle.msg.specs.Block.{HeaderLine, linesOf, firstNamed, valueOf, valueNamed, textOf, partOf, foundOf, blockCause}
 use Rattle.msg.proofs.LookupLaws.{Says, found-at}
 use Rattle.msg.specs.declared.Found.the-variants.{At}
-use Rattle.prack_headers.specs.Methods.{methodFrom}
 use Rattle.prack_headers.specs.Sequence.{valueText, readIn, stands, isReliable, reliableProvisional}
-use Rattle.prack_headers.specs.declared.methods.Method.the-variants.{Of, Unknown}
-use Rattle.prack_headers.specs.declared.methods.Method.{Method}
 
 -- the value's bytes in the block are its text
 pub value-text : (name block : List ℕ) → partOf (valueNamed name block) block ≡ valueText name block
@@ -65,7 +62,7 @@ pub found-line : (o : Option HeaderLine) {v : Span} {next : ℕ} → foundOf o �
 found-line none e = absurd (let z : _≡_ {A = ℕ} 0 1 = cc in omega arith)
 found-line (some l) e = refl
 
--- what the answer of a number reading, or of a method reading, says of the number
+-- what the answer of a number reading says of the number
 pub unreadable : (o : Option ℕ) {r : Number} → r ≡ numberFrom o → r ≡ Unreadable → o ≡ none
 unreadable none h e = refl
 unreadable (some n) h e = absurd (let z : _≡_ {A = ℕ} 0 1 = cc in omega arith)
@@ -73,11 +70,3 @@ unreadable (some n) h e = absurd (let z : _≡_ {A = ℕ} 0 1 = cc in omega arit
 pub readable : (o : Option ℕ) {r : Number} {n : ℕ} → r ≡ numberFrom o → r ≡ Value n → o ≡ some n
 readable none h e = absurd (let z : _≡_ {A = ℕ} 0 1 = cc in omega arith)
 readable (some m) h e = cc
-
-pub unknown : (o : Option ℕ) {r : Method} → r ≡ methodFrom o → r ≡ Unknown → o ≡ none
-unknown none h e = refl
-unknown (some n) h e = absurd (let z : _≡_ {A = ℕ} 0 1 = cc in omega arith)
-
-pub known : (o : Option ℕ) {r : Method} {n : ℕ} → r ≡ methodFrom o → r ≡ Of n → o ≡ some n
-known none h e = absurd (let z : _≡_ {A = ℕ} 0 1 = cc in omega arith)
-known (some m) h e = cc

@@ -15,12 +15,12 @@ use Rattle.limits.specs.declared.Refusal.the-variants.{InvalidMethod, NoRoom}
 use Rattle.text.specs.Text.{isDigit, isBlank, isValue, all, alike, split, filled, words}
 use Rattle.text.specs.Number.{nonEmpty}
 use Rattle.text.specs.Answers.{valueCause}
-use Rattle.prack_headers.specs.Decimal.{decimalOf}
-use Rattle.prack_headers.specs.Methods.{methodNames, positionFrom, methodOf, isMethod, nameOf}
+use Rattle.output.specs.Decimal.{decimalOf}
+use Rattle.methods.specs.Methods.{methodNames, positionFrom, methodOf, isMethod, nameOf}
 use Rattle.prack_headers.specs.RAck.{spaced, readRack, rackText, parseRack, formatRack}
-use Rattle.prack_headers.proofs.ClassLaws.{both-left, both-right, within-range, all-append, all-by}
-use Rattle.prack_headers.proofs.DecimalLaws.{decimal, reads, ten-digits}
-use Rattle.prack_headers.proofs.MethodLaws.{fourteen, method-range, Short, name-short}
+use Rattle.output.proofs.ClassLaws.{both-left, both-right, within-range, all-append, all-by}
+use Rattle.output.proofs.DecimalLaws.{decimal, reads, ten-digits}
+use Rattle.methods.proofs.MethodLaws.{fourteen, method-range, Short, name-short}
 use Rattle.prack_headers.proofs.RAckLaws.{spaced-length}
 
 -- ---- words with a space between them

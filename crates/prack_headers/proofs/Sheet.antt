@@ -10,8 +10,8 @@ use Rattle.text.specs.Text.{span, all, alike, split, filled, words, trimmed}
 use Rattle.text.specs.Number.{value, digitsBelow, readNumber}
 use Rattle.text.specs.Answers.{valueCause}
 use Rattle.msg.specs.Block.{lineAt, linesAfter, linesFrom, firstNamed, blockCause}
-use Rattle.prack_headers.specs.Decimal.{decimalIn}
-use Rattle.prack_headers.specs.Methods.{methodNames, positionFrom}
+use Rattle.output.specs.Decimal.{decimalIn}
+use Rattle.methods.specs.Methods.{methodNames, positionFrom}
 use Rattle.prack_headers.specs.RAck.{readRack, rackText, parseRack, formatRack}
 use Rattle.prack_headers.specs.Sequence.{readIn, extractCseqNumber}
 

@@ -13,9 +13,9 @@ use Rattle.limits.specs.declared.Refusal.the-variants.{InvalidRAck}
 use Rattle.text.specs.Text.{words}
 use Rattle.text.specs.Number.{readNumber}
 use Rattle.text.specs.Answers.{valueCause}
-use Rattle.prack_headers.specs.Decimal.{decimalOf}
-use Rattle.prack_headers.specs.Methods.{methodOf, methodCause, nameOf}
-use Rattle.prack_headers.specs.Output.{fitted}
+use Rattle.output.specs.Decimal.{decimalOf}
+use Rattle.methods.specs.Methods.{methodOf, methodCause, nameOf}
+use Rattle.output.specs.Output.{fitted}
 use Rattle.prack_headers.specs.Words.{wordAt}
 use Rattle.prack_headers.specs.declared.rack.RAck.{RAck}
 use Rattle.prack_headers.specs.declared.rack.RAckAnswer.the-variants as answer

@@ -11,7 +11,7 @@ use Rattle.limits.specs.declared.Refusal.the-variants.{MissingHeader}
 use Rattle.text.specs.Text.{within}
 use Rattle.text.specs.Number.{readNumber}
 use Rattle.msg.specs.Block.{HeaderLine, linesOf, firstNamed, textOf, blockCause}
-use Rattle.prack_headers.specs.Methods.{methodOf}
+use Rattle.methods.specs.Methods.{methodOf}
 use Rattle.prack_headers.specs.Words.{wordAt}
 use Rattle.prack_headers.specs.declared.MethodAnswer.the-variants as method
 use Rattle.prack_headers.specs.declared.MethodAnswer.{MethodAnswer}

@@ -1,26 +1,18 @@
-// CSeq and RSeq of a block, as the Rust's prack_validator.rs reads them; RAck and the methods' numbers.
+// CSeq and RSeq of a block, as the Rust's prack_validator.rs reads them; RAck.
 use limits::Check;
 use limits::Refusal;
+use methods::Method;
 use msg::Found;
 use text::Number;
 ghost use mathlib.Core.Path.{_≡_};
 ghost use Rattle.limits.specs.Limits.{rustLimits};
 ghost use Rattle.text.specs.Number.{numberFrom};
-ghost use Rattle.prack_headers.specs.Methods.{methodFrom};
+ghost use Rattle.methods.specs.Methods.{methodFrom};
 ghost use Rattle.prack_headers.specs.Sequence.{rseqNumber, cseqNumber, cseqMethod, extractRseq, extractCseqNumber, extractCseqMethod, reliableProvisional, numberAnswer, methodAnswer, reliableAnswer};
 
-mod methods;
-mod output;
 mod rack;
 mod words;
 
-pub use methods::Method;
-pub use methods::MethodLookup;
-pub use methods::is_method;
-pub use methods::method_number;
-pub use methods::method_of;
-pub use methods::method_text;
-pub use output::Written;
 pub use rack::RAck;
 pub use rack::RAckAnswer;
 pub use rack::RAckReading;
@@ -126,5 +118,5 @@ pub fn cseq_method(block: &[u8]) -> Method
 {
     let value = msg::header_value(block, b"CSeq");
     let rest = words::after_word(value);
-    method_of(words::word(rest))
+    methods::method_of(words::word(rest))
 }

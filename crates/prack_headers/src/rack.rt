@@ -1,20 +1,21 @@
 // RAck (RFC 3262 section 7.2): which provisional response a PRACK acknowledges.
-use crate::methods::Method;
-use crate::methods::is_method;
-use crate::methods::method_of;
-use crate::methods::name_of;
-use crate::output::Written;
-use crate::output::put;
 use crate::words::after_word;
 use crate::words::word;
+use edit::put;
 use limits::Check;
 use limits::Refusal;
+use methods::Method;
+use methods::is_method;
+use methods::method_of;
+use methods::name_of;
+use output::Written;
 use text::Number;
 ghost use mathlib.Core.Path.{_≡_};
 ghost use Prim.Native.Nat.{_+_, _≤_};
 ghost use lib.ListN.{length};
 ghost use Rattle.limits.specs.Limits.{rustLimits};
-ghost use Rattle.prack_headers.specs.Output.{over, leaves, writtenFrom};
+ghost use Rattle.edit.specs.Edit.{over};
+ghost use Rattle.output.specs.Output.{leaves, writtenFrom};
 ghost use Rattle.prack_headers.specs.RAck.{spaced, readRack, parseRack, formatRack, rackFrom, rackAnswer};
 
 pub struct RAck {

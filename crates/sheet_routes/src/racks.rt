@@ -98,14 +98,14 @@ fn writings() {
 
 fn method(place: &[u8], s: &[u8]) {
     ask(place, b"number of ", s);
-    show_method_number(prack_headers::method_number(s));
+    show_method_number(methods::method_number(s));
     end_line();
 }
 
 fn name(place: &[u8], number: u8) {
     ask_number(place, b"method ", number as u64);
     let mut out = [0u8; 16];
-    let w = prack_headers::method_text(number, &mut out);
+    let w = methods::method_text(number, &mut out);
     show_written(&out, w);
     end_line();
 }

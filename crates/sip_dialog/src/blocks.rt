@@ -1,14 +1,14 @@
 // Header blocks and status codes.
-use crate::given::check_number;
-use crate::given::give_lookup;
-use crate::given::give_next;
+use c_answers::check_number;
+use c_answers::give_lookup;
+use c_answers::give_next;
 ghost use mathlib.Core.Path.{_≡_};
 ghost use Rattle.limits.specs.Limits.{rustLimits};
 ghost use Rattle.limits.specs.Outcome.{checkOf};
 ghost use Rattle.text.specs.Answers.{lookupOf, nextOf};
 ghost use Rattle.msg.specs.Block.{blockCause, lookup, lookupFrom};
 ghost use Rattle.msg.specs.Status.{inClass, isErrorCode};
-ghost use Rattle.sip_dialog.specs.Given.{LookupGives, NextGives, checkNumber};
+ghost use Rattle.c_answers.specs.Given.{LookupGives, NextGives, checkNumber};
 
 // The check of a header block: 1, 2.
 #[no_mangle]

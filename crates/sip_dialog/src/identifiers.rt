@@ -1,14 +1,14 @@
 // Tags and identifiers.
-use crate::given::check_number;
-use crate::given::give_id;
-use crate::given::give_part;
+use c_answers::check_number;
+use c_answers::give_id;
+use c_answers::give_part;
 use headers::DialogId;
 ghost use mathlib.Core.Path.{_≡_};
 ghost use Rattle.limits.specs.Limits.{rustLimits};
 ghost use Rattle.limits.specs.Outcome.{checkOf};
 ghost use Rattle.headers.specs.Tag.{partAnswer, extractTag};
 ghost use Rattle.headers.specs.DialogId.{identifierCause, idAnswer, fromRequest, fromResponseUac, fromResponseUas};
-ghost use Rattle.sip_dialog.specs.Given.{PartGives, IdGives, checkNumber};
+ghost use Rattle.c_answers.specs.Given.{PartGives, IdGives, checkNumber};
 
 // The tag of a From or To value: 1, 2, 4.
 #[no_mangle]

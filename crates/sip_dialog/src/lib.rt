@@ -1,6 +1,5 @@
 // The C face: functions on numbers and byte runs. Nothing but calls, and answers handed over.
 mod blocks;
-mod given;
 mod identifiers;
 mod prack;
 mod timers;

@@ -1,18 +1,18 @@
 // CSeq, RSeq, RAck and method numbers.
-use crate::given::give_method;
-use crate::given::give_method_lookup;
-use crate::given::give_number;
-use crate::given::give_rack;
-use crate::given::give_reliable;
-use crate::given::give_written;
+use c_answers::give_method;
+use c_answers::give_method_lookup;
+use c_answers::give_number;
+use c_answers::give_rack;
+use c_answers::give_reliable;
+use c_answers::give_written;
 ghost use mathlib.Core.Path.{_≡_};
 ghost use lib.ListN.{length};
 ghost use Rattle.limits.specs.Limits.{rustLimits};
 ghost use Rattle.prack_headers.specs.Sequence.{numberAnswer, methodAnswer, reliableAnswer, extractCseqNumber, extractCseqMethod, extractRseq, reliableProvisional};
-ghost use Rattle.prack_headers.specs.Methods.{methodLookup, methodNumber, methodText};
+ghost use Rattle.methods.specs.Methods.{methodLookup, methodNumber, methodText};
 ghost use Rattle.prack_headers.specs.RAck.{rackAnswer, parseRack, formatRack};
-ghost use Rattle.prack_headers.specs.Output.{writtenFrom, leaves};
-ghost use Rattle.sip_dialog.specs.Given.{NumberGives, MethodGives, ReliableGives, MethodLookupGives, WrittenGives, RackGives};
+ghost use Rattle.output.specs.Output.{writtenFrom, leaves};
+ghost use Rattle.c_answers.specs.Given.{NumberGives, MethodGives, ReliableGives, MethodLookupGives, WrittenGives, RackGives};
 
 // The number of a block's CSeq: 1, 2, 4.
 #[no_mangle]
@@ -58,7 +58,7 @@ pub extern "C" fn sip_dialog_is_reliable_provisional(
 pub extern "C" fn sip_dialog_method_number(text: &[u8], found: &mut u8, method: &mut u8) -> u8
     ensures { λ r. ⌜ MethodLookupGives (methodLookup (methodNumber rustLimits (now (text .entry)))) (record { found = now (found .entry); method = now (method .entry) }) r (record { found = now (found .exit); method = now (method .exit) }) ⌝ }
 {
-    give_method_lookup(prack_headers::method_number(text), found, method)
+    give_method_lookup(methods::method_number(text), found, method)
 }
 
 // The text of a method at the front of the lent bytes: 28, 18.
@@ -67,7 +67,7 @@ pub extern "C" fn sip_dialog_method_text(method: u8, out: &mut [u8], written: &m
     ensures { λ r. ⌜ WrittenGives (writtenFrom (methodText method (length (now (out .entry))))) (now (written .entry)) r (now (written .exit)) ⌝ }
     ensures { λ _. ⌜ now (out .exit) ≡ leaves (methodText method (length (now (out .entry)))) (now (out .entry)) ⌝ }
 {
-    give_written(prack_headers::method_text(method, out), written)
+    give_written(methods::method_text(method, out), written)
 }
 
 // The three parts of a RAck value: 1, 2, 19.

@@ -1,16 +1,16 @@
 // Session intervals and the two counts.
-use crate::given::give_interval;
-use crate::given::give_role;
-use crate::given::give_validated;
-use crate::given::seconds_if;
-use crate::given::time_if;
+use c_answers::give_interval;
+use c_answers::give_role;
+use c_answers::give_validated;
+use c_answers::seconds_if;
+use c_answers::time_if;
 ghost use mathlib.Core.Path.{_≡_};
 ghost use Rattle.limits.specs.Limits.{rustLimits};
 ghost use Rattle.session_timer_manager.specs.Answers.{timeOf, secondsOf, textIf, intervalFrom, roleFrom};
 ghost use Rattle.session_timer_manager.specs.Intervals.{validated, negotiated, nonRefresherExpiry, refreshTime, refreshDue};
 ghost use Rattle.session_timer_manager.specs.Refresher.{refresherRole};
 ghost use Rattle.metrics.specs.Metrics.{counted};
-ghost use Rattle.sip_dialog.specs.Given.{ValidatedGives, IntervalGives, RoleGives, optionalTime, optionalSeconds};
+ghost use Rattle.c_answers.specs.Given.{ValidatedGives, IntervalGives, RoleGives, optionalTime, optionalSeconds};
 
 // An interval in nanoseconds against a minimum: 13 with the least.
 #[no_mangle]

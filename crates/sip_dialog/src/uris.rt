@@ -1,13 +1,13 @@
 // URIs.
-use crate::given::give_estimate;
-use crate::given::give_lookup;
-use crate::given::give_uri;
+use c_answers::give_estimate;
+use c_answers::give_lookup;
+use c_answers::give_uri;
 ghost use mathlib.Core.Path.{_≡_};
 ghost use Rattle.limits.specs.Limits.{rustLimits};
 ghost use Rattle.text.specs.Answers.{lookupOf};
 ghost use Rattle.uri.specs.SipUri.{uriAnswer, readUri, estimateAnswer, readEstimate};
 ghost use Rattle.uri.specs.HeaderUri.{uriFromHeader};
-ghost use Rattle.sip_dialog.specs.Given.{UriGives, EstimateGives, LookupGives};
+ghost use Rattle.c_answers.specs.Given.{UriGives, EstimateGives, LookupGives};
 
 // The parts of a URI: 1, 6. Without a user part its length is 0 and its place the host's.
 #[no_mangle]

@@ -1,15 +1,15 @@
 // Header values and route sets.
-use crate::given::give_count;
-use crate::given::give_expires;
-use crate::given::give_lookup;
-use crate::given::give_next;
+use c_answers::give_count;
+use c_answers::give_expires;
+use c_answers::give_lookup;
+use c_answers::give_next;
 ghost use mathlib.Core.Path.{_≡_};
 ghost use Rattle.limits.specs.Limits.{rustLimits};
 ghost use Rattle.text.specs.Answers.{lookupOf, nextOf};
 ghost use Rattle.headers.specs.SessionExpires.{expiresAnswer, parseExpires, blockExpires};
 ghost use Rattle.route_set.specs.Parts.{nextHeaderValue};
 ghost use Rattle.route_set.specs.Routes.{contact, routeCount, routeAt, countOf};
-ghost use Rattle.sip_dialog.specs.Given.{NextGives, LookupGives, CountGives, ExpiresGives};
+ghost use Rattle.c_answers.specs.Given.{NextGives, LookupGives, CountGives, ExpiresGives};
 
 // The next element of a value from a place on: 1, 2.
 #[no_mangle]

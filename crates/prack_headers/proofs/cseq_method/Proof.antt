@@ -1,7 +1,7 @@
 -- `prack_headers::cseq_method` meets its contract: the method of the value's second word. Assumes nothing.
 use mathlib.Core.Path.{ap, _∙_}
 use borrow.Author.Needs.{needs}
-use Rattle.prack_headers.specs.Methods.{methodFrom, methodOf}
+use Rattle.methods.specs.Methods.{methodFrom, methodOf}
 use Rattle.prack_headers.specs.Sequence.{cseqName}
 use Rattle.prack_headers.specs.Words.{wordAt}
 use Rattle.prack_headers.proofs.ReadingLaws.{value-text}

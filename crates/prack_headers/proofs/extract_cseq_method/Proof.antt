@@ -3,7 +3,8 @@ use mathlib.Core.Path.{sym, ap}
 use borrow.Author.Needs.{needs}
 use Rattle.limits.specs.Limits.{rustLimits}
 use Rattle.prack_headers.specs.Sequence.{cseqMethod, methodAnswer}
-use Rattle.prack_headers.proofs.ReadingLaws.{stopped-read, missing-read, done-read, unknown, known}
+use Rattle.prack_headers.proofs.ReadingLaws.{stopped-read, missing-read, done-read}
+use Rattle.methods.proofs.MethodLaws.{unknown, known}
 use Rattle.prack_headers.proofs.extract_cseq_method.Statement.{statement}
 use Rattle.prack_headers.proofs.extract_cseq_method.Tie as tie
 

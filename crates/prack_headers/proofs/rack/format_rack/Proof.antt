@@ -6,12 +6,12 @@ use mathlib.Core.Bool.{true}
 use lib.ListN.{length}
 use borrow.Author.Tests.{not-true, not-false}
 use borrow.Author.Needs.{needs}
-use Rattle.prack_headers.specs.Methods.{isMethod}
-use Rattle.prack_headers.specs.Output.{over}
+use Rattle.methods.specs.Methods.{isMethod}
+use Rattle.edit.specs.Edit.{over}
 use Rattle.prack_headers.specs.RAck.{rackText}
-use Rattle.prack_headers.proofs.DecimalLaws.{Spelled, spelled}
-use Rattle.prack_headers.proofs.MethodLaws.{method-range, row-fits, name-short}
-use Rattle.prack_headers.proofs.OutputLaws.{no-method, no-room, fits, kept, wrote}
+use Rattle.output.proofs.DecimalLaws.{Spelled, spelled}
+use Rattle.methods.proofs.MethodLaws.{method-range, row-fits, name-short, no-method, no-room, fits}
+use Rattle.output.proofs.OutputLaws.{kept, wrote}
 use Rattle.prack_headers.proofs.RAckLaws.{rack-length, rack-text}
 use Rattle.prack_headers.proofs.rack.format_rack.Statement.{statement}
 use Rattle.prack_headers.proofs.rack.format_rack.Tie as tie

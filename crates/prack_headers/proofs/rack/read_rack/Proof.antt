@@ -5,11 +5,12 @@ use lib.ListN.{drop}
 use borrow.Author.Needs.{needs}
 use Rattle.text.specs.Text.{words}
 use Rattle.text.specs.Number.{numberFrom, readNumber}
-use Rattle.prack_headers.specs.Methods.{methodFrom, methodOf}
+use Rattle.methods.specs.Methods.{methodFrom, methodOf}
 use Rattle.prack_headers.specs.RAck.{rackFrom}
 use Rattle.prack_headers.specs.Words.{wordAt}
 use Rattle.prack_headers.proofs.WordLaws.{next-word, after-three, some-word, no-word}
-use Rattle.prack_headers.proofs.ReadingLaws.{unreadable, readable, unknown, known}
+use Rattle.prack_headers.proofs.ReadingLaws.{unreadable, readable}
+use Rattle.methods.proofs.MethodLaws.{unknown, known}
 use Rattle.prack_headers.proofs.RAckLaws.{first-bad, second-bad, third-bad, too-many, three}
 use Rattle.prack_headers.proofs.rack.read_rack.Statement.{statement}
 use Rattle.prack_headers.proofs.rack.read_rack.Tie as tie

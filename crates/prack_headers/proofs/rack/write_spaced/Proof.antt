@@ -1,6 +1,6 @@
 -- `prack_headers::write_spaced` meets its contract: five pieces, one after another. Assumes nothing.
 use borrow.Author.Needs.{needs}
-use Rattle.prack_headers.proofs.OutputLaws.{put-spaced}
+use Rattle.prack_headers.proofs.RAckLaws.{put-spaced}
 use Rattle.prack_headers.proofs.rack.write_spaced.Statement.{statement}
 use Rattle.prack_headers.proofs.rack.write_spaced.Tie as tie
 

@@ -1,6 +1,6 @@
 -- `sip_dialog_check_block` meets its contract: what is handed over is the answer of the call. Assumes nothing.
 use mathlib.Core.Path.{ap, _∙_}
-use Rattle.sip_dialog.specs.Given.{checkNumber}
+use Rattle.c_answers.specs.Given.{checkNumber}
 use borrow.Author.Needs.{needs}
 use Rattle.sip_dialog.proofs.blocks.sip_dialog_check_block.Statement.{statement}
 use Rattle.sip_dialog.proofs.blocks.sip_dialog_check_block.Tie as tie

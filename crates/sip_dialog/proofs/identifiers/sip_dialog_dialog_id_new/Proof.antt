@@ -1,6 +1,6 @@
 -- `sip_dialog_dialog_id_new` meets its contract: what is handed over is the answer of the call. Assumes nothing.
 use mathlib.Core.Path.{ap, _∙_}
-use Rattle.sip_dialog.specs.Given.{checkNumber}
+use Rattle.c_answers.specs.Given.{checkNumber}
 use borrow.Author.Needs.{needs}
 use Rattle.sip_dialog.proofs.identifiers.sip_dialog_dialog_id_new.Statement.{statement}
 use Rattle.sip_dialog.proofs.identifiers.sip_dialog_dialog_id_new.Tie as tie
