@@ -1,12 +1,12 @@
 -- Laws of lists that the in-place edits turn on. Assumes nothing.
-use mathlib.Core.Path.{_≡_, refl, sym, ap, _∙_}
+use mathlib.Core.Path.{_≡_, refl, sym, ap, subst, _∙_}
 use mathlib.Core.List.{List, [], _∷_, _++_, append-assoc, append-nil}
 use Prim.Native.Nat.{ℕ, zero, suc, _+_, _-_, _≤_, _<_}
 use native.Mathlib.Nat.{not-suc-le-zero, add-suc, suc-add, add-zero, zero-add, add-assoc}
 use native.Mathlib.Numerals.{add-one}
 use native.Mathlib.Omega.{arith}
 use lib.ListN.{length, take, drop, getD, set, length-append, length-take, length-drop, length-set, take-append-drop}
-use lib.Seq.{paste, paste-suc, drop-paste, take-paste, getD-drop, getD-take, take-suc, drop-cons, set-at, append-snoc, length-take-le, take-length, take-at, take-add, drop-at, take-take, take-append-le}
+use lib.Seq.{paste, paste-suc, drop-paste, take-paste, getD-drop, getD-take, take-suc, drop-cons, set-at, append-snoc, length-take-le, take-length, take-at, take-add, drop-at, take-take, take-append-le, drop-append-add, drop-drop}
 use Rattle.edit.specs.Edit.{putAt, over, spliced}
 
 -- what stands at i, where two lists agree from m on, or up to m
@@ -86,3 +86,43 @@ module _ (s piece : List ℕ) (used at old : ℕ) (a : at + old ≤ used) (b : u
       let w : length (take (at + length piece) s) ≡ at + length piece = length-take-le (at + length piece) s (omega arith) in
       let v : take at (take (at + length piece) s) ≡ take at s = take-take at (at + length piece) s (omega arith) in
       rw (x, y, length-append, length-append, z, k, take-append-le at (take (at + length piece) s) (t ++ drop (at + length piece + n) s) (simp w (omega arith)), v, drop-at (take (at + length piece) s) (t ++ drop (at + length piece + n) s) (at + length piece) w, append-assoc, append-assoc, add-assoc)
+
+-- ---- pieces written one after another
+
+-- nothing written
+pub put-nothing : (at : ℕ) (bytes : List ℕ) → putAt at [] bytes ≡ bytes
+put-nothing at bytes = rw (add-zero, take-append-drop)
+
+-- a piece, and the next one after it
+pub put-put : (at : ℕ) (a b bytes : List ℕ) → at ≤ length bytes → putAt (at + length a) b (putAt at a bytes) ≡ putAt at (a ++ b) bytes
+put-put at a b bytes h =
+    let p : List ℕ = take at bytes ++ a in
+    let d : List ℕ = drop (at + length a) bytes in
+    let z : length p ≡ at + length a = length-append (take at bytes) a ∙ ap (λ (n : ℕ). n + length a) (length-take-le at bytes h) in
+    let w : putAt at a bytes ≡ p ++ d = sym (append-assoc (take at bytes) a d) in
+    let x : take (at + length a) (p ++ d) ≡ p = take-at p d (at + length a) z in
+    let y : drop (at + length a + length b) (p ++ d) ≡ drop (length b) d = ap (λ (n : ℕ). drop (n + length b) (p ++ d)) (sym z) ∙ drop-append-add p d (length b) in
+    let k : at + length a + length b ≡ at + length (a ++ b) = omega (arith, length-append a b) in
+    let v : drop (length b) d ≡ drop (at + length (a ++ b)) bytes = drop-drop (length b) (at + length a) bytes ∙ ap (λ (n : ℕ). drop n bytes) k in
+    rw (w, x, y, v, append-assoc, append-assoc)
+
+-- a piece was written at a place: the place after it, and the bytes after
+abbrev pub Wrote : ℕ → List ℕ → List ℕ → ℕ → List ℕ → Type 0
+Wrote at a bytes next after = (next ≡ at + length a) × (after ≡ putAt at a bytes)
+
+pub wrote-then : (at : ℕ) (a b bytes : List ℕ) {m n : ℕ} {o₁ o₂ : List ℕ} → at ≤ length bytes → Wrote at a bytes m o₁ → Wrote m b o₁ n o₂ → Wrote at (a ++ b) bytes n o₂
+wrote-then at a b bytes {m} {n} {o₁} {o₂} h p q = (
+  omega (arith, p .0, q .0, length-append a b),
+  q .1 ∙ ap (λ (k : ℕ). putAt k b o₁) (p .0) ∙ ap (putAt (at + length a) b) (p .1) ∙ put-put at a b bytes h,
+)
+
+-- the same piece by another name
+pub wrote-as : (at : ℕ) (bytes : List ℕ) {m : ℕ} {a b o : List ℕ} → a ≡ b → Wrote at a bytes m o → Wrote at b bytes m o
+wrote-as at bytes {m} {a} {b} {o} e w = subst (λ (s : List ℕ). Wrote at s bytes m o) e w
+
+-- three pieces
+pub wrote-three : (at : ℕ) (a b c bytes : List ℕ) {m n o : ℕ} {x y z : List ℕ} → at ≤ length bytes → Wrote at a bytes m x → Wrote m b x n y → Wrote n c y o z
+    → Wrote at (a ++ (b ++ c)) bytes o z
+wrote-three at a b c bytes {m} {n} {o} {x} {y} {z} h p q r =
+    let w : Wrote at ((a ++ b) ++ c) bytes o z = wrote-then at (a ++ b) c bytes h (wrote-then at a b bytes h p q) r in
+    rw (sym (append-assoc a b c)) w

@@ -116,9 +116,16 @@ more-length : (n : ℕ) (s : List ℕ) → 10 ≤ n → ((j : ℕ) → n / 10 < 
 more-length n s l h zero q = absurd (omega arith)
 more-length n s l h (suc j) q = omega (arith, length-append s ((48 + n % 10) ∷ []), h j (omega (arith, pow-suc 10 (suc j))))
 
--- a number of 32 bits has at most ten digits
+-- as many digits as the power of ten that is larger
+few-digits : (n j : ℕ) → n < 10 ^ suc j → length (decimalOf n) ≤ suc j
+few-digits n = of-decimal (λ n s. (j : ℕ) → n < 10 ^ suc j → length s ≤ suc j) (λ n h j q. omega arith) more-length n
+
+-- a number of 32 bits has at most ten digits, one of 64 bits at most twenty
 pub ten-digits : (n : ℕ) → n < 2 ^ 32 → length (decimalOf n) ≤ 10
-ten-digits n h = of-decimal (λ n s. (j : ℕ) → n < 10 ^ suc j → length s ≤ suc j) (λ n h j q. omega arith) more-length n 9 (omega arith)
+ten-digits n h = few-digits n 9 (omega arith)
+
+pub twenty-digits : (n : ℕ) → n < 2 ^ 64 → length (decimalOf n) ≤ 20
+twenty-digits n h = few-digits n 19 (omega arith)
 
 -- what `io::decimal` leaves of n in the bytes `out`
 pub record Spelled (n k : ℕ) (out : List ℕ) : Type 0 where

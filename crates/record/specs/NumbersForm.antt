@@ -49,3 +49,29 @@ kindIn method.Other = other
 abbrev pub outcomeIn : Step → Outcome Numbers
 outcomeIn (step.Taken x) = given (meaning x)
 outcomeIn (step.Refused cause) = refused cause
+
+-- ---- the code's numbers for given ones
+
+abbrev pub stateFrom : State → CodeState
+stateFrom early = state.Early
+stateFrom confirmed = state.Confirmed
+stateFrom terminated = state.Terminated
+
+abbrev pub numberFrom : Option ℕ → Optional
+numberFrom none = optional.Absent
+numberFrom (some n) = optional.Number n
+
+abbrev pub sideFrom : Option Side → Refresher
+sideFrom none = refresher.Unspecified
+sideFrom (some uac) = refresher.Uac
+sideFrom (some uas) = refresher.Uas
+
+abbrev pub numbersFrom : Numbers → CodeNumbers
+numbersFrom x = record {
+  state = stateFrom (x .state);
+  local = x .local;
+  remote = x .remote;
+  «last_ack» = numberFrom (x .lastAck);
+  seconds = numberFrom (x .seconds);
+  refresher = sideFrom (x .refresher);
+}

@@ -141,17 +141,24 @@ Tail = Pair ℕ (Pair ℕ (Pair (Option ℕ) (Pair (Option ℕ) (Pair (Option Si
 abbrev pub Fields : Type 0
 Fields = Pair Ids (Pair StateByte (Pair Uris Tail))
 
--- the fields whose bit stands in the map
-abbrev pub fields : ℕ → Codec Fields
-fields m =
-    then (then (idText (stands 0 m)) (then (idText (stands 1 m)) (idText (stands 2 m))))
-    (then stateByte
-    (then (then uriText (then uriText uriText))
-    (then (number (stands 7 m))
+-- the identifiers, the URIs, and the numbers with the routes
+abbrev pub idsField : ℕ → Codec Ids
+idsField m = then (idText (stands 0 m)) (then (idText (stands 1 m)) (idText (stands 2 m)))
+
+abbrev pub urisField : Codec Uris
+urisField = then uriText (then uriText uriText)
+
+abbrev pub tailField : ℕ → Codec Tail
+tailField m =
+    then (number (stands 7 m))
     (then (number (stands 8 m))
     (then (optional (stands 9 m))
     (then (optional (stands 10 m))
-    (then (refresherField (stands 11 m)) (routesField (stands 12 m)))))))))
+    (then (refresherField (stands 11 m)) (routesField (stands 12 m))))))
+
+-- the fields whose bit stands in the map
+abbrev pub fields : ℕ → Codec Fields
+fields m = then (idsField m) (then stateByte (then urisField (tailField m)))
 
 -- whether a list has elements, and an option a value
 abbrev pub isFilled : {A : Type 0} → List A → Bool

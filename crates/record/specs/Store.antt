@@ -1,5 +1,5 @@
 -- The used bytes of a store: records one after another, one per identifier (document 01, "Record image" and refusal 3).
-use Prim.Native.Nat.{ℕ, zero, suc}
+use Prim.Native.Nat.{ℕ, zero, suc, _+_}
 use mathlib.Core.Bool.{Bool, true, false, cond, not, _&&_}
 use mathlib.Core.List.{List, [], _∷_}
 use mathlib.Core.Option.{Option, none, some}
@@ -54,3 +54,8 @@ onlyDistinct (some rs) = cond (distinct rs) (some rs) none
 -- the records of a store's used bytes; every image has a byte, so there are no more records than bytes
 unfoldable pub decodeAll : List ℕ → Option (List Record)
 decodeAll s = onlyDistinct (recordsIn (length s) s)
+
+-- where the images of records lie, the first at a place
+unfoldable pub placesFrom : ℕ → List Record → List ℕ
+placesFrom at [] = []
+placesFrom at (r ∷ rs) = at ∷ placesFrom (at + length (image .write r)) rs

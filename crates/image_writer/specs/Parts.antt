@@ -1,0 +1,71 @@
+-- A record's image from its parts, in the order of document 01, "Record image": the bit map, the identifiers, the state byte, the URIs, the
+-- numbers, and the routes as a section that is encoded already (no bytes where there are no routes). That these are the bytes of `image`
+-- (record/specs/Record.antt) is the law `image-parts`.
+use Prim.Native.Nat.{ℕ, _+_, _*_, _<_}
+use mathlib.Core.Bool.{Bool, true, false}
+use mathlib.Core.List.{List, _∷_, [], _++_}
+use lib.ListN.{length}
+use lib.Dec.{ltb}
+use Rattle.record.specs.Codec.{two, text}
+use Rattle.record.specs.Record.{Numbers, Ids, Uris, StateByte, bitOf, isFilled, isGiven, idsMap, idText, number, optional, refresherField, stateByteNumber}
+
+-- the parts of a record that are given
+pub record Parts : Type 0 where
+  pub numbers : Numbers
+  pub weAreUac : Bool
+  pub secure : Bool
+  pub ids : Ids
+  pub uris : Uris
+  -- the routes' section
+  pub routes : List ℕ
+
+-- ---- the sections
+
+abbrev pub idsBytes : Ids → List ℕ
+idsBytes i =
+    idText (isFilled (i .first)) .write (i .first)
+    ++ (idText (isFilled (i .second .first)) .write (i .second .first) ++ idText (isFilled (i .second .second)) .write (i .second .second))
+
+abbrev pub urisBytes : Uris → List ℕ
+urisBytes u = text .write (u .first) ++ (text .write (u .second .first) ++ text .write (u .second .second))
+
+abbrev pub numbersBytes : Numbers → List ℕ
+numbersBytes x =
+    number (ltb 0 (x .local)) .write (x .local)
+    ++ (number (ltb 0 (x .remote)) .write (x .remote)
+    ++ (optional (isGiven (x .lastAck)) .write (x .lastAck)
+    ++ (optional (isGiven (x .seconds)) .write (x .seconds) ++ refresherField (isGiven (x .refresher)) .write (x .refresher))))
+
+-- ---- the map
+
+abbrev pub numbersMap : Numbers → ℕ
+numbersMap x =
+    128 * bitOf (ltb 0 (x .local))
+    + 256 * bitOf (ltb 0 (x .remote))
+    + 512 * bitOf (isGiven (x .lastAck))
+    + 1024 * bitOf (isGiven (x .seconds))
+    + 2048 * bitOf (isGiven (x .refresher))
+
+abbrev pub mapOfParts : Parts → ℕ
+mapOfParts p = idsMap (p .ids) + 120 + (numbersMap (p .numbers) + 4096 * bitOf (isFilled (p .routes)))
+
+-- ---- the image
+
+abbrev pub stateByteOf : Parts → ℕ
+stateByteOf p = stateByteNumber (record { state = p .numbers .state; weAreUac = p .weAreUac; secure = p .secure })
+
+unfoldable pub imageOf : Parts → List ℕ
+imageOf p =
+    two .write (mapOfParts p)
+    ++ (idsBytes (p .ids) ++ ((stateByteOf p ∷ []) ++ (urisBytes (p .uris) ++ (numbersBytes (p .numbers) ++ p .routes))))
+
+-- the parts as the writer is given them: identifiers, URIs, routes
+abbrev pub partsOf : Numbers → Bool → Bool → List ℕ → List ℕ → List ℕ → List ℕ → List ℕ → List ℕ → List ℕ → Parts
+partsOf x weAreUac secure callId localTag remoteTag target localUri remoteUri routes = record {
+  numbers = x;
+  weAreUac = weAreUac;
+  secure = secure;
+  ids = record { first = callId; second = record { first = localTag; second = remoteTag } };
+  uris = record { first = target; second = record { first = localUri; second = remoteUri } };
+  routes = routes;
+}
