@@ -28,8 +28,8 @@
 extern "C" {
 #endif
 
-/* Why a call is turned back. None of the functions below returns 3, 5, 9 to 12, 14 to 17 or 20 to 24: these belong to calls
-   on stores. */
+/* Why a call is turned back. None of the functions below returns 5, 9 to 12, 14 to 17 or 20 to 24: these belong to calls
+   that change records. */
 enum sip_dialog_refusal {
     SIP_DIALOG_ACCEPTED = 0,
     SIP_DIALOG_TEXT_TOO_LONG = 1,              /* a given text or block is over 8,192 bytes */
@@ -225,6 +225,16 @@ bool sip_dialog_needs_refresh(bool has_interval, uint32_t seconds, uint64_t elap
 /* Whether we refresh, by the text of a refresher parameter, if one is given: we_refresh 1 for yes, 0 for no (not uac or uas).
    `uas`, `UAS`: if we aren't uac; all else, `Uas` too: if we are. Refuses with 1, if a text is given. */
 uint8_t sip_dialog_determine_refresher_role(bool given, const uint8_t *text, size_t text_len, bool is_uac, uint8_t *we_refresh);
+
+/* ---- Stores of records: docs/LAYOUTS.md has their bytes. Neither function changes a byte of the store. */
+
+/* How many records a store holds, of whose lent bytes the first `used` are used. Refuses with 3: used over store_len, used bytes
+   that aren't whole record images, or one identifier twice. */
+uint8_t sip_dialog_count(const uint8_t *store, size_t store_len, size_t used, size_t *count);
+
+/* Writes the handover listing of a store's used bytes to the front of out, without a zero byte, and answers its length: a line for
+   each record, then `total` and their number, each line ended by a line feed. Refuses with 1 (over 65,536 bytes), 3, 18. */
+uint8_t sip_dialog_listing(const uint8_t *store, size_t store_len, uint8_t *out, size_t out_len, size_t *length);
 
 /* ---- Counts of dialogs */
 

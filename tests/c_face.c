@@ -1369,6 +1369,122 @@ static void test_determine_refresher_role(void)
     CHECK(role_is(false, buffer, 1, 0));
 }
 
+/* ---- Stores of records */
+
+enum {
+    LISTED = 65536, /* the largest store that is listed */
+    MANY = 300      /* records of a store that is larger than 4,096 bytes */
+};
+
+/* Document 01's example: Call-ID "c1", tags "L" and "R", Confirmed, we are uas, remote number 7. */
+static const uint8_t sheet_record[] = {
+    0x01, 0x7F, 0, 2, 'c', '1', 0, 1, 'L', 0, 1, 'R', 2, 0, 7, 's', 'i', 'p', ':', 'r', '@', 'h', 0, 7, 's', 'i', 'p', ':', 'l',
+    '@', 'h', 0, 7, 's', 'i', 'p', ':', 'r', '@', 'h', 0, 0, 0, 7};
+
+enum { RECORD = sizeof sheet_record };
+
+/* The example's record so many times, each with a Call-ID of its own, from place 0 on. */
+static void records(uint8_t *store, size_t count)
+{
+    size_t i;
+    for (i = 0; i < count; i++) {
+        memcpy(store + i * RECORD, sheet_record, RECORD);
+        store[i * RECORD + 4] = (uint8_t)('a' + i / 26 % 26);
+        store[i * RECORD + 5] = (uint8_t)('a' + i % 26);
+    }
+}
+
+/* count of a store that is lent with its used length; KEPT where it is refused. */
+static bool count_of_is(const uint8_t *store, size_t lent, size_t used, uint8_t number, size_t expected)
+{
+    uint8_t *bytes = memory(lent);
+    size_t count = KEPT;
+    bool holds;
+    if (lent > 0) {
+        memcpy(bytes, store, lent);
+    }
+    holds = sip_dialog_count(bytes, lent, used, &count) == number && count == (number == 0 ? expected : KEPT);
+    holds = holds && (lent == 0 || memcmp(bytes, store, lent) == 0);
+    free(bytes);
+    return holds;
+}
+
+static void test_count(void)
+{
+    static uint8_t store[MANY * RECORD + 1];
+    records(store, MANY);
+    CHECK(count_of_is(store, 0, 0, 0, 0));
+    CHECK(count_of_is(store, 10, 0, 0, 0));
+    CHECK(count_of_is(sheet_record, RECORD, RECORD, 0, 1));
+    CHECK(count_of_is(store, 2 * RECORD, RECORD, 0, 1));
+    CHECK(count_of_is(store, 2 * RECORD, 2 * RECORD, 0, 2));
+    CHECK(count_of_is(store, MANY * RECORD, MANY * RECORD, 0, MANY));
+    CHECK(count_of_is(store, 0, 1, 3, 0));
+    CHECK(count_of_is(store, RECORD, RECORD + 1, 3, 0));
+    CHECK(count_of_is(store, RECORD, SIZE_MAX, 3, 0));
+    CHECK(count_of_is(store, RECORD, RECORD - 1, 3, 0));
+    CHECK(count_of_is(store, MANY * RECORD + 1, MANY * RECORD + 1, 3, 0));
+    /* one identifier twice: neighbours, and the first and the last */
+    memcpy(store + RECORD, store, RECORD);
+    CHECK(count_of_is(store, 2 * RECORD, 2 * RECORD, 3, 0));
+    CHECK(count_of_is(store, MANY * RECORD, MANY * RECORD, 3, 0));
+    records(store, MANY);
+    memcpy(store + (MANY - 1) * RECORD, store, RECORD);
+    CHECK(count_of_is(store, (MANY - 1) * RECORD, (MANY - 1) * RECORD, 0, MANY - 1));
+    CHECK(count_of_is(store, MANY * RECORD, MANY * RECORD, 3, 0));
+}
+
+/* The listing of so many bytes into so much room: its text, or the number with every lent byte kept. */
+static bool listing_is(const uint8_t *store, size_t used, size_t room, uint8_t number, const char *text)
+{
+    uint8_t *bytes = memory(used);
+    uint8_t *out = memory(room);
+    size_t length = KEPT;
+    size_t written = number == 0 ? strlen(text) : 0;
+    size_t i;
+    bool holds;
+    if (used > 0) {
+        memcpy(bytes, store, used);
+    }
+    if (room > 0) {
+        memset(out, KEPT, room);
+    }
+    holds = sip_dialog_listing(bytes, used, out, room, &length) == number;
+    holds = holds && length == (number == 0 ? written : KEPT);
+    holds = holds && (written == 0 || memcmp(out, text, written) == 0);
+    for (i = written; i < room; i++) {
+        holds = holds && out[i] == KEPT;
+    }
+    holds = holds && (used == 0 || memcmp(bytes, store, used) == 0);
+    free(bytes);
+    free(out);
+    return holds;
+}
+
+static void test_listing(void)
+{
+    static uint8_t large[LISTED + 1];
+    static uint8_t store[2 * RECORD];
+    const char *one = "1 C uas 0 7 - - - 0\ntotal 1\n";
+    const char *two = "1 C uas 0 7 - - - 0\n2 C uas 0 7 - - - 0\ntotal 2\n";
+    CHECK(listing_is(sheet_record, RECORD, 100, 0, one));
+    CHECK(listing_is(sheet_record, RECORD, strlen(one), 0, one));
+    CHECK(listing_is(sheet_record, RECORD, strlen(one) - 1, 18, NULL));
+    CHECK(listing_is(sheet_record, RECORD, 0, 18, NULL));
+    CHECK(listing_is(NULL, 0, 8, 0, "total 0\n"));
+    CHECK(listing_is(NULL, 0, 7, 18, NULL));
+    CHECK(listing_is(sheet_record, RECORD - 1, 100, 3, NULL));
+    CHECK(listing_is(sheet_record, RECORD - 1, 0, 3, NULL));
+    CHECK(listing_is(sheet_record, 1, 100, 3, NULL));
+    records(store, 2);
+    CHECK(listing_is(store, sizeof store, strlen(two), 0, two));
+    memcpy(store + RECORD, store, RECORD);
+    CHECK(listing_is(store, sizeof store, 100, 3, NULL));
+    CHECK(listing_is(large, LISTED, 100, 3, NULL));
+    CHECK(listing_is(large, LISTED + 1, 100, 1, NULL));
+    CHECK(listing_is(large, LISTED + 1, 0, 1, NULL));
+}
+
 /* ---- Counts of dialogs */
 
 static void test_counts(void)
@@ -1392,7 +1508,7 @@ int main(void)
         test_long_routes, test_route, test_parse_session_expires, test_session_expires, test_cseq_number, test_rseq,
         test_cseq_method, test_is_reliable_provisional, test_method_number, test_method_text, test_parse_rack,
         test_format_rack, test_validate_session_expires, test_negotiate_session_expires, test_intervals, test_needs_refresh,
-        test_determine_refresher_role, test_counts,
+        test_determine_refresher_role, test_count, test_listing, test_counts,
     };
     size_t i;
     for (i = 0; i < sizeof tests / sizeof tests[0]; i++) {

@@ -30,6 +30,8 @@ use Rattle.uri.specs.declared.Estimate.{Estimate}
 use Rattle.uri.specs.declared.Estimate.the-variants as estimate
 use Rattle.headers.specs.declared.session_timer.ExpiresAnswer.{ExpiresAnswer}
 use Rattle.headers.specs.declared.session_timer.ExpiresAnswer.the-variants as expiresAnswer
+use Rattle.store.specs.declared.Held.{Held}
+use Rattle.store.specs.declared.Held.the-variants as held
 use Rattle.route_set.specs.declared.routes.Count.{Count}
 use Rattle.route_set.specs.declared.routes.Count.the-variants as count
 use Rattle.prack_headers.specs.declared.NumberAnswer.{NumberAnswer}
@@ -248,6 +250,19 @@ countAfter (count.Refused cause) old = old
 
 abbrev pub CountGives : Count → ℕ → ℕ → ℕ → Type 0
 CountGives answer old r left = Gives (countNumber answer) (countAfter answer old) r left
+
+-- ---- how many records a store holds
+
+abbrev pub heldNumber : Held → ℕ
+heldNumber (held.Records n) = 0
+heldNumber (held.Refused cause) = numberOf cause
+
+abbrev pub heldAfter : Held → ℕ → ℕ
+heldAfter (held.Records n) old = n
+heldAfter (held.Refused cause) old = old
+
+abbrev pub HeldGives : Held → ℕ → ℕ → ℕ → Type 0
+HeldGives answer old r left = Gives (heldNumber answer) (heldAfter answer old) r left
 
 -- ---- a number that was read
 

@@ -16,13 +16,14 @@ use session_timer_manager::Interval;
 use session_timer_manager::OptionalSeconds;
 use session_timer_manager::OptionalTime;
 use session_timer_manager::RefresherRole;
+use store::Held;
 use text::Lookup;
 use text::Next;
 use uri::Estimate;
 use uri::Port;
 use uri::UriAnswer;
 ghost use mathlib.Core.Path.{_≡_};
-ghost use Rattle.c_answers.specs.Given.{flag, refresherNumber, leastAfter, optionalTime, optionalSeconds, checkNumber, portFlag, portAfter, LookupGives, NextGives, PartGives, IdGives, UriGives, EstimateGives, ExpiresGives, CountGives, NumberGives, MethodGives, MethodLookupGives, ReliableGives, RackGives, WrittenGives, ValidatedGives, IntervalGives, RoleGives};
+ghost use Rattle.c_answers.specs.Given.{flag, refresherNumber, leastAfter, optionalTime, optionalSeconds, checkNumber, portFlag, portAfter, LookupGives, NextGives, PartGives, IdGives, UriGives, EstimateGives, ExpiresGives, CountGives, HeldGives, NumberGives, MethodGives, MethodLookupGives, ReliableGives, RackGives, WrittenGives, ValidatedGives, IntervalGives, RoleGives};
 
 // Whether a text, a number or an interval was found, as it is handed over.
 const FOUND: u8 = 1;
@@ -191,6 +192,18 @@ pub fn give_count(answer: Count, count: &mut usize) -> u8
             0
         }
         Count::Refused(x) => x.number(),
+    }
+}
+
+pub fn give_held(answer: Held, count: &mut usize) -> u8
+    ensures { λ r. ⌜ HeldGives answer (now (count .entry)) r (now (count .exit)) ⌝ }
+{
+    match answer {
+        Held::Records(n) => {
+            *count = n;
+            0
+        }
+        Held::Refused(x) => x.number(),
     }
 }
 

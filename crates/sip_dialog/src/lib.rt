@@ -2,6 +2,7 @@
 mod blocks;
 mod identifiers;
 mod prack;
+mod stores;
 mod timers;
 mod uris;
 mod values;

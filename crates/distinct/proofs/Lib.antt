@@ -1,0 +1,15 @@
+pub mod Alones
+pub mod Ascents
+pub mod Bits
+pub mod Compares
+pub mod Counts
+pub mod Halves
+pub mod Identities
+pub mod Images
+pub mod Merges
+pub mod Orders
+pub mod Parts
+pub mod Sames
+pub mod Tails
+pub mod Texts
+pub mod Walks

@@ -1,0 +1,86 @@
+-- `keys::compare_bytes` meets its contract: at each turn the order of the whole is that of the rests. Assumes nothing.
+use Prim.Native.Nat.{_-_, _≤_}
+use native.Mathlib.Omega.{arith}
+use mathlib.Core.Path.{_≡_, refl, sym, _∙_}
+use lib.ListN.{length, drop}
+use Rattle.distinct.specs.Keys.{order}
+use Rattle.distinct.proofs.Orders.{order-done, order-front, order-longer, order-less, order-greater, order-next}
+use Rattle.distinct.proofs.keys.compare_bytes.Statement.{statement}
+use Rattle.distinct.proofs.keys.compare_bytes.Tie as tie
+
+abbrev Inv-loop : tie.InvT-loop
+Inv-loop a b i₀ i = (i ≤ length a) × (i ≤ length b) × (order a b ≡ order (drop i a) (drop i b))
+
+abbrev μ-loop : tie.MeasureT-loop
+μ-loop a b i₀ i = length a - i
+
+loop-holds : tie.Need-loop-holds Inv-loop μ-loop
+loop-holds c = (omega arith, omega arith, refl)
+
+returns : tie.Need-returns Inv-loop μ-loop
+returns c =
+    let l = c .before .before .loop in
+    sym (l .inv .2 ∙ order-longer _ _ (l .i) (omega arith) (omega arith))
+
+shared-slice-read-if2 : tie.Need-shared-slice-read-if2 Inv-loop μ-loop
+shared-slice-read-if2 c = omega arith
+
+shared-slice-read-if2-2 : tie.Need-shared-slice-read-if2-2 Inv-loop μ-loop
+shared-slice-read-if2-2 c = omega arith
+
+returns-2 : tie.Need-returns-2 Inv-loop μ-loop
+returns-2 c =
+    let l = c .before .before .before .before .before .loop in
+    sym (l .inv .2 ∙ order-less _ _ (l .i) (omega arith) (omega arith) (c .if2 .taken))
+
+shared-slice-read-if3 : tie.Need-shared-slice-read-if3 Inv-loop μ-loop
+shared-slice-read-if3 c = omega arith
+
+shared-slice-read-if3-2 : tie.Need-shared-slice-read-if3-2 Inv-loop μ-loop
+shared-slice-read-if3-2 c = omega arith
+
+returns-3 : tie.Need-returns-3 Inv-loop μ-loop
+returns-3 c =
+    let l = c .before .before .before .before .before .before .before .before .loop in
+    sym (l .inv .2 ∙ order-greater _ _ (l .i) (omega arith) (omega arith) (c .if3 .taken))
+
+add-i : tie.Need-add-i Inv-loop μ-loop
+add-i c = omega arith
+
+loop-less : tie.Need-loop-less Inv-loop μ-loop
+loop-less c = omega arith
+
+loop-again : tie.Need-loop-again Inv-loop μ-loop
+loop-again c =
+    let l = c .before .before .before .before .before .before .before .before .loop in
+    (omega arith, omega arith, l .inv .2 ∙ order-next _ _ (l .i) (omega arith) (omega arith) (omega arith) (omega arith))
+
+returns-4 : tie.Need-returns-4 Inv-loop μ-loop
+returns-4 c =
+    let l = c .before .before .loop in
+    sym (l .inv .2 ∙ order-front _ _ (l .i) (omega arith) (omega arith))
+
+returns-5 : tie.Need-returns-5 Inv-loop μ-loop
+returns-5 c =
+    let l = c .before .before .loop in
+    sym (l .inv .2 ∙ order-done _ _ (l .i) (omega arith) (omega arith))
+
+pub compare-bytes-spec : {M : Type 1} → statement M
+compare-bytes-spec =
+    tie.close
+    (tie.spec
+    Inv-loop
+    μ-loop
+    loop-holds
+    returns
+    shared-slice-read-if2
+    shared-slice-read-if2-2
+    returns-2
+    shared-slice-read-if3
+    shared-slice-read-if3-2
+    returns-3
+    add-i
+    loop-less
+    loop-again
+    returns-4
+    returns-5)

@@ -1,0 +1,5 @@
+pub mod Distinct
+pub mod Ends
+pub mod Keys
+pub mod Pairs
+pub mod Sorting
