@@ -1,3 +1,4 @@
 pub mod LineLaws
 pub mod ListLaws
 pub mod StoreLaws
+pub mod RoomLaws
