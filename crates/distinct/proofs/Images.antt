@@ -14,7 +14,8 @@ use Rattle.record.proofs.MapLaws.{stands-0, stands-1, stands-2}
 use Rattle.record.proofs.WellFormedLaws.{image-back}
 use Rattle.distinct.specs.Keys.{idBytes, idsBytes, keyOf, At, keyAt, twoAt, pastText}
 use Rattle.distinct.proofs.Bits.{bit-le}
-use Rattle.distinct.proofs.Parts.{Lies, lies-past, lies-length, lies-two, lies-id, bytes-drop}
+use Rattle.distinct.proofs.Parts.{Lies, lies-past, lies-length, lies-two, lies-id}
+use Rattle.record.proofs.CodecLaws.{bytes-drop}
 
 -- bits 0 to 2 of a map
 map-low : (f : Fields) → mapOf f % 8 ≡ idsMap (f .first)

@@ -8,7 +8,6 @@ use lib.ListN.{length, drop, getD, length-append, length-drop}
 use lib.Seq.{getD-drop, drop-drop, drop-append-seam}
 use Rattle.record.specs.Codec.{text}
 use Rattle.record.specs.Record.{idText}
-use Rattle.record.proofs.CodecLaws.{Bytes}
 use Rattle.distinct.specs.Keys.{twoAt, pastText}
 
 -- the bytes from a place on
@@ -47,12 +46,3 @@ module _ (s : List ℕ) where
   lies-id at false x t l = omega arith
 
 -- ---- bytes
-
-pub bytes-all : (s : List ℕ) → ((i : ℕ) → getD s i 0 < 256) → Bytes s
-bytes-all [] h = tt
-bytes-all (b ∷ s) h = (h 0, bytes-all s (λ i. h (suc i)))
-
-pub bytes-drop : (at : ℕ) (s : List ℕ) → Bytes s → Bytes (drop at s)
-bytes-drop zero s h = h
-bytes-drop (suc at) [] h = tt
-bytes-drop (suc at) (b ∷ s) h = bytes-drop at s (h .1)

@@ -6,7 +6,7 @@ use mathlib.Core.Path.{_≡_, refl, sym, ap, ap₂, subst, _∙_}
 use mathlib.Core.Bool.{Bool, true, false, cond}
 use mathlib.Core.List.{List, [], _∷_, _++_, append-assoc}
 use mathlib.Core.Option.{Option, none, some}
-use lib.ListN.{length, take, drop, length-append, length-take, take-append-drop}
+use lib.ListN.{length, take, drop, getD, length-append, length-take, take-append-drop}
 use lib.Seq.{take-append-seam, drop-append-seam, length-take-le}
 use lib.Dec.{leb, eqb}
 use borrow.Author.Tests.{le-leb, leb-true, eq-eqb, eqb-true}
@@ -20,6 +20,16 @@ Bytes (b ∷ s) = (b < 256) × Bytes s
 pub bytes-after : (s t : List ℕ) → Bytes (s ++ t) → Bytes t
 bytes-after [] t h = h
 bytes-after (b ∷ s) t h = bytes-after s t (h .1)
+
+pub bytes-drop : (at : ℕ) (s : List ℕ) → Bytes s → Bytes (drop at s)
+bytes-drop zero s h = h
+bytes-drop (suc at) [] h = tt
+bytes-drop (suc at) (b ∷ s) h = bytes-drop at s (h .1)
+
+-- the elements of a lent slice are bytes
+pub bytes-all : (s : List ℕ) → ((i : ℕ) → getD s i 0 < 256) → Bytes s
+bytes-all [] h = tt
+bytes-all (b ∷ s) h = (h 0, bytes-all s (λ i. h (suc i)))
 
 pub record Exact {A : Type 0} (c : Codec A) (Good : A → Type 0) : Type 0 where
   pub round : (a : A) → Good a → (rest : List ℕ) → c .read (c .write a ++ rest) ≡ some (record { value = a; rest = rest })

@@ -13,7 +13,7 @@ use Rattle.record.proofs.CodecLaws.{Bytes}
 use Rattle.record.proofs.WellFormedLaws.{image-back}
 use Rattle.image.specs.declared.RecordAt.{RecordAt}
 use Rattle.image.proofs.AnswerLaws.{RecordGot}
-use Rattle.distinct.proofs.Parts.{bytes-drop}
+use Rattle.record.proofs.CodecLaws.{bytes-drop}
 use Rattle.store.specs.Reading.{storeFrom, wholeRecords, Tabled}
 use Rattle.store.specs.declared.StoreReading.the-variants as answer
 use Rattle.store.proofs.TableLaws.{bytes-more, Holds, holds-more, holds-full, holds-all}

@@ -7,7 +7,7 @@ use borrow.Author.Tests.{not-true, not-false}
 use Rattle.record.proofs.CodecLaws.{Bytes}
 use Rattle.distinct.specs.Ends.{endAt}
 use Rattle.distinct.specs.Pairs.{WholeFrom, aloneFrom}
-use Rattle.distinct.proofs.Parts.{bytes-all}
+use Rattle.record.proofs.CodecLaws.{bytes-all}
 use Rattle.distinct.proofs.Alones.{Step, step, step-whole, Left, left-start, left-end, left-met, left-next}
 use Rattle.distinct.proofs.is_distinct_by_pairs.Statement.{statement}
 use Rattle.distinct.proofs.is_distinct_by_pairs.Tie as tie

@@ -9,7 +9,7 @@ use borrow.Author.Needs.{needs}
 use lib.ListN.{length, length-set}
 use Rattle.record.proofs.CodecLaws.{Bytes}
 use Rattle.image.proofs.AnswerLaws.{record-got, record-not}
-use Rattle.distinct.proofs.Parts.{bytes-all}
+use Rattle.record.proofs.CodecLaws.{bytes-all}
 use Rattle.store.specs.Reading.{storeFrom, wholeRecords}
 use Rattle.store.proofs.WalkLaws.{Going, start, Step, step, broken, stored, full, ended-count, ended-table, broken-table}
 use Rattle.store.proofs.read_records.Statement.{statement}

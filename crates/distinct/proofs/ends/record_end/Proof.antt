@@ -8,7 +8,7 @@ use borrow.Author.Needs.{needs}
 use Rattle.record.proofs.CodecLaws.{Bytes}
 use Rattle.distinct.specs.Keys.{At}
 use Rattle.distinct.specs.Ends.{endAt, textsEnd}
-use Rattle.distinct.proofs.Parts.{bytes-all}
+use Rattle.record.proofs.CodecLaws.{bytes-all}
 use Rattle.distinct.proofs.Images.{map-here}
 use Rattle.distinct.proofs.Tails
 use Rattle.distinct.proofs.ends.record_end.Statement.{statement}

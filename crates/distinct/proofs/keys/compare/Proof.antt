@@ -7,7 +7,7 @@ use lib.ListN.{length}
 use borrow.Author.Needs.{needs}
 use Rattle.record.proofs.CodecLaws.{Bytes}
 use Rattle.distinct.specs.Keys.{keyAt}
-use Rattle.distinct.proofs.Parts.{bytes-all}
+use Rattle.record.proofs.CodecLaws.{bytes-all}
 use Rattle.distinct.proofs.Images.{map-here, key-long}
 use Rattle.distinct.proofs.Compares.{flags-less, flags-greater, by-bytes}
 use Rattle.distinct.proofs.keys.compare.Statement.{statement}

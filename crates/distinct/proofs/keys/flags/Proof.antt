@@ -2,7 +2,7 @@
 use Prim.Native.Nat.{ℕ, _%_}
 use mathlib.Core.Path.{ap, _∙_}
 use Rattle.record.proofs.CodecLaws.{Bytes}
-use Rattle.distinct.proofs.Parts.{bytes-all}
+use Rattle.record.proofs.CodecLaws.{bytes-all}
 use Rattle.distinct.proofs.Images.{map-here, flags-are}
 use Rattle.distinct.proofs.keys.flags.Statement.{statement}
 use Rattle.distinct.proofs.keys.flags.Tie as tie

@@ -7,7 +7,7 @@ use lib.ListN.{length}
 use lib.Dec.{eqb}
 use Rattle.distinct.specs.Keys.{keyAt, pastText}
 use Rattle.record.proofs.CodecLaws.{Bytes}
-use Rattle.distinct.proofs.Parts.{bytes-all}
+use Rattle.record.proofs.CodecLaws.{bytes-all}
 use Rattle.distinct.proofs.Images
 use Rattle.distinct.proofs.keys.ids_end.Statement.{statement}
 use Rattle.distinct.proofs.keys.ids_end.Tie as tie

@@ -8,7 +8,7 @@ use borrow.Author.Needs.{needs}
 use Rattle.record.proofs.CodecLaws.{Bytes}
 use Rattle.distinct.specs.Pairs.{WholeFrom, aloneFrom}
 use Rattle.distinct.specs.declared.keys.Order.the-variants.{Equal}
-use Rattle.distinct.proofs.Parts.{bytes-all}
+use Rattle.record.proofs.CodecLaws.{bytes-all}
 use Rattle.distinct.proofs.Alones.{Step, step, step-whole, alone-end, alone-met, alone-next}
 use Rattle.distinct.proofs.pairs.is_alone.Statement.{statement}
 use Rattle.distinct.proofs.pairs.is_alone.Tie as tie

@@ -1,0 +1,10 @@
+// Dialog: readings of one record image. Creation and updates are definitions with their laws so far (specs/ and proofs/).
+mod matching;
+mod readings;
+
+pub use matching::Matches;
+pub use matching::matches_request;
+pub use readings::ImageAnswer;
+pub use readings::Refresh;
+pub use readings::needs_refresh;
+pub use readings::read_image;
