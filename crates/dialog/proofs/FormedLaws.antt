@@ -16,7 +16,8 @@ use Rattle.headers.specs.SessionExpires.{Interval, expiresNamed}
 use Rattle.route_set.specs.Routes.{contactOf, routesOf}
 use Rattle.record.specs.Record.{Numbers, Record, UriPart, OptionalPart, EachUri, WellFormed}
 use Rattle.record.specs.Rules.{Kind, withSeconds, intervalStep, confirmStep, terminateStep, localStep}
-use Rattle.dialog.specs.Updates.{withNumbers, withRoutes, textOr, retargeted, isSuccess, confirms, routesOr, rerouted, intervalFrom, answered, responseUpdate, confirmUpdate, terminateUpdate, localUpdate, intervalUpdate}
+use Rattle.dialog.specs.Updates.{textOr, retargeted, isSuccess, confirms, routesOr, rerouted, intervalFrom, answered, responseUpdate, confirmUpdate, terminateUpdate, localUpdate, intervalUpdate}
+use Rattle.record.specs.Changes.{withNumbers, withRoutes}
 use Rattle.dialog.proofs.StepLaws.{given-same, never-given, past-test, Taken, moved, acknowledged, taken}
 use Rattle.dialog.proofs.UpdateLaws.{Request}
 use Rattle.dialog.proofs.RefusalLaws.{passed-test}

@@ -12,7 +12,8 @@ use Rattle.limits.specs.declared.Refusal.the-variants.{BadStore}
 use Rattle.session_timer_manager.specs.Intervals.{refreshDue}
 use Rattle.record.specs.Codec.{Reading}
 use Rattle.record.specs.Record.{Record, Numbers, image}
-use Rattle.record.specs.NumbersForm.{numberIn, numberFrom}
+use Rattle.record.specs.NumbersForm.{numberIn}
+use Rattle.record.proofs.NumberLaws.{number-same}
 use Rattle.image.specs.Places.{recordFrom, recordPlaces}
 use Rattle.image.specs.declared.RecordAt.{RecordAt}
 use Rattle.image.specs.declared.RecordReading.the-variants.{Whole, Broken}
@@ -56,10 +57,6 @@ refused-three (some r) e = absurd (let z : _≡_ {A = ℕ} 0 1 = cc in omega ari
 of-record : (o : Option Record) {p : RecordAt} → answer.Of p ≡ imageAnswer (orRefuse BadStore o) → (r : Record) × ((o ≡ some r) × (p ≡ recordPlaces 0 r))
 of-record none e = absurd (let z : _≡_ {A = ℕ} 0 1 = cc in omega arith)
 of-record (some r) e = (r, (refl, cc))
-
-number-same : (o : Option ℕ) → numberIn (numberFrom o) ≡ o
-number-same none = refl
-number-same (some n) = refl
 
 module _ (s : List ℕ) (elapsed : ℕ) where
   pub no-image : {cause : Refusal} → answer.Refused cause ≡ imageAnswer (oneRecord s) → refresh.Refused BadStore ≡ refreshAnswer (refreshOf s elapsed)

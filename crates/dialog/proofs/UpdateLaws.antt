@@ -14,7 +14,8 @@ use Rattle.headers.specs.SessionExpires.{Interval, expiresNamed}
 use Rattle.prack_headers.specs.Sequence.{cseqNumber}
 use Rattle.record.specs.Record.{State, early, confirmed, terminated, Numbers, Record}
 use Rattle.record.specs.Rules.{Kind, requestStep, withSeconds, intervalStep, confirmStep}
-use Rattle.dialog.specs.Updates.{withNumbers, retargeted, requestUpdate, isSuccess, confirms, rerouted, intervalFrom, confirmedBy, answered, responseUpdate, confirmUpdate, terminateUpdate, localUpdate, intervalUpdate}
+use Rattle.dialog.specs.Updates.{retargeted, requestUpdate, isSuccess, confirms, rerouted, intervalFrom, confirmedBy, answered, responseUpdate, confirmUpdate, terminateUpdate, localUpdate, intervalUpdate}
+use Rattle.record.specs.Changes.{withNumbers}
 use Rattle.dialog.proofs.StepLaws.{given-same, never-given, past-test, Taken, moved, acknowledged, taken, rank, confirm-on, terminate-on}
 
 -- ---- what every update keeps

@@ -17,18 +17,10 @@ use Rattle.headers.specs.declared.session_timer.Refresher.the-variants as refre
 use Rattle.route_set.specs.Routes.{contactOf, routesOf}
 use Rattle.prack_headers.specs.Sequence.{cseqNumber}
 use Rattle.record.specs.Record.{State, early, confirmed, terminated, Side, uac, uas, Numbers, Record}
+use Rattle.record.specs.Changes.{withNumbers, withTarget, withRoutes}
 use Rattle.record.specs.Rules.{Kind, ack, other, requestStep, confirmStep, terminateStep, localStep, intervalStep}
 
--- ---- parts of a record changed
-
-abbrev pub withNumbers : Numbers → Record → Record
-withNumbers x r = record { callId = r .callId; localTag = r .localTag; remoteTag = r .remoteTag; weAreUac = r .weAreUac; target = r .target; localUri = r .localUri; remoteUri = r .remoteUri; numbers = x; routes = r .routes }
-
-abbrev pub withTarget : List ℕ → Record → Record
-withTarget t r = record { callId = r .callId; localTag = r .localTag; remoteTag = r .remoteTag; weAreUac = r .weAreUac; target = t; localUri = r .localUri; remoteUri = r .remoteUri; numbers = r .numbers; routes = r .routes }
-
-abbrev pub withRoutes : List (List ℕ) → Record → Record
-withRoutes l r = record { callId = r .callId; localTag = r .localTag; remoteTag = r .remoteTag; weAreUac = r .weAreUac; target = r .target; localUri = r .localUri; remoteUri = r .remoteUri; numbers = r .numbers; routes = l }
+-- ---- the target
 
 -- the text of the first Contact line's URI, or the old target where it is absent or unreadable
 abbrev pub textOr : List ℕ → Option Piece → List ℕ

@@ -1,6 +1,7 @@
 // Dialog: readings of one record image. Creation and updates are definitions with their laws so far (specs/ and proofs/).
 mod matching;
 mod readings;
+mod updates;
 
 pub use matching::Matches;
 pub use matching::matches_request;
@@ -8,3 +9,7 @@ pub use readings::ImageAnswer;
 pub use readings::Refresh;
 pub use readings::needs_refresh;
 pub use readings::read_image;
+pub use updates::confirm;
+pub use updates::next_local_cseq;
+pub use updates::set_session_expires;
+pub use updates::terminate;

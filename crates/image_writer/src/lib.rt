@@ -1,13 +1,7 @@
 // One record image, written into the free end of a store (document 01, "Record image").
-use crate::fields::write_byte;
-use crate::fields::write_two;
 use crate::sections::ids_size;
-use crate::sections::map_of;
-use crate::sections::numbers_size;
-use crate::sections::state_byte;
 use crate::sections::uris_size;
 use crate::sections::write_ids;
-use crate::sections::write_numbers;
 use crate::sections::write_uris;
 use edit::put;
 use limits::Refusal;
@@ -23,6 +17,13 @@ ghost use Rattle.image_writer.specs.Parts.{partsOf, imageOf};
 
 mod fields;
 mod sections;
+
+pub use fields::write_byte;
+pub use fields::write_two;
+pub use sections::map_of;
+pub use sections::numbers_size;
+pub use sections::state_byte;
+pub use sections::write_numbers;
 
 // The image over the front of `free`, a store's bytes from its used length on: 18 where it is larger than they are. `routes` is the
 // routes' section, encoded already; empty where there are none.

@@ -9,8 +9,9 @@ use mathlib.Core.Option.{Option, none, some}
 use lib.ListN.{length, drop, length-append, drop-of-length-le}
 use lib.Seq.{drop-cons}
 use Rattle.record.specs.Codec.{Reading}
-use Rattle.record.specs.Record.{State, early, confirmed, terminated, Side, uac, uas, Numbers, Record, isGiven, image}
-use Rattle.record.specs.NumbersForm.{meaning, stateIn, numberIn, sideIn, stateFrom, numberFrom, sideFrom, numbersFrom}
+use Rattle.record.specs.Record.{Numbers, Record, isGiven, image}
+use Rattle.record.specs.NumbersForm.{meaning}
+use Rattle.record.proofs.NumberLaws.{meaning-same}
 use Rattle.record.specs.Store.{recordsIn, recordBefore, readOn, unlessDone}
 use Rattle.image.specs.Places.{recordFrom, recordPlaces}
 use Rattle.image.specs.declared.RecordAt.{RecordAt}
@@ -19,24 +20,7 @@ use Rattle.image.proofs.AnswerLaws.{RecordGot, record-got, record-not}
 use Rattle.listing_text.specs.Listing.{columns, columnsOf, lineOf, linesFrom}
 use Rattle.listing_text.specs.Steps.{recordsOf, listed, listedLines}
 
--- ---- the code's numbers of a record
-
-state-same : (x : State) → stateIn (stateFrom x) ≡ x
-state-same early = refl
-state-same confirmed = refl
-state-same terminated = refl
-
-number-same : (o : Option ℕ) → numberIn (numberFrom o) ≡ o
-number-same none = refl
-number-same (some n) = refl
-
-side-same : (o : Option Side) → sideIn (sideFrom o) ≡ o
-side-same none = refl
-side-same (some uac) = refl
-side-same (some uas) = refl
-
-meaning-same : (x : Numbers) → meaning (numbersFrom x) ≡ x
-meaning-same x = rw (state-same (x .state), number-same (x .lastAck), number-same (x .seconds), side-same (x .refresher))
+-- ---- the line of a record
 
 -- the line of a record that was read
 line-read : (position at : ℕ) (r : Record) (p : RecordAt) → p ≡ recordPlaces at r → columnsOf position (meaning (p .numbers)) (p .«we_are_uac») (p .«route_count») ≡ columns position r

@@ -1,0 +1,4 @@
+pub mod CutLaws
+pub mod ImageCuts
+pub mod TargetLaws
+pub mod NumbersLaws
