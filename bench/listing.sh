@@ -1,6 +1,6 @@
 #!/bin/sh
 # The time of the listing of a store of 65,536 bytes beside that of `od -An -tx1` on the same file: the mean of 200 runs each, in turns, the
-# start of the process included. Two stores: three long records, and as many of 211 bytes as fit (the last is longer).
+# start of the process included, which `true` shows by itself. Two stores: three long records, and as many of 211 bytes as fit (the last is longer).
 set -eu
 cd "$(dirname "$0")/.."
 program=target/bin/listing
@@ -26,6 +26,7 @@ for name in long_records many_records; do
     store=$out/$name
     ours=0
     theirs=0
+    start=0
     i=0
     while [ $i -lt $runs ]; do
         a=$(date +%s%N)
@@ -33,9 +34,12 @@ for name in long_records many_records; do
         b=$(date +%s%N)
         od -An -tx1 "$store" >"$out/dumped"
         c=$(date +%s%N)
+        /bin/true <"$store" >"$out/nothing"
+        d=$(date +%s%N)
+        start=$((start + d - c))
         ours=$((ours + b - a))
         theirs=$((theirs + c - b))
         i=$((i + 1))
     done
-    echo "$name: $(tail -n 1 "$out/listed"), listing $((ours / runs / 1000)) us, od $((theirs / runs / 1000)) us"
+    echo "$name: $(tail -n 1 "$out/listed"), listing $((ours / runs / 1000)) us, od $((theirs / runs / 1000)) us, true $((start / runs / 1000)) us"
 done
