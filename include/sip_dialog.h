@@ -28,8 +28,8 @@
 extern "C" {
 #endif
 
-/* Why a call is turned back. None of the functions below returns 5, 9 to 12, 14 to 17 or 20 to 24: these belong to calls
-   that change records. */
+/* Why a call is turned back. None of the functions below returns 5, 9 to 12, 15 to 17 or 20 to 24: these belong to calls
+   that create records, take requests or change stores. */
 enum sip_dialog_refusal {
     SIP_DIALOG_ACCEPTED = 0,
     SIP_DIALOG_TEXT_TOO_LONG = 1,              /* a given text or block is over 8,192 bytes */
@@ -225,6 +225,64 @@ bool sip_dialog_needs_refresh(bool has_interval, uint32_t seconds, uint64_t elap
 /* Whether we refresh, by the text of a refresher parameter, if one is given: we_refresh 1 for yes, 0 for no (not uac or uas).
    `uas`, `UAS`: if we aren't uac; all else, `Uas` too: if we are. Refuses with 1, if a text is given. */
 uint8_t sip_dialog_determine_refresher_role(bool given, const uint8_t *text, size_t text_len, bool is_uac, uint8_t *we_refresh);
+
+/* ---- One record image: docs/LAYOUTS.md has its bytes. The run given as `image` is exactly one image. 3: it isn't, or bytes
+   stand after it. None of these functions changes a byte of it; places are counted from its start. */
+
+/* Where the parts of the identifier lie. An empty part has length 0 and the place where it would begin. Refuses with 3. */
+uint8_t sip_dialog_image_id(const uint8_t *image, size_t image_len, size_t *call_id, size_t *call_id_length,
+                            size_t *local_tag, size_t *local_tag_length, size_t *remote_tag, size_t *remote_tag_length);
+
+/* The state: 1 Early, 2 Confirmed, 3 Terminated; we_are_uac 1 for uac, 0 for uas; secure 1 where the local or the remote URI
+   is `sips:`, else 0. Refuses with 3. */
+uint8_t sip_dialog_image_state(const uint8_t *image, size_t image_len, uint8_t *state, uint8_t *we_are_uac, uint8_t *secure);
+
+/* Where the texts of the target, the local URI and the remote URI lie. Refuses with 3. */
+uint8_t sip_dialog_image_uris(const uint8_t *image, size_t image_len, size_t *target, size_t *target_length,
+                              size_t *local_uri, size_t *local_uri_length, size_t *remote_uri, size_t *remote_uri_length);
+
+/* The local and the remote number, 0 where the image has none; has_last_ack 1 with last_ack, or 0 (last_ack keeps its value);
+   has_seconds 1 with the session's seconds, or 0 (seconds keeps its value); refresher 0 none, 1 uac, 2 uas. A last ACK or
+   seconds of 0 are present. Refuses with 3. */
+uint8_t sip_dialog_image_numbers(const uint8_t *image, size_t image_len, uint32_t *local, uint32_t *remote,
+                                 uint8_t *has_last_ack, uint32_t *last_ack, uint8_t *has_seconds, uint32_t *seconds,
+                                 uint8_t *refresher);
+
+/* How many routes the record has, at most 50. Refuses with 3. */
+uint8_t sip_dialog_image_route_count(const uint8_t *image, size_t image_len, size_t *count);
+
+/* The route at an index from 0: found 1 with place and length of its URI in the image, or found 0 from the count on. Refuses
+   with 3, whatever the index. */
+uint8_t sip_dialog_image_route(const uint8_t *image, size_t image_len, size_t index,
+                               uint8_t *found, size_t *place, size_t *length);
+
+/* Whether a request from the peer belongs to the record: matches 1 where its Call-ID is the record's, the tag of From the
+   remote one and the tag of To the local one, byte by byte; else 0, where one of them is absent too. Refuses with 1, 2, 3. */
+uint8_t sip_dialog_image_matches_request(const uint8_t *block, size_t block_len, const uint8_t *image, size_t image_len,
+                                         uint8_t *matches);
+
+/* Whether two thirds of the record's interval have passed, with elapsed in nanoseconds: due 1 for yes, 0 for no. Without an
+   interval: no. Refuses with 3. */
+uint8_t sip_dialog_image_needs_refresh(const uint8_t *image, size_t image_len, uint64_t elapsed, uint8_t *due);
+
+/* ---- One record image changed in its place. `image` is lent with its room of image_len bytes. `used` is read and answered:
+   the image's length, and where the call is accepted its new length. 3: used over image_len, or the used bytes aren't exactly
+   one image. 18: the changed image is larger than image_len. Refused, every lent byte stays and `used` keeps its value;
+   accepted, bytes past the new length stay. */
+
+/* Early becomes Confirmed; any other state stays. The length stays. Refuses with 3. */
+uint8_t sip_dialog_image_confirm(uint8_t *image, size_t image_len, size_t *used);
+
+/* Any state becomes Terminated. The length stays. Refuses with 3. */
+uint8_t sip_dialog_image_terminate(uint8_t *image, size_t image_len, size_t *used);
+
+/* Raises the local number by one, or leaves it at 4,294,967,295, and answers it in number. The image grows by four bytes
+   where it had none. Refuses with 3, 18. */
+uint8_t sip_dialog_image_next_local_cseq(uint8_t *image, size_t image_len, size_t *used, uint32_t *number);
+
+/* Sets the session's interval, in seconds; who refreshes stays. The image grows by four bytes where it had none. Refuses with
+   3; 13 below 90 and then answers 90 in least, in seconds; 14 over 86,400; 18. But for 13, least keeps its value. */
+uint8_t sip_dialog_image_set_session_expires(uint8_t *image, size_t image_len, size_t *used, uint64_t seconds, uint64_t *least);
 
 /* ---- Stores of records: docs/LAYOUTS.md has their bytes. Neither function changes a byte of the store. */
 

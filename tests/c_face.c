@@ -1485,6 +1485,624 @@ static void test_listing(void)
     CHECK(listing_is(large, LISTED + 1, 0, 1, NULL));
 }
 
+/* ---- One record image */
+
+struct image {
+    size_t length;
+    uint8_t bytes[600];
+};
+
+static struct image image_of(const uint8_t *bytes, size_t length)
+{
+    struct image i = {0, {0}};
+    i.length = length;
+    memcpy(i.bytes, bytes, length);
+    return i;
+}
+
+static struct image sheet_image(void)
+{
+    return image_of(sheet_record, RECORD);
+}
+
+/* Every field: Call-ID "id@x", tags "a" and "bc", Early, we are uac, secure by the local URI, local number 16,909,060,
+   remote 9, last ACK 8, 1,800 s, uas refreshes, two routes. */
+static struct image full_image(void)
+{
+    static const uint8_t bytes[] = {
+        0x1F, 0xFF, 0, 4, 'i', 'd', '@', 'x', 0, 1, 'a', 0, 2, 'b', 'c', 13,
+        0, 7, 's', 'i', 'p', ':', 't', '@', 'h', 0, 8, 's', 'i', 'p', 's', ':', 'l', '@', 'h',
+        0, 8, 's', 'i', 'p', ':', 'r', '@', 'h', 'h', 1, 2, 3, 4, 0, 0, 0, 9, 0, 0, 0, 8, 0, 0, 7, 8, 0, 0, 0, 2,
+        2, 0, 7, 's', 'i', 'p', ':', 'p', '@', 'h', 0, 11, 's', 'i', 'p', ':', 'q', '@', 'h', 'h', ';', 'l', 'r'};
+    return image_of(bytes, sizeof bytes);
+}
+
+/* Where its fields begin. */
+enum {
+    FULL_STATE = 15,
+    FULL_LOCAL = 45,
+    FULL_REMOTE = 49,
+    FULL_ACK = 53,
+    FULL_SECONDS = 57,
+    FULL_REFRESHER = 61,
+    FULL_ROUTES = 65,
+    FULL_LENGTH = 88
+};
+
+/* No field but those that always stand: Early, we are uas. */
+static struct image least_image(void)
+{
+    static const uint8_t bytes[] = {
+        0, 0x78, 1, 0, 7, 's', 'i', 'p', ':', 'r', '@', 'h', 0, 7, 's', 'i', 'p', ':', 'l', '@', 'h',
+        0, 7, 's', 'i', 'p', ':', 'r', '@', 'h'};
+    return image_of(bytes, sizeof bytes);
+}
+
+static struct image with_byte(struct image i, size_t at, uint8_t byte)
+{
+    i.bytes[at] = byte;
+    return i;
+}
+
+static struct image with_number(struct image i, size_t at, uint32_t number)
+{
+    i.bytes[at] = (uint8_t)(number >> 24);
+    i.bytes[at + 1] = (uint8_t)(number >> 16);
+    i.bytes[at + 2] = (uint8_t)(number >> 8);
+    i.bytes[at + 3] = (uint8_t)number;
+    return i;
+}
+
+/* A number that the image has not yet, before the bytes from a place on; the map is given whole. */
+static struct image with_more(struct image i, unsigned map, size_t at, uint32_t number)
+{
+    memmove(i.bytes + at + 4, i.bytes + at, i.length - at);
+    i.length += 4;
+    i.bytes[0] = (uint8_t)(map >> 8);
+    i.bytes[1] = (uint8_t)map;
+    return with_number(i, at, number);
+}
+
+static struct image with_length(struct image i, size_t length)
+{
+    i.length = length;
+    return i;
+}
+
+/* So many routes "sip:p@h" for a record that has no other field. */
+static struct image with_routes(uint8_t count)
+{
+    static const uint8_t route[] = {0, 7, 's', 'i', 'p', ':', 'p', '@', 'h'};
+    struct image i = least_image();
+    uint8_t k;
+    i.bytes[0] = 0x10;
+    i.bytes[i.length] = count;
+    i.length += 1;
+    for (k = 0; k < count; k++) {
+        memcpy(i.bytes + i.length, route, sizeof route);
+        i.length += sizeof route;
+    }
+    return i;
+}
+
+/* Lends just the bytes of an image. */
+static uint8_t *lend_image(const struct image *i)
+{
+    uint8_t *bytes = memory(i->length);
+    if (i->length > 0) {
+        memcpy(bytes, i->bytes, i->length);
+    }
+    return bytes;
+}
+
+static void take_image_back(const struct image *i, uint8_t *bytes)
+{
+    CHECK(i->length == 0 || memcmp(bytes, i->bytes, i->length) == 0);
+    free(bytes);
+}
+
+/* Three parts of an image: places and lengths. */
+struct places {
+    uint8_t number;
+    size_t place[3];
+    size_t length[3];
+};
+
+static const struct places fresh_places = {KEPT, {KEPT, KEPT, KEPT}, {KEPT, KEPT, KEPT}};
+
+typedef uint8_t places_function(const uint8_t *, size_t, size_t *, size_t *, size_t *, size_t *, size_t *, size_t *);
+
+static struct places places_of(places_function *read, struct image i)
+{
+    uint8_t *bytes = lend_image(&i);
+    struct places p = fresh_places;
+    p.number = read(bytes, i.length, &p.place[0], &p.length[0], &p.place[1], &p.length[1], &p.place[2], &p.length[2]);
+    take_image_back(&i, bytes);
+    return p;
+}
+
+static bool places_are(struct places p, size_t a, size_t a_length, size_t b, size_t b_length, size_t c, size_t c_length)
+{
+    bool places = p.place[0] == a && p.place[1] == b && p.place[2] == c;
+    return p.number == 0 && places && p.length[0] == a_length && p.length[1] == b_length && p.length[2] == c_length;
+}
+
+static bool places_are_refused(struct places p)
+{
+    bool kept = true;
+    size_t k;
+    for (k = 0; k < 3; k++) {
+        kept = kept && p.place[k] == KEPT && p.length[k] == KEPT;
+    }
+    return p.number == 3 && kept;
+}
+
+struct image_state {
+    uint8_t number;
+    uint8_t state[2];
+    uint8_t we_are_uac[2];
+    uint8_t secure[2];
+};
+
+static struct image_state state_of(struct image i)
+{
+    uint8_t *bytes = lend_image(&i);
+    struct image_state s = {KEPT, {KEPT, KEPT}, {KEPT, KEPT}, {KEPT, KEPT}};
+    s.number = sip_dialog_image_state(bytes, i.length, s.state, s.we_are_uac, s.secure);
+    take_image_back(&i, bytes);
+    return s;
+}
+
+static bool state_is(struct image_state s, uint8_t number, uint8_t state, uint8_t we_are_uac, uint8_t secure)
+{
+    bool kept = s.state[1] == KEPT && s.we_are_uac[1] == KEPT && s.secure[1] == KEPT;
+    return s.number == number && s.state[0] == state && s.we_are_uac[0] == we_are_uac && s.secure[0] == secure && kept;
+}
+
+struct image_numbers {
+    uint8_t number;
+    uint32_t local[2];
+    uint32_t remote[2];
+    uint8_t has_last_ack[2];
+    uint32_t last_ack[2];
+    uint8_t has_seconds[2];
+    uint32_t seconds[2];
+    uint8_t refresher[2];
+};
+
+static struct image_numbers numbers_of(struct image i)
+{
+    uint8_t *bytes = lend_image(&i);
+    struct image_numbers n = {KEPT,         {KEPT, KEPT}, {KEPT, KEPT}, {KEPT, KEPT},
+                              {KEPT, KEPT}, {KEPT, KEPT}, {KEPT, KEPT}, {KEPT, KEPT}};
+    n.number = sip_dialog_image_numbers(bytes, i.length, n.local, n.remote, n.has_last_ack, n.last_ack, n.has_seconds,
+                                        n.seconds, n.refresher);
+    take_image_back(&i, bytes);
+    CHECK(n.local[1] == KEPT && n.remote[1] == KEPT && n.has_last_ack[1] == KEPT && n.last_ack[1] == KEPT);
+    CHECK(n.has_seconds[1] == KEPT && n.seconds[1] == KEPT && n.refresher[1] == KEPT);
+    return n;
+}
+
+static bool ends_are(struct image_numbers n, uint32_t local, uint32_t remote, uint8_t refresher)
+{
+    return n.number == 0 && n.local[0] == local && n.remote[0] == remote && n.refresher[0] == refresher;
+}
+
+static bool ack_is(struct image_numbers n, uint8_t has, uint32_t last_ack)
+{
+    return n.number == 0 && n.has_last_ack[0] == has && n.last_ack[0] == last_ack;
+}
+
+static bool seconds_are(struct image_numbers n, uint8_t has, uint32_t seconds)
+{
+    return n.number == 0 && n.has_seconds[0] == has && n.seconds[0] == seconds;
+}
+
+static bool numbers_are_refused(struct image_numbers n)
+{
+    bool ends = n.local[0] == KEPT && n.remote[0] == KEPT && n.refresher[0] == KEPT;
+    bool ack = n.has_last_ack[0] == KEPT && n.last_ack[0] == KEPT;
+    return n.number == 3 && ends && ack && n.has_seconds[0] == KEPT && n.seconds[0] == KEPT;
+}
+
+static bool routes_are(struct image i, uint8_t number, size_t expected)
+{
+    uint8_t *bytes = lend_image(&i);
+    size_t count = KEPT;
+    bool holds = sip_dialog_image_route_count(bytes, i.length, &count) == number && count == expected;
+    take_image_back(&i, bytes);
+    return holds;
+}
+
+static struct lookup image_route(struct image i, size_t index)
+{
+    uint8_t *bytes = lend_image(&i);
+    struct lookup l = fresh_lookup;
+    l.number = sip_dialog_image_route(bytes, i.length, index, l.found, &l.place, &l.length);
+    take_image_back(&i, bytes);
+    return l;
+}
+
+/* The number that is returned, and what the lent byte then holds. */
+static bool match_is(const char *block, struct image i, uint8_t number, uint8_t expected)
+{
+    struct run b = lend(block);
+    uint8_t *bytes = lend_image(&i);
+    uint8_t matches[2] = {KEPT, KEPT};
+    bool holds = sip_dialog_image_matches_request(b.bytes, b.length, bytes, i.length, matches) == number;
+    holds = holds && matches[0] == expected && matches[1] == KEPT;
+    take_image_back(&i, bytes);
+    take_back(b);
+    return holds;
+}
+
+static bool refresh_is(struct image i, uint64_t elapsed, uint8_t number, uint8_t expected)
+{
+    uint8_t *bytes = lend_image(&i);
+    uint8_t due[2] = {KEPT, KEPT};
+    bool holds = sip_dialog_image_needs_refresh(bytes, i.length, elapsed, due) == number;
+    holds = holds && due[0] == expected && due[1] == KEPT;
+    take_image_back(&i, bytes);
+    return holds;
+}
+
+/* Every reading refuses the bytes with 3, and keeps all that is lent. */
+static bool no_image(struct image i)
+{
+    bool id = places_are_refused(places_of(sip_dialog_image_id, i));
+    bool uris = places_are_refused(places_of(sip_dialog_image_uris, i));
+    bool numbers = numbers_are_refused(numbers_of(i)) && state_is(state_of(i), 3, KEPT, KEPT, KEPT);
+    bool routes = routes_are(i, 3, KEPT) && is_refused(image_route(i, 0), 3) && is_refused(image_route(i, SIZE_MAX), 3);
+    return id && uris && numbers && routes && match_is("", i, 3, KEPT) && refresh_is(i, UINT64_MAX, 3, KEPT);
+}
+
+static void test_image_parts(void)
+{
+    struct image full = full_image();
+    struct image sheet = sheet_image();
+    struct image least = least_image();
+    CHECK(full.length == FULL_LENGTH);
+    CHECK(places_are(places_of(sip_dialog_image_id, full), 4, 4, 10, 1, 13, 2));
+    CHECK(places_are(places_of(sip_dialog_image_id, sheet), 4, 2, 8, 1, 11, 1));
+    CHECK(places_are(places_of(sip_dialog_image_id, least), 2, 0, 2, 0, 2, 0));
+    CHECK(places_are(places_of(sip_dialog_image_uris, full), 18, 7, 27, 8, 37, 8));
+    CHECK(places_are(places_of(sip_dialog_image_uris, sheet), 15, 7, 24, 7, 33, 7));
+    CHECK(places_are(places_of(sip_dialog_image_uris, least), 5, 7, 14, 7, 23, 7));
+    CHECK(state_is(state_of(full), 0, 1, 1, 1));
+    CHECK(state_is(state_of(with_byte(full, FULL_STATE, 10)), 0, 2, 0, 1));
+    CHECK(state_is(state_of(with_byte(full, FULL_STATE, 15)), 0, 3, 1, 1));
+    CHECK(state_is(state_of(sheet), 0, 2, 0, 0));
+    CHECK(state_is(state_of(with_byte(sheet, 12, 7)), 0, 3, 1, 0));
+    CHECK(state_is(state_of(least), 0, 1, 0, 0));
+}
+
+static void test_image_numbers(void)
+{
+    struct image_numbers full = numbers_of(full_image());
+    struct image_numbers sheet = numbers_of(sheet_image());
+    CHECK(ends_are(full, 16909060, 9, 2) && ack_is(full, 1, 8) && seconds_are(full, 1, 1800));
+    CHECK(ends_are(sheet, 0, 7, 0) && ack_is(sheet, 0, KEPT) && seconds_are(sheet, 0, KEPT));
+    CHECK(ends_are(numbers_of(least_image()), 0, 0, 0));
+    CHECK(ends_are(numbers_of(with_number(full_image(), FULL_LOCAL, UINT32_MAX)), UINT32_MAX, 9, 2));
+    CHECK(ends_are(numbers_of(with_number(full_image(), FULL_REMOTE, UINT32_MAX)), 16909060, UINT32_MAX, 2));
+    CHECK(ends_are(numbers_of(with_number(full_image(), FULL_REFRESHER, 1)), 16909060, 9, 1));
+    CHECK(ack_is(numbers_of(with_number(full_image(), FULL_ACK, 0)), 1, 0));
+    CHECK(seconds_are(numbers_of(with_number(full_image(), FULL_SECONDS, 0)), 1, 0));
+    /* each number by itself */
+    CHECK(ends_are(numbers_of(with_more(least_image(), 0x00F8, 30, 5)), 5, 0, 0));
+    CHECK(ends_are(numbers_of(with_more(least_image(), 0x0178, 30, 5)), 0, 5, 0));
+    CHECK(ack_is(numbers_of(with_more(least_image(), 0x0278, 30, 5)), 1, 5));
+    CHECK(seconds_are(numbers_of(with_more(least_image(), 0x0278, 30, 5)), 0, KEPT));
+    CHECK(seconds_are(numbers_of(with_more(least_image(), 0x0478, 30, 5)), 1, 5));
+    CHECK(ack_is(numbers_of(with_more(least_image(), 0x0478, 30, 5)), 0, KEPT));
+    CHECK(ends_are(numbers_of(with_more(least_image(), 0x0878, 30, 2)), 0, 0, 2));
+}
+
+static void test_image_routes(void)
+{
+    struct image full = full_image();
+    struct image fifty = with_routes(50);
+    size_t k;
+    CHECK(routes_are(full, 0, 2));
+    CHECK(is_at(image_route(full, 0), 68, 7));
+    CHECK(is_at(image_route(full, 1), 77, 11));
+    CHECK(is_nothing(image_route(full, 2)));
+    CHECK(is_nothing(image_route(full, SIZE_MAX)));
+    CHECK(routes_are(sheet_image(), 0, 0));
+    CHECK(is_nothing(image_route(sheet_image(), 0)));
+    CHECK(routes_are(with_routes(1), 0, 1));
+    CHECK(is_at(image_route(with_routes(1), 0), 33, 7));
+    CHECK(is_nothing(image_route(with_routes(1), 1)));
+    CHECK(routes_are(fifty, 0, 50));
+    for (k = 0; k < 50; k++) {
+        CHECK(is_at(image_route(fifty, k), 33 + 9 * k, 7));
+    }
+    CHECK(is_nothing(image_route(fifty, 50)));
+    CHECK(no_image(with_routes(51)));
+}
+
+static void test_no_image(void)
+{
+    struct image full = full_image();
+    struct image sheet = sheet_image();
+    struct image twice = sheet;
+    memcpy(twice.bytes + RECORD, sheet_record, RECORD);
+    twice.length = 2 * RECORD;
+    CHECK(no_image(twice));
+    CHECK(no_image(with_length(sheet, 0)));
+    CHECK(no_image(with_length(sheet, 1)));
+    CHECK(no_image(with_length(sheet, RECORD - 1)));
+    CHECK(no_image(with_length(sheet, RECORD + 1)));
+    CHECK(no_image(with_length(full, FULL_LENGTH - 1)));
+    CHECK(no_image(with_length(full, FULL_LENGTH + 1)));
+    /* the map: bit 13, bit 3 that is missing, bit 12 that is missing */
+    CHECK(no_image(with_byte(full, 0, 0x3F)));
+    CHECK(no_image(with_byte(full, 1, 0xF7)));
+    CHECK(no_image(with_byte(full, 0, 0x0F)));
+    /* an empty Call-ID, a byte over 126 in it */
+    CHECK(no_image(with_byte(full, 3, 0)));
+    CHECK(no_image(with_byte(full, 4, 127)));
+    /* the state byte: no state, bit 4, the secure bit of another record */
+    CHECK(no_image(with_byte(full, FULL_STATE, 12)));
+    CHECK(no_image(with_byte(full, FULL_STATE, 29)));
+    CHECK(no_image(with_byte(full, FULL_STATE, 5)));
+    CHECK(no_image(with_byte(sheet, 12, 10)));
+    /* a URI that can't be read: the target, the last route */
+    CHECK(no_image(with_byte(full, 18, 't')));
+    CHECK(no_image(with_byte(full, 77, 't')));
+    CHECK(no_image(with_number(full, FULL_LOCAL, 0)));
+    CHECK(no_image(with_number(full, FULL_REMOTE, 0)));
+    CHECK(no_image(with_number(full, FULL_REFRESHER, 0)));
+    CHECK(no_image(with_number(full, FULL_REFRESHER, 3)));
+    CHECK(no_image(with_byte(full, FULL_ROUTES, 0)));
+    CHECK(no_image(with_byte(full, FULL_ROUTES, 1)));
+    CHECK(no_image(with_byte(full, FULL_ROUTES, 3)));
+}
+
+static void test_image_matches_request(void)
+{
+    struct image sheet = sheet_image();
+    const char *request = "Call-ID:c1\r\nFrom:<sip:r@h>;tag=R\r\nTo:<sip:l@h>;tag=L\r\n";
+    char buffer[LONGEST + 2];
+    CHECK(match_is(request, sheet, 0, 1));
+    CHECK(match_is("Call-ID:c1\r\nFrom:;tag=L\r\nTo:;tag=R\r\n", sheet, 0, 0));
+    CHECK(match_is("Call-ID:c2\r\nFrom:;tag=R\r\nTo:;tag=L\r\n", sheet, 0, 0));
+    CHECK(match_is("Call-ID:c1\r\nFrom:;tag=r\r\nTo:;tag=L\r\n", sheet, 0, 0));
+    CHECK(match_is("Call-ID:c1\r\nFrom:;tag=R\r\nTo:;tag=l\r\n", sheet, 0, 0));
+    CHECK(match_is("Call-ID:c1\r\nFrom:;tag=RR\r\nTo:;tag=L\r\n", sheet, 0, 0));
+    CHECK(match_is("From:;tag=R\r\nTo:;tag=L\r\n", sheet, 0, 0));
+    CHECK(match_is("Call-ID:c1\r\nTo:;tag=L\r\n", sheet, 0, 0));
+    CHECK(match_is("Call-ID:c1\r\nFrom:;tag=R\r\nTo:l\r\n", sheet, 0, 0));
+    CHECK(match_is("", sheet, 0, 0));
+    CHECK(match_is(NULL, sheet, 0, 0));
+    CHECK(match_is("Call-ID:id@x\r\nFrom:;tag=bc\r\nTo:;tag=a\r\n", full_image(), 0, 1));
+    /* empty parts are the record's empty parts; absent ones are not */
+    CHECK(match_is("Call-ID:\r\nFrom:;tag=\r\nTo:;tag=\r\n", least_image(), 0, 1));
+    CHECK(match_is("Call-ID:\r\nFrom:;tag=\r\nTo:\r\n", least_image(), 0, 0));
+    CHECK(match_is("Call-ID:\r\nFrom:;tag=\r\nTo:;tag=\r\n", sheet, 0, 0));
+    CHECK(match_is(long_block(buffer, request, LONGEST), sheet, 0, 1));
+    CHECK(match_is(long_block(buffer, request, LONGEST + 1), sheet, 1, KEPT));
+    CHECK(match_is(buffer, with_length(sheet, RECORD - 1), 1, KEPT));
+    CHECK(match_is("Call-ID:c1", sheet, 2, KEPT));
+    CHECK(match_is("Call-ID:c1", with_length(sheet, RECORD - 1), 2, KEPT));
+    CHECK(match_is(request, with_length(sheet, RECORD - 1), 3, KEPT));
+    CHECK(match_is(request, with_length(sheet, 0), 3, KEPT));
+}
+
+static void test_image_needs_refresh(void)
+{
+    struct image full = full_image();
+    CHECK(refresh_is(full, 1200 * SECOND, 0, 1));
+    CHECK(refresh_is(full, 1200 * SECOND - 1, 0, 0));
+    CHECK(refresh_is(full, UINT64_MAX, 0, 1));
+    CHECK(refresh_is(full, 0, 0, 0));
+    CHECK(refresh_is(with_number(full, FULL_SECONDS, 90), 60 * SECOND, 0, 1));
+    CHECK(refresh_is(with_number(full, FULL_SECONDS, 90), 60 * SECOND - 1, 0, 0));
+    CHECK(refresh_is(with_number(full, FULL_SECONDS, 0), 0, 0, 1));
+    CHECK(refresh_is(with_number(full, FULL_SECONDS, UINT32_MAX), UINT64_C(2863311530) * SECOND, 0, 1));
+    CHECK(refresh_is(with_number(full, FULL_SECONDS, UINT32_MAX), UINT64_C(2863311530) * SECOND - 1, 0, 0));
+    CHECK(refresh_is(sheet_image(), UINT64_MAX, 0, 0));
+    CHECK(refresh_is(with_length(full, FULL_LENGTH - 1), 0, 3, KEPT));
+}
+
+/* ---- One record image changed in its place */
+
+/* The image in so much room, and what a call then makes of it. */
+struct change {
+    struct image before;
+    size_t room;
+    size_t used;
+    uint8_t *bytes;
+    uint8_t *expected;
+};
+
+/* Bytes of the room past the image are KEPT. `used` is what the call is told, mostly the image's length. */
+static struct change lend_room(struct image before, size_t room, size_t used)
+{
+    struct change c = {{0, {0}}, 0, 0, NULL, NULL};
+    size_t whole = before.length < room ? before.length : room;
+    c.before = before;
+    c.room = room;
+    c.used = used;
+    c.bytes = memory(room);
+    c.expected = memory(room);
+    if (room > 0) {
+        memset(c.bytes, KEPT, room);
+        memcpy(c.bytes, before.bytes, whole);
+        memcpy(c.expected, c.bytes, room);
+    }
+    return c;
+}
+
+/* Whether the call was accepted and left this image and its length, with every byte past it as it was. */
+static bool became(struct change c, uint8_t number, struct image after)
+{
+    bool holds = number == 0 && after.length <= c.room && c.used == after.length;
+    if (after.length <= c.room) {
+        memcpy(c.expected, after.bytes, after.length);
+    }
+    holds = holds && memcmp(c.bytes, c.expected, c.room) == 0;
+    free(c.bytes);
+    free(c.expected);
+    return holds;
+}
+
+/* Whether the call was refused with this number and kept every byte and the used length. */
+static bool stayed(struct change c, uint8_t number, uint8_t expected, size_t used)
+{
+    bool holds = number == expected && c.used == used && (c.room == 0 || memcmp(c.bytes, c.expected, c.room) == 0);
+    free(c.bytes);
+    free(c.expected);
+    return holds;
+}
+
+typedef uint8_t state_function(uint8_t *, size_t, size_t *);
+
+static bool state_becomes(state_function *call, struct image before, size_t room, struct image after)
+{
+    struct change c = lend_room(before, room, before.length);
+    uint8_t number = call(c.bytes, c.room, &c.used);
+    return became(c, number, after);
+}
+
+static bool state_stays(state_function *call, struct image before, size_t room, size_t used)
+{
+    struct change c = lend_room(before, room, used);
+    uint8_t number = call(c.bytes, c.room, &c.used);
+    return stayed(c, number, 3, used);
+}
+
+/* What confirm and terminate have in common; the state byte that the call makes of Early with both flags. */
+static void test_image_state_change(state_function *call, uint8_t state)
+{
+    struct image full = full_image();
+    struct image sheet = sheet_image();
+    CHECK(state_becomes(call, full, FULL_LENGTH, with_byte(full, FULL_STATE, state)));
+    CHECK(state_becomes(call, full, FULL_LENGTH + 1, with_byte(full, FULL_STATE, state)));
+    CHECK(state_becomes(call, full, 600, with_byte(full, FULL_STATE, state)));
+    CHECK(state_becomes(call, with_byte(full, FULL_STATE, 15), FULL_LENGTH, with_byte(full, FULL_STATE, 15)));
+    CHECK(state_stays(call, full, FULL_LENGTH - 1, FULL_LENGTH));
+    CHECK(state_stays(call, full, FULL_LENGTH, FULL_LENGTH - 1));
+    CHECK(state_stays(call, full, FULL_LENGTH + 1, FULL_LENGTH + 1));
+    CHECK(state_stays(call, full, FULL_LENGTH, SIZE_MAX));
+    CHECK(state_stays(call, full, FULL_LENGTH, 0));
+    CHECK(state_stays(call, with_length(full, 0), 0, 0));
+    CHECK(state_stays(call, with_length(full, 0), 0, 1));
+    CHECK(state_stays(call, with_byte(sheet, 12, 10), RECORD, RECORD));
+    CHECK(state_stays(call, with_byte(sheet, 0, 0x21), 100, RECORD));
+}
+
+static void test_image_confirm(void)
+{
+    struct image sheet = sheet_image();
+    test_image_state_change(sip_dialog_image_confirm, 14);
+    CHECK(state_becomes(sip_dialog_image_confirm, sheet, RECORD, sheet));
+    CHECK(state_becomes(sip_dialog_image_confirm, with_byte(sheet, 12, 1), RECORD, sheet));
+    CHECK(state_becomes(sip_dialog_image_confirm, with_byte(sheet, 12, 3), RECORD, with_byte(sheet, 12, 3)));
+}
+
+static void test_image_terminate(void)
+{
+    struct image sheet = sheet_image();
+    test_image_state_change(sip_dialog_image_terminate, 15);
+    CHECK(state_becomes(sip_dialog_image_terminate, sheet, RECORD, with_byte(sheet, 12, 3)));
+    CHECK(state_becomes(sip_dialog_image_terminate, with_byte(sheet, 12, 1), RECORD, with_byte(sheet, 12, 3)));
+    CHECK(state_becomes(sip_dialog_image_terminate, with_byte(sheet, 12, 3), RECORD, with_byte(sheet, 12, 3)));
+}
+
+static bool raised_to(struct image before, size_t room, uint32_t expected, struct image after)
+{
+    struct change c = lend_room(before, room, before.length);
+    uint32_t next[2] = {KEPT, KEPT};
+    uint8_t number = sip_dialog_image_next_local_cseq(c.bytes, c.room, &c.used, next);
+    bool holds = next[0] == expected && next[1] == KEPT;
+    return became(c, number, after) && holds;
+}
+
+static bool not_raised(struct image before, size_t room, size_t used, uint8_t expected)
+{
+    struct change c = lend_room(before, room, used);
+    uint32_t next[2] = {KEPT, KEPT};
+    uint8_t number = sip_dialog_image_next_local_cseq(c.bytes, c.room, &c.used, next);
+    bool holds = next[0] == KEPT && next[1] == KEPT;
+    return stayed(c, number, expected, used) && holds;
+}
+
+static void test_image_next_local_cseq(void)
+{
+    struct image full = full_image();
+    struct image sheet = sheet_image();
+    struct image first = with_more(sheet, 0x01FF, 40, 1);
+    struct image carry = with_number(full, FULL_LOCAL, 0x00FFFFFF);
+    struct image last = with_number(full, FULL_LOCAL, UINT32_MAX);
+    CHECK(raised_to(full, FULL_LENGTH, 16909061, with_number(full, FULL_LOCAL, 16909061)));
+    CHECK(raised_to(full, 600, 16909061, with_number(full, FULL_LOCAL, 16909061)));
+    CHECK(raised_to(carry, FULL_LENGTH, 0x01000000, with_number(full, FULL_LOCAL, 0x01000000)));
+    CHECK(raised_to(with_number(full, FULL_LOCAL, UINT32_MAX - 1), FULL_LENGTH, UINT32_MAX, last));
+    CHECK(raised_to(last, FULL_LENGTH, UINT32_MAX, last));
+    /* the first number makes the image larger: 18 where there is no room for it */
+    CHECK(raised_to(sheet, 100, 1, first));
+    CHECK(raised_to(sheet, RECORD + 4, 1, first));
+    CHECK(not_raised(sheet, RECORD + 3, RECORD, 18));
+    CHECK(not_raised(sheet, RECORD, RECORD, 18));
+    CHECK(raised_to(first, RECORD + 4, 2, with_number(first, 40, 2)));
+    /* the routes move on */
+    CHECK(raised_to(with_routes(2), 53, 1, with_more(with_routes(2), 0x10F8, 30, 1)));
+    CHECK(not_raised(with_routes(2), 52, 49, 18));
+    CHECK(not_raised(sheet, RECORD, RECORD + 1, 3));
+    CHECK(not_raised(sheet, RECORD + 4, RECORD + 1, 3));
+    CHECK(not_raised(sheet, RECORD, RECORD - 1, 3));
+    CHECK(not_raised(sheet, RECORD - 1, RECORD, 3));
+    CHECK(not_raised(sheet, RECORD, SIZE_MAX, 3));
+    CHECK(not_raised(with_byte(sheet, 12, 0), RECORD, RECORD, 3));
+    CHECK(not_raised(with_length(sheet, 0), 0, 0, 3));
+}
+
+static bool interval_becomes(struct image before, size_t room, uint64_t seconds, struct image after)
+{
+    struct change c = lend_room(before, room, before.length);
+    uint64_t least = KEPT;
+    uint8_t number = sip_dialog_image_set_session_expires(c.bytes, c.room, &c.used, seconds, &least);
+    return became(c, number, after) && least == KEPT;
+}
+
+/* 13 answers 90 s; every other number keeps what is lent for it. */
+static bool interval_stays(struct image before, size_t room, size_t used, uint64_t seconds, uint8_t expected)
+{
+    struct change c = lend_room(before, room, used);
+    uint64_t least = KEPT;
+    uint8_t number = sip_dialog_image_set_session_expires(c.bytes, c.room, &c.used, seconds, &least);
+    return stayed(c, number, expected, used) && least == (expected == 13 ? 90 : KEPT);
+}
+
+static void test_image_set_session_expires(void)
+{
+    struct image full = full_image();
+    struct image sheet = sheet_image();
+    CHECK(interval_becomes(full, FULL_LENGTH, 90, with_number(full, FULL_SECONDS, 90)));
+    CHECK(interval_becomes(full, 600, 86400, with_number(full, FULL_SECONDS, 86400)));
+    CHECK(interval_stays(full, FULL_LENGTH, FULL_LENGTH, 89, 13));
+    CHECK(interval_stays(full, FULL_LENGTH, FULL_LENGTH, 0, 13));
+    CHECK(interval_stays(full, FULL_LENGTH, FULL_LENGTH, 86401, 14));
+    CHECK(interval_stays(full, FULL_LENGTH, FULL_LENGTH, (UINT64_C(1) << 32) + 90, 14));
+    CHECK(interval_stays(full, FULL_LENGTH, FULL_LENGTH, UINT64_MAX, 14));
+    /* the first interval makes the image larger */
+    CHECK(interval_becomes(sheet, RECORD + 4, 1800, with_more(sheet, 0x057F, 44, 1800)));
+    CHECK(interval_becomes(sheet, 100, 1800, with_more(sheet, 0x057F, 44, 1800)));
+    CHECK(interval_stays(sheet, RECORD + 3, RECORD, 1800, 18));
+    CHECK(interval_stays(sheet, RECORD, RECORD, 1800, 18));
+    CHECK(interval_stays(sheet, RECORD, RECORD, 89, 13));
+    CHECK(interval_stays(sheet, RECORD, RECORD, 86401, 14));
+    CHECK(interval_becomes(with_routes(2), 53, 90, with_more(with_routes(2), 0x1478, 30, 90)));
+    CHECK(interval_stays(with_routes(2), 52, 49, 90, 18));
+    CHECK(interval_stays(sheet, RECORD, RECORD + 1, 89, 3));
+    CHECK(interval_stays(sheet, RECORD + 4, RECORD + 1, 1800, 3));
+    CHECK(interval_stays(sheet, RECORD, RECORD - 1, 86401, 3));
+    CHECK(interval_stays(sheet, RECORD, SIZE_MAX, 1800, 3));
+    CHECK(interval_stays(with_byte(sheet, 12, 16), RECORD + 4, RECORD, 1800, 3));
+    CHECK(interval_stays(with_length(sheet, 0), 0, 0, 1800, 3));
+}
+
 /* ---- Counts of dialogs */
 
 static void test_counts(void)
@@ -1508,7 +2126,9 @@ int main(void)
         test_long_routes, test_route, test_parse_session_expires, test_session_expires, test_cseq_number, test_rseq,
         test_cseq_method, test_is_reliable_provisional, test_method_number, test_method_text, test_parse_rack,
         test_format_rack, test_validate_session_expires, test_negotiate_session_expires, test_intervals, test_needs_refresh,
-        test_determine_refresher_role, test_count, test_listing, test_counts,
+        test_determine_refresher_role, test_count, test_listing, test_image_parts, test_image_numbers, test_image_routes,
+        test_no_image, test_image_matches_request, test_image_needs_refresh, test_image_confirm, test_image_terminate,
+        test_image_next_local_cseq, test_image_set_session_expires, test_counts,
     };
     size_t i;
     for (i = 0; i < sizeof tests / sizeof tests[0]; i++) {

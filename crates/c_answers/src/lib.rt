@@ -388,7 +388,7 @@ pub fn seconds_if(given: bool, n: u32) -> OptionalSeconds
 }
 
 // What 13 returns beside its number; any other cause keeps the value.
-fn least_of(x: Refusal, old: u64) -> u64
+pub fn least_of(x: Refusal, old: u64) -> u64
     ensures { λ r. ⌜ r ≡ leastAfter x old ⌝ }
 {
     match x {

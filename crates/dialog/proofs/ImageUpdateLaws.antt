@@ -10,7 +10,7 @@ use lib.ListN.{length, take, drop, getD}
 use lib.Seq.{length-take-le}
 use lib.Dec.{ltb}
 use borrow.Author.Tests.{lt-ltb, le-ltb, ltb-true, ltb-false}
-use Rattle.limits.specs.Outcome.{Outcome, refused, given, refuseIf, andThen, orRefuse}
+use Rattle.limits.specs.Outcome.{Outcome, refused, given, causeIf, refuseBy, refuseIf, andThen, orRefuse}
 use Rattle.limits.specs.declared.Refusal.{Refusal}
 use Rattle.limits.specs.declared.Refusal.the-variants.{BadStore, NoRoom}
 use Rattle.output.specs.Output.{fitted, leaves, writtenFrom}
@@ -28,7 +28,9 @@ use Rattle.image.specs.declared.RecordReading.the-variants.{Whole}
 use Rattle.image_edit.specs.Changes.{readAt, changed}
 use Rattle.image_edit.proofs.ImageCuts.{Held, held-used, changed-held}
 use Rattle.dialog.specs.OneImage.{alone, onlyOne, oneRecord, imageAnswer}
-use Rattle.dialog.specs.ImageUpdates.{usedRecord, imageAfter}
+use Rattle.dialog.specs.ImageUpdates.{usedRecord, imageAfter, localRaised, raisedRecord, raisedAnswer}
+use Rattle.dialog.specs.Updates.{localUpdate}
+use Rattle.dialog.specs.declared.updates.Raised.the-variants as raised
 use Rattle.dialog.specs.declared.readings.ImageAnswer.the-variants as answer
 
 -- ---- the record of the used bytes
@@ -134,3 +136,32 @@ module _ (bytes : List ℕ) (used : ℕ) (step : Record → Outcome Record) wher
         let c : changed (withNumbers x) 0 (take used bytes) ≡ image .write (withNumbers x (h .value)) = changed-one bytes used p h (withNumbers x) b in
         rw (h .one, e)
         (subst (λ (s : List ℕ). (r ≡ writtenFrom (fitted (length bytes) s)) × (after ≡ leaves (fitted (length bytes) s) bytes)) c w)
+
+-- ---- the new local number
+
+module _ (bytes : List ℕ) (used : ℕ) where
+  pub raised-refused : usedRecord bytes used ≡ refused BadStore → raised.Refused BadStore ≡ raisedAnswer (raisedRecord bytes used)
+  unfolding raisedRecord
+  raised-refused e = rw e
+
+  -- r is what the change of the numbers answered
+  module _ (p : RecordAt) (h : One bytes used p) {r : Written} (w : r ≡ writtenFrom (localRaised bytes used)) where
+    measured : r ≡ writtenFrom (fitted (length bytes) (image .write (localUpdate (h .value))))
+    unfolding imageAfter
+    measured = rw (h .one) at w
+
+    pub raised-not : {cause : Refusal} → r ≡ written.Refused cause → raised.Refused cause ≡ raisedAnswer (raisedRecord bytes used)
+    unfolding raisedRecord
+    raised-not {cause} e = rw (h .one) (by (ltb (length bytes) (length (image .write (localUpdate (h .value))))) (sym e ∙ measured))
+      where
+        by : (t : Bool) → written.Refused cause ≡ writtenFrom (refuseBy (causeIf t NoRoom) (given (image .write (localUpdate (h .value))))) → raised.Refused cause ≡ raisedAnswer (refuseIf t NoRoom (given (localUpdate (h .value))))
+        by true q = cc
+        by false q = absurd (let z : _≡_ {A = ℕ} 0 1 = cc in omega arith)
+
+    pub raised-to : {n number : ℕ} → r ≡ written.Length n → number ≡ localUpdate (h .value) .numbers .local → raised.To number n ≡ raisedAnswer (raisedRecord bytes used)
+    unfolding raisedRecord
+    raised-to {n} {number} e f = rw (h .one) (by (ltb (length bytes) (length (image .write (localUpdate (h .value))))) (sym e ∙ measured))
+      where
+        by : (t : Bool) → written.Length n ≡ writtenFrom (refuseBy (causeIf t NoRoom) (given (image .write (localUpdate (h .value))))) → raised.To number n ≡ raisedAnswer (refuseIf t NoRoom (given (localUpdate (h .value))))
+        by true q = absurd (let z : _≡_ {A = ℕ} 0 1 = cc in omega arith)
+        by false q = cc

@@ -29,7 +29,7 @@ value-placed name block v e = by (firstNamed name (linesOf block)) refl e
         subst (Placed block) (ap (λ (x : HeaderLine). x .value) k ∙ w) (r .placed)
 
 -- a piece of a piece
-moved-placed : (s : List ℕ) (v p : Piece) → Placed s v → Placed (v .text) p → Placed s (movedPiece (v .place) p)
+pub moved-placed : (s : List ℕ) (v p : Piece) → Placed s v → Placed (v .text) p → Placed s (movedPiece (v .place) p)
 moved-placed s v p a b =
     let x : List ℕ = drop (v .place) s in
     let n : ℕ = length (v .text) - p .place in

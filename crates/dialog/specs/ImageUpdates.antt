@@ -7,11 +7,13 @@ use lib.ListN.{length, take}
 use lib.Dec.{ltb}
 use Rattle.limits.specs.Limits.{LimitSet}
 use Rattle.limits.specs.Outcome.{Outcome, refused, given, refuseIf, andThen}
-use Rattle.limits.specs.declared.Refusal.the-variants.{BadStore}
+use Rattle.limits.specs.declared.Refusal.the-variants.{BadStore, NoRoom}
 use Rattle.output.specs.Output.{fitted}
 use Rattle.record.specs.Record.{Record, image}
 use Rattle.dialog.specs.OneImage.{oneRecord}
 use Rattle.dialog.specs.Updates.{confirmUpdate, terminateUpdate, localUpdate, intervalUpdate}
+use Rattle.dialog.specs.declared.updates.Raised.{Raised}
+use Rattle.dialog.specs.declared.updates.Raised.the-variants as raised
 
 -- the record of the used bytes: 3
 abbrev pub usedRecord : List ℕ → ℕ → Outcome Record
@@ -33,6 +35,15 @@ confirmed bytes used = imageAfter (λ r. given (confirmUpdate r)) bytes used
 -- `next_local_cseq`: 3, 18
 abbrev pub localRaised : List ℕ → ℕ → Outcome (List ℕ)
 localRaised bytes used = imageAfter (λ r. given (localUpdate r)) bytes used
+
+-- the changed record of `next_local_cseq`: 3, 18
+unfoldable pub raisedRecord : List ℕ → ℕ → Outcome Record
+raisedRecord bytes used = andThen (usedRecord bytes used) (λ r. refuseIf (ltb (length bytes) (length (image .write (localUpdate r)))) NoRoom (given (localUpdate r)))
+
+-- its answer: the local number of the changed record, and the length of its image
+abbrev pub raisedAnswer : Outcome Record → Raised
+raisedAnswer (refused cause) = raised.Refused cause
+raisedAnswer (given r) = raised.To (r .numbers .local) (length (image .write r))
 
 -- `set_session_expires`: 3, 13 with the least, 14, 18
 abbrev pub intervalSet : LimitSet → ℕ → List ℕ → ℕ → Outcome (List ℕ)

@@ -17,8 +17,14 @@ ghost use Rattle.record.specs.Changes.{withNumbers};
 ghost use Rattle.record.specs.NumbersForm.{meaning};
 ghost use Rattle.image_edit.specs.Changes.{changed};
 ghost use Rattle.dialog.specs.OneImage.{oneRecord, imageAnswer};
-ghost use Rattle.dialog.specs.ImageUpdates.{usedRecord, terminated, confirmed, localRaised, intervalSet};
+ghost use Rattle.dialog.specs.ImageUpdates.{usedRecord, terminated, confirmed, localRaised, raisedRecord, raisedAnswer, intervalSet};
 ghost use Rattle.dialog.specs.declared.readings.ImageAnswer.the-variants.{Of};
+
+// What `next_local_cseq` answers: the new number, and the image's new length.
+pub enum Raised {
+    To(u32, usize),
+    Refused(Refusal),
+}
 
 // Dialog::confirm: 3. Early becomes Confirmed; every other state stays.
 pub fn confirm(bytes: &mut [u8], used: usize) -> Written
@@ -44,16 +50,20 @@ pub fn terminate(bytes: &mut [u8], used: usize) -> Written
     update_numbers(bytes, used, r, numbers.terminate())
 }
 
-// Dialog::next_local_cseq: 3, 18. The new number is that of the image afterwards.
-pub fn next_local_cseq(bytes: &mut [u8], used: usize) -> Written
-    ensures { λ r. ⌜ r ≡ writtenFrom (localRaised (now (bytes .entry)) used) ⌝ }
+// Dialog::next_local_cseq: 3, 18.
+pub fn next_local_cseq(bytes: &mut [u8], used: usize) -> Raised
+    ensures { λ r. ⌜ r ≡ raisedAnswer (raisedRecord (now (bytes .entry)) used) ⌝ }
     ensures { λ _. ⌜ now (bytes .exit) ≡ leaves (localRaised (now (bytes .entry)) used) (now (bytes .entry)) ⌝ }
 {
     let ImageAnswer::Of(r) = read_used(bytes, used) else {
-        return Written::Refused(Refusal::BadStore);
+        return Raised::Refused(Refusal::BadStore);
     };
     let numbers = r.numbers;
-    update_numbers(bytes, used, r, numbers.next_local_cseq())
+    let next = numbers.next_local_cseq();
+    match update_numbers(bytes, used, r, next) {
+        Written::Length(n) => Raised::To(next.local, n),
+        Written::Refused(cause) => Raised::Refused(cause),
+    }
 }
 
 // Dialog::set_session_expires: 3, 13 with 90, 14, 18.
@@ -72,7 +82,7 @@ pub fn set_session_expires(bytes: &mut [u8], used: usize, seconds: u64) -> Writt
 }
 
 // The record of the used bytes: 3.
-fn read_used(bytes: &[u8], used: usize) -> ImageAnswer
+pub fn read_used(bytes: &[u8], used: usize) -> ImageAnswer
     ensures { λ r. ⌜ r ≡ imageAnswer (usedRecord (now (bytes .entry)) used) ⌝ }
 {
     if bytes.len() < used {

@@ -29,11 +29,11 @@ bit-le true = omega arith
 bit-le false = omega arith
 
 -- by the length, and by the list
-filled-bit : {A : Type 0} (l : List A) → bitOf (ltb 0 (length l)) ≡ bitOf (isFilled l)
+pub filled-bit : {A : Type 0} (l : List A) → bitOf (ltb 0 (length l)) ≡ bitOf (isFilled l)
 filled-bit [] = refl
 filled-bit (x ∷ l) = rw (lt-ltb 0 (suc (length l)) (omega arith))
 
-routes-bit : (l : List (List ℕ)) → bitOf (ltb 0 (length l)) ≡ bitOf (isFilled (routesField (isFilled l) .write l))
+pub routes-bit : (l : List (List ℕ)) → bitOf (ltb 0 (length l)) ≡ bitOf (isFilled (routesField (isFilled l) .write l))
 routes-bit [] = refl
 routes-bit (t ∷ l) = rw (lt-ltb 0 (suc (length l)) (omega arith))
 
@@ -57,7 +57,7 @@ map-small x = omega (arith, bit-le (ltb 0 (x .local)), bit-le (ltb 0 (x .remote)
 -- ---- the record
 
 -- its image in six sections
-image-cut : (v : Record) → image .write v ≡ two .write (mapOfParts (partsIn v)) ++ (idsBytes (idsOf v) ++ ((stateByteOf (partsIn v) ∷ []) ++ (urisBytes (urisOf v) ++ (numbersBytes (v .numbers) ++ routesBytes v))))
+pub image-cut : (v : Record) → image .write v ≡ two .write (mapOfParts (partsIn v)) ++ (idsBytes (idsOf v) ++ ((stateByteOf (partsIn v) ∷ []) ++ (urisBytes (urisOf v) ++ (numbersBytes (v .numbers) ++ routesBytes v))))
 unfolding imageOf
 image-cut v = image-parts v
 
@@ -66,16 +66,16 @@ sized g a b c d e f r q = ap length q ∙ simp length-append (omega arith)
 
 module _ (s : List ℕ) (at : ℕ) (p : RecordAt) (h : Held s at p) (x : Numbers) where
   -- where the sections lie
-  state-is : p .state ≡ at + 2 + length (idsBytes (idsOf (h .value)))
+  pub state-is : p .state ≡ at + 2 + length (idsBytes (idsOf (h .value)))
   state-is = ap (λ (q : RecordAt). q .state) (h .placed) ∙ ids-end (at + 2) (idsOf (h .value))
 
-  end-is : p .uris .end ≡ p .state + 1 + length (urisBytes (urisOf (h .value)))
+  pub end-is : p .uris .end ≡ p .state + 1 + length (urisBytes (urisOf (h .value)))
   end-is =
       let e = ap (λ (q : RecordAt). q .uris .end) (h .placed) in
       let f = ap (λ (q : RecordAt). q .state) (h .placed) in
       omega (arith, e, f, uris-size (urisOf (h .value)))
 
-  routes-is : p .routes ≡ p .uris .end + length (numbersBytes (h .value .numbers))
+  pub routes-is : p .routes ≡ p .uris .end + length (numbersBytes (h .value .numbers))
   routes-is =
       let e : p .routes ≡ p .uris .end + numbersSize (h .value .numbers) = ap (λ (q : RecordAt). q .routes) (h .placed) ∙ ap (λ (q : RecordAt). q .uris .end + numbersSize (h .value .numbers)) (sym (h .placed)) in
       omega (arith, e, numbers-size (h .value .numbers))
@@ -110,13 +110,13 @@ module _ (s : List ℕ) (at : ℕ) (p : RecordAt) (h : Held s at p) (x : Numbers
   numbers-used = omega (arith, routes-is, sizes, new-sizes)
 
   -- the map and the state byte that the code makes are those of the changed record
-  map-is : mapFrom x (p .ids) (p .«route_count») ≡ mapOfParts (partsIn (withNumbers x (h .value)))
+  pub map-is : mapFrom x (p .ids) (p .«route_count») ≡ mapOfParts (partsIn (withNumbers x (h .value)))
   map-is =
       let v = h .value in
       ap (λ (q : RecordAt). mapFrom x (q .ids) (q .«route_count»)) (h .placed)
       ∙ rw (filled-bit (v .callId), filled-bit (v .localTag), filled-bit (v .remoteTag), routes-bit (v .routes))
 
-  state-byte-is : stateByteNumber (record { state = x .state; weAreUac = p .«we_are_uac»; secure = p .uris .«local_secure» || p .uris .«remote_secure» }) ≡ stateByteOf (partsIn (withNumbers x (h .value)))
+  pub state-byte-is : stateByteNumber (record { state = x .state; weAreUac = p .«we_are_uac»; secure = p .uris .«local_secure» || p .uris .«remote_secure» }) ≡ stateByteOf (partsIn (withNumbers x (h .value)))
   state-byte-is = ap (λ (q : RecordAt). stateByteNumber (record { state = x .state; weAreUac = q .«we_are_uac»; secure = q .uris .«local_secure» || q .uris .«remote_secure» })) (h .placed)
 
   -- the section replaced, the state byte put, the map put

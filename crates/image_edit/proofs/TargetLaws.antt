@@ -17,13 +17,13 @@ use Rattle.image_edit.proofs.CutLaws.{text-edit}
 use Rattle.image_edit.proofs.ImageCuts.{Held, changed-held, ids-end}
 
 -- what stands before the target's length, and what after its text
-abbrev before : Record → List ℕ
+abbrev pub before : Record → List ℕ
 before v = two .write (mapOfParts (partsIn v)) ++ (idsBytes (idsOf v) ++ (stateByteOf (partsIn v) ∷ []))
 
-abbrev after : Record → List ℕ
+abbrev pub after : Record → List ℕ
 after v = (text .write (v .localUri) ++ text .write (v .remoteUri)) ++ (numbersBytes (v .numbers) ++ routesBytes v)
 
-image-cut : (v : Record) → image .write v ≡ before v ++ (two .write (length (v .target)) ++ (v .target ++ after v))
+pub image-cut : (v : Record) → image .write v ≡ before v ++ (two .write (length (v .target)) ++ (v .target ++ after v))
 unfolding imageOf
 image-cut v =
     image-parts v
@@ -37,13 +37,13 @@ sized g a l t z r e = ap length e ∙ simp length-append (omega arith)
 
 module _ (s : List ℕ) (at : ℕ) (p : RecordAt) (h : Held s at p) (t : List ℕ) where
   -- where the text lies
-  start-is : p .uris .target .start ≡ at + length (before (h .value)) + 2
+  pub start-is : p .uris .target .start ≡ at + length (before (h .value)) + 2
   start-is =
       let v = h .value in
       let e : p .uris .target .start ≡ at + 2 + length (idsBytes (idsOf v)) + 1 + 2 = ap (λ (q : RecordAt). q .uris .target .start) (h .placed) ∙ ap (λ (n : ℕ). n + 1 + 2) (ids-end (at + 2) (idsOf v)) in
       omega (arith, e, length-append (two .write (mapOfParts (partsIn v))) (idsBytes (idsOf v) ++ (stateByteOf (partsIn v) ∷ [])), length-append (idsBytes (idsOf v)) (stateByteOf (partsIn v) ∷ []))
 
-  length-is : p .uris .target .length ≡ length (h .value .target)
+  pub length-is : p .uris .target .length ≡ length (h .value .target)
   length-is = ap (λ (q : RecordAt). q .uris .target .length) (h .placed)
 
   -- the used bytes, and the used bytes with the new target, cut around the text

@@ -80,7 +80,7 @@ fn replace_numbers(bytes: &mut [u8], used: usize, at: usize, old_length: usize, 
 
 // The bit map of a record with these identifiers, these numbers and so many routes: the bits of the numbers are those of a record that has
 // nothing else.
-fn new_map(x: Numbers, ids: IdsAt, routes: usize) -> usize
+pub fn new_map(x: Numbers, ids: IdsAt, routes: usize) -> usize
     ensures { λ r. ⌜ r ≡ mapFrom (meaning x) ids routes ⌝ }
     ensures { λ r. ⌜ r < 65536 ⌝ }
 {
@@ -102,7 +102,7 @@ fn bit(n: usize) -> usize
     1
 }
 
-fn either(a: bool, b: bool) -> bool
+pub fn either(a: bool, b: bool) -> bool
     ensures { λ r. ⌜ r ≡ a || b ⌝ }
 {
     if a {

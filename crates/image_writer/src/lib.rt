@@ -19,6 +19,7 @@ mod fields;
 mod sections;
 
 pub use fields::write_byte;
+pub use fields::write_text;
 pub use fields::write_two;
 pub use sections::map_of;
 pub use sections::numbers_size;

@@ -26,15 +26,15 @@ use Rattle.route_set.proofs.WalkLaws.{elementsLeft, Told, namedLeft, Fi
 
 -- ---- one element
 
-no-unread : (t : Bool) (s : Span) → cond t element.TooLong (element.Route s) ≡ element.Unreadable → ⊥
+pub no-unread : (t : Bool) (s : Span) → cond t element.TooLong (element.Route s) ≡ element.Unreadable → ⊥
 no-unread true s e = let z : _≡_ {A = ℕ} 0 1 = cc in omega arith
 no-unread false s e = let z : _≡_ {A = ℕ} 0 1 = cc in omega arith
 
-is-long : (t : Bool) (s : Span) → cond t element.TooLong (element.Route s) ≡ element.TooLong → t ≡ true
+pub is-long : (t : Bool) (s : Span) → cond t element.TooLong (element.Route s) ≡ element.TooLong → t ≡ true
 is-long true s e = refl
 is-long false s e = absurd (let z : _≡_ {A = ℕ} 0 1 = cc in omega arith)
 
-is-route : (t : Bool) (s u : Span) → cond t element.TooLong (element.Route s) ≡ element.Route u → (t ≡ false) × (s ≡ u)
+pub is-route : (t : Bool) (s u : Span) → cond t element.TooLong (element.Route s) ≡ element.Route u → (t ≡ false) × (s ≡ u)
 is-route true s u e = absurd (let z : _≡_ {A = ℕ} 0 1 = cc in omega arith)
 is-route false s u e = (refl, (cc))
 
@@ -70,6 +70,12 @@ in-value v element.TooLong u i e = absurd (let z : _≡_ {A = ℕ} 0 1 = cc in o
 pub told-fits : (v : List ℕ) (from : ℕ) (p : Span) (next : ℕ) → Told v from p next → p .start + p .length ≤ length v
 told-fits v from p next t = subst (λ (x : Span). x .start + x .length ≤ length v) (t .span-is) (t .placed .fits)
 
+-- the element that was read is the one ahead
+pub same-element : (v : List ℕ) (from : ℕ) (p : Span) (next : ℕ) (t : Told v from p next) → elementFrom rustLimits (p .start) (headerUri (take (p .length) (drop (p .start) v))) ≡ elementFrom rustLimits (t .piece .place) (headerUri (t .piece .text))
+same-element v from p next t =
+    subst (λ (x : Span). elementFrom rustLimits (x .start) (headerUri (take (x .length) (drop (x .start) v))) ≡ elementFrom rustLimits (t .piece .place) (headerUri (t .piece .text))) (t .span-is)
+    (ap (λ (l : List ℕ). elementFrom rustLimits (t .piece .place) (headerUri l)) (t .placed .there))
+
 -- ---- the inner loop: the elements of a value that stands at a, then those of later lines
 
 abbrev pub ahead : ℕ → List ℕ → ℕ → List Piece → List Piece
@@ -80,12 +86,6 @@ module _ (w held a : ℕ) (v : List ℕ) (from : ℕ) (rest : List Piece) (p : S
   split : ahead a v from rest ≡ movedPiece a (t .piece) ∷ ahead a v next rest
   split = rw (t .then)
 
-  -- the element that was read is the one ahead
-  same-element : elementFrom rustLimits (p .start) (headerUri (take (p .length) (drop (p .start) v))) ≡ elementFrom rustLimits (t .piece .place) (headerUri (t .piece .text))
-  same-element =
-      subst (λ (x : Span). elementFrom rustLimits (x .start) (headerUri (take (x .length) (drop (x .start) v))) ≡ elementFrom rustLimits (t .piece .place) (headerUri (t .piece .text))) (t .span-is)
-      (ap (λ (l : List ℕ). elementFrom rustLimits (t .piece .place) (headerUri l)) (t .placed .there))
-
   pub scan-full : 50 ≤ held → scan rustLimits w held (ahead a v from rest) ≡ TooMany
   unfolding scan
   scan-full h = rw (split, le-leb 50 held h)
@@ -93,19 +93,19 @@ module _ (w held a : ℕ) (v : List ℕ) (from : ℕ) (rest : List Piece) (p : S
   module _ (h : held < 50) (r : Element) (is : r ≡ elementFrom rustLimits (p .start) (headerUri (take (p .length) (drop (p .start) v)))) where
     pub scan-unread : r ≡ element.Unreadable → scan rustLimits w held (ahead a v from rest) ≡ scan rustLimits w held (ahead a v next rest)
     unfolding scan
-    scan-unread e = rw (split, lt-leb 50 held h) (by-unread w held a (t .piece .place) (scan rustLimits w held (ahead a v next rest)) (scan rustLimits w (held + 1) (ahead a v next rest)) (headerUri (t .piece .text)) (sym (is ∙ same-element) ∙ e))
+    scan-unread e = rw (split, lt-leb 50 held h) (by-unread w held a (t .piece .place) (scan rustLimits w held (ahead a v next rest)) (scan rustLimits w (held + 1) (ahead a v next rest)) (headerUri (t .piece .text)) (sym (is ∙ same-element v from p next t) ∙ e))
 
     pub scan-long : r ≡ element.TooLong → scan rustLimits w held (ahead a v from rest) ≡ TooLong
     unfolding scan
-    scan-long e = rw (split, lt-leb 50 held h) (by-long w held a (t .piece .place) (scan rustLimits w held (ahead a v next rest)) (scan rustLimits w (held + 1) (ahead a v next rest)) (headerUri (t .piece .text)) (sym (is ∙ same-element) ∙ e))
+    scan-long e = rw (split, lt-leb 50 held h) (by-long w held a (t .piece .place) (scan rustLimits w held (ahead a v next rest)) (scan rustLimits w (held + 1) (ahead a v next rest)) (headerUri (t .piece .text)) (sym (is ∙ same-element v from p next t) ∙ e))
 
     pub scan-hit : (u : Span) → r ≡ element.Route u → held ≡ w → scan rustLimits w held (ahead a v from rest) ≡ Route (movedSpan a u)
     unfolding scan
-    scan-hit u e k = rw (split, lt-leb 50 held h) (by-hit w held a (t .piece .place) (scan rustLimits w held (ahead a v next rest)) (scan rustLimits w (held + 1) (ahead a v next rest)) (headerUri (t .piece .text)) u (sym (is ∙ same-element) ∙ e) k)
+    scan-hit u e k = rw (split, lt-leb 50 held h) (by-hit w held a (t .piece .place) (scan rustLimits w held (ahead a v next rest)) (scan rustLimits w (held + 1) (ahead a v next rest)) (headerUri (t .piece .text)) u (sym (is ∙ same-element v from p next t) ∙ e) k)
 
     pub scan-more : (u : Span) → r ≡ element.Route u → (held ≡ w → ⊥) → scan rustLimits w held (ahead a v from rest) ≡ scan rustLimits w (held + 1) (ahead a v next rest)
     unfolding scan
-    scan-more u e k = rw (split, lt-leb 50 held h) (by-more w held a (t .piece .place) (scan rustLimits w held (ahead a v next rest)) (scan rustLimits w (held + 1) (ahead a v next rest)) (headerUri (t .piece .text)) u (sym (is ∙ same-element) ∙ e) k)
+    scan-more u e k = rw (split, lt-leb 50 held h) (by-more w held a (t .piece .place) (scan rustLimits w held (ahead a v next rest)) (scan rustLimits w (held + 1) (ahead a v next rest)) (headerUri (t .piece .text)) u (sym (is ∙ same-element v from p next t) ∙ e) k)
 
 -- the value has no elements left
 pub value-done : (a : ℕ) (v : List ℕ) (from : ℕ) (rest : List Piece) → elementsLeft v from ≡ [] → ahead a v from rest ≡ rest

@@ -11,5 +11,6 @@ pub use routes::Element;
 pub use routes::Scan;
 pub use routes::find_contact;
 pub use routes::read_contact;
+pub use routes::read_element;
 pub use routes::route;
 pub use routes::route_count;

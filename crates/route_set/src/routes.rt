@@ -167,7 +167,7 @@ fn scan_routes(block: &[u8], wanted: usize) -> Scan
 }
 
 // The URI of one element, where it stands in the value.
-fn read_element(value: &[u8], p: Span) -> Element
+pub fn read_element(value: &[u8], p: Span) -> Element
     requires { ⌜ p .start + p .length ≤ length (now value) ⌝ }
     ensures { λ r. ⌜ r ≡ elementFrom rustLimits (p .start) (headerUri (take (p .length) (drop (p .start) (now (value .entry))))) ⌝ }
     ensures { λ r. ⌜ InValue (now (value .entry)) r ⌝ }

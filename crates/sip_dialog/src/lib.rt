@@ -1,6 +1,7 @@
 // The C face: functions on numbers and byte runs. Nothing but calls, and answers handed over.
 mod blocks;
 mod identifiers;
+mod images;
 mod prack;
 mod stores;
 mod timers;

@@ -1,0 +1,59 @@
+-- The Contact's URI lies in the block where the look-up says. Assumes nothing.
+use Prim.Native.Nat.{ℕ, _+_, _-_, _≤_}
+use native.Mathlib.Omega.{arith}
+use mathlib.Core.Path.{_≡_, refl, sym, ap, subst, _∙_}
+use mathlib.Core.List.{List}
+use mathlib.Core.Option.{Option, none, some}
+use lib.ListN.{length, take, drop}
+use Rattle.text.specs.Text.{Piece, movedPiece, moved}
+use Rattle.text.specs.Answers.{spanOf}
+use Rattle.text.specs.declared.Span.{Span}
+use Rattle.msg.specs.Block.{valueNamed}
+use Rattle.msg.proofs.LookupLaws.{Placed}
+use Rattle.uri.specs.HeaderUri.{ReadUri, headerUri, pieceOf}
+use Rattle.uri.proofs.Laws.{Found, found}
+use Rattle.route_set.specs.Routes.{contactName, uriIn, contactOf, contactFrom}
+use Rattle.route_set.specs.declared.routes.Contact.the-variants as contact
+use Rattle.dialog.specs.Updates.{textOr}
+use Rattle.dialog.proofs.PlacedLaws.{value-placed, moved-placed}
+
+contact-placed : (block : List ℕ) (p : Piece) → contactOf block ≡ some p → Placed block p
+unfolding contactOf
+contact-placed block p e = by (valueNamed contactName block) refl e
+  where
+    in-value : (v : Piece) (o : Option ReadUri) → headerUri (v .text) ≡ o → Placed block v → moved (v .place) (pieceOf o) ≡ some p → Placed block p
+    in-value v none q h e = absurd (let z : _≡_ {A = ℕ} 0 1 = cc in omega arith)
+    in-value v (some r) q h e =
+        let f : Found (v .text) r = found (v .text) q in
+        let s : movedPiece (v .place) (r .piece) ≡ p = cc in
+        subst (Placed block) s (moved-placed block v (r .piece) h (record { fits = f .stands .fits; there = f .stands .bytes }))
+
+    by : (o : Option Piece) → valueNamed contactName block ≡ o → uriIn o ≡ some p → Placed block p
+    by none q e = absurd (let z : _≡_ {A = ℕ} 0 1 = cc in omega arith)
+    by (some v) q e = in-value v (headerUri (v .text)) refl (value-placed contactName block v q) e
+
+-- nothing was found: the old target stays
+pub no-contact : (block old : List ℕ) → contactFrom (contactOf block) ≡ contact.Nothing → textOr old (contactOf block) ≡ old
+no-contact block old e = by (contactOf block) e
+  where
+    by : (o : Option Piece) → contactFrom o ≡ contact.Nothing → textOr old o ≡ old
+    by none e = refl
+    by (some p) e = absurd (let z : _≡_ {A = ℕ} 0 1 = cc in omega arith)
+
+-- the URI was found: it is the new target
+pub contact-within : (block : List ℕ) (c : Span) → contactFrom (contactOf block) ≡ contact.At c → c .start + c .length ≤ length block
+contact-within block c e = by (contactOf block) refl e
+  where
+    by : (o : Option Piece) → contactOf block ≡ o → contactFrom o ≡ contact.At c → c .start + c .length ≤ length block
+    by none q e = absurd (let z : _≡_ {A = ℕ} 0 1 = cc in omega arith)
+    by (some p) q e = let s : spanOf p ≡ c = cc in subst (λ (x : Span). x .start + x .length ≤ length block) s (contact-placed block p q .fits)
+
+pub contact-target : (block old : List ℕ) (c : Span) → contactFrom (contactOf block) ≡ contact.At c → textOr old (contactOf block) ≡ take (c .start + c .length - c .start) (drop (c .start) block)
+contact-target block old c e = by (contactOf block) refl e
+  where
+    by : (o : Option Piece) → contactOf block ≡ o → contactFrom o ≡ contact.At c → textOr old o ≡ take (c .start + c .length - c .start) (drop (c .start) block)
+    by none q e = absurd (let z : _≡_ {A = ℕ} 0 1 = cc in omega arith)
+    by (some p) q e =
+        let s : spanOf p ≡ c = cc in
+        let n : p .place + length (p .text) - p .place ≡ length (p .text) = omega arith in
+        subst (λ (x : Span). p .text ≡ take (x .start + x .length - x .start) (drop (x .start) block)) s (sym (contact-placed block p q .there) ∙ ap (λ (m : ℕ). take m (drop (p .place) block)) (sym n))

@@ -1,0 +1,3 @@
+pub mod ContactLaws
+pub mod PlaceLaws
+pub mod RequestLaws

@@ -1,0 +1,6 @@
+// Requests and responses on a record, given as its image in lent bytes: the image is changed in its place.
+mod requests;
+mod revision;
+
+pub use requests::request_at;
+pub use requests::update_from_request;

@@ -1,0 +1,39 @@
+// A record's numbers changed, and its target to the Contact's URI where a block has a readable one.
+use image::RecordAt;
+use output::Written;
+use record::Numbers;
+use record_edit::revise_numbers;
+use record_edit::revise_numbers_and_target;
+use route_set::Contact;
+ghost use mathlib.Core.Path.{_≡_};
+ghost use Prim.Native.Nat.{_≤_, _<_};
+ghost use lib.ListN.{length, take};
+ghost use Rattle.output.specs.Output.{fitted, leaves, writtenFrom};
+ghost use Rattle.record.specs.Changes.{withNumbers};
+ghost use Rattle.record.specs.NumbersForm.{meaning};
+ghost use Rattle.image.specs.Places.{recordFrom};
+ghost use Rattle.image.specs.declared.RecordReading.the-variants.{Whole};
+ghost use Rattle.image_edit.specs.Changes.{readAt, changed};
+ghost use Rattle.dialog.specs.Updates.{retargeted};
+
+// For the record whose image begins at a place of the used bytes: 18. Answers the new used length.
+pub fn revise(
+    bytes: &mut [u8],
+    used: usize,
+    at: usize,
+    r: RecordAt,
+    numbers: Numbers,
+    block: &[u8],
+) -> Written
+    requires { ⌜ (used ≤ length (now bytes)) × (at ≤ used) × (length (now block) < 65536) ⌝ }
+    requires { ⌜ recordFrom at (readAt at (take used (now bytes))) ≡ Whole r ⌝ }
+    ensures { λ n. ⌜ n ≡ writtenFrom (fitted (length (now (bytes .entry))) (changed (λ v. retargeted (now (block .entry)) (withNumbers (meaning numbers) v)) at (take used (now (bytes .entry))))) ⌝ }
+    ensures { λ _. ⌜ now (bytes .exit) ≡ leaves (fitted (length (now (bytes .entry))) (changed (λ v. retargeted (now (block .entry)) (withNumbers (meaning numbers) v)) at (take used (now (bytes .entry))))) (now (bytes .entry)) ⌝ }
+{
+    let Contact::At(c) = route_set::find_contact(block) else {
+        return revise_numbers(bytes, used, at, r, numbers);
+    };
+    let a = c.start;
+    let e = a + c.length;
+    revise_numbers_and_target(bytes, used, at, r, numbers, &block[a..e])
+}

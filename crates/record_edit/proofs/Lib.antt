@@ -1,0 +1,3 @@
+pub mod MoveLaws
+pub mod PartLaws
+pub mod RevisedLaws

@@ -1,0 +1,102 @@
+// Lent bytes filled with the texts of a block's routes, one line after another.
+use image_writer::write_text;
+use limits::Limits;
+use limits::Refusal;
+use msg::Found;
+use route_set::Element;
+use route_set::Part;
+use route_set::next_part;
+use route_set::read_element;
+ghost use Prim.Native.Nat.{_+_, _*_, _≤_, _<_};
+ghost use mathlib.Core.Path.{_≡_};
+ghost use lib.ListN.{length};
+ghost use Rattle.limits.specs.Limits.{rustLimits};
+ghost use Rattle.route_set.specs.Parts.{headerValues};
+ghost use Rattle.route_set.specs.Routes.{routeElements};
+ghost use Rattle.route_section.specs.Filling.{textPut, filled, Answered, Bounded};
+
+// How many routes are held, and the bytes of their texts with the length bytes; or 7 or 8.
+pub enum Routes {
+    Held(usize, usize),
+    Refused(Refusal),
+}
+
+// The routes of all Record-Route lines: an element met when 50 are held ends the whole reading at once.
+pub fn fill_routes(out: &mut [u8], block: &[u8], reversed: bool) -> Routes
+    requires { ⌜ length (now block) ≤ 8192 ⌝ }
+    ensures { λ r. ⌜ Answered (filled rustLimits reversed (record { count = 0; size = 0; bytes = now (out .entry) }) (routeElements (now (block .entry)))) r (now (out .exit)) ⌝ }
+    ensures { λ r. ⌜ Bounded r ⌝ }
+{
+    let mut count = 0;
+    let mut size = 0;
+    let mut at = 0;
+    while at < block.len() {
+        let Found::At(v, next) = msg::find_from(block, at, b"Record-Route") else {
+            return Routes::Held(count, size);
+        };
+        let a = v.start;
+        let e = a + v.length;
+        match fill_value(out, &block[a..e], reversed, count, size) {
+            Routes::Refused(x) => {
+                return Routes::Refused(x);
+            }
+            Routes::Held(n, k) => {
+                count = n;
+                size = k;
+            }
+        }
+        at = next;
+    }
+    Routes::Held(count, size)
+}
+
+// The routes of one line's value, when so many are held already.
+fn fill_value(out: &mut [u8], value: &[u8], reversed: bool, held: usize, held_size: usize) -> Routes
+    requires { ⌜ (length (now value) ≤ 8192) × (held ≤ 50) × («held_size» ≤ held * 8194) ⌝ }
+    ensures { λ r. ⌜ Answered (filled rustLimits reversed (record { count = held; size = «held_size»; bytes = now (out .entry) }) (headerValues (now (value .entry)))) r (now (out .exit)) ⌝ }
+    ensures { λ r. ⌜ Bounded r ⌝ }
+{
+    let mut count = held;
+    let mut size = held_size;
+    let mut from = 0;
+    while from <= value.len() {
+        let Part::At(p, after) = next_part(value, from) else {
+            return Routes::Held(count, size);
+        };
+        if Limits::MAX_ROUTE_SET_SIZE <= count {
+            return Routes::Refused(Refusal::RouteSetTooLarge);
+        }
+        match read_element(value, p) {
+            Element::Unreadable => {}
+            Element::TooLong => {
+                return Routes::Refused(Refusal::UriTooLong);
+            }
+            Element::Route(u) => {
+                let a = u.start;
+                let e = a + u.length;
+                put_text(out, size, &value[a..e], reversed);
+                size += 2 + u.length;
+                count += 1;
+            }
+        }
+        from = after;
+    }
+    Routes::Held(count, size)
+}
+
+// One text with its length bytes, if there is room for it: after those that are held, or, reversed, before them.
+fn put_text(out: &mut [u8], size: usize, t: &[u8], reversed: bool)
+    requires { ⌜ (length (now t) ≤ 8192) × (size ≤ 500000) ⌝ }
+    ensures { λ _. ⌜ now (out .exit) ≡ textPut reversed size (now (t .entry)) (now (out .entry)) ⌝ }
+{
+    let k = 2 + t.len();
+    if out.len() < 1 + size + k {
+        return;
+    }
+    if reversed {
+        let at = out.len() - size - k;
+        write_text(out, at, t);
+    } else {
+        write_text(out, 1 + size, t);
+    }
+}
