@@ -28,8 +28,8 @@
 extern "C" {
 #endif
 
-/* Why a call is turned back. None of the functions below returns 5, 9 to 12, 15 to 17 or 20 to 24: these belong to calls
-   that create records, take requests or change stores. */
+/* Why a call is turned back. None of the functions below returns 15 to 17 or 20 to 24: these belong to calls that look up or
+   change the records of a store, and to PRACK lists. */
 enum sip_dialog_refusal {
     SIP_DIALOG_ACCEPTED = 0,
     SIP_DIALOG_TEXT_TOO_LONG = 1,              /* a given text or block is over 8,192 bytes */
@@ -265,6 +265,29 @@ uint8_t sip_dialog_image_matches_request(const uint8_t *block, size_t block_len,
    interval: no. Refuses with 3. */
 uint8_t sip_dialog_image_needs_refresh(const uint8_t *image, size_t image_len, uint64_t elapsed, uint8_t *due);
 
+/* ---- A new record image, at the front of out; `length` answers its length. `request` and `response` are header blocks,
+   status is the response's: 100 to 199 makes an Early record, 200 to 299 a Confirmed one. Call-ID, tags and interval are the
+   response's; the tags and the Call-ID may be empty. The target is the URI of the first Contact line or, where there is none
+   or it is unreadable, the remote URI. The record is secure where the local or the remote URI is `sips:`; it has no last ACK,
+   and without a readable Session-Expires no interval. Any method is taken. Both functions refuse with 1 (any of the five
+   runs); 2 (request, response); 6 (local URI, remote URI); 4 (Call-ID or a tag absent); 5; 7 (estimate of the local URI, the
+   remote URI, the target); 7 or 8 in the routes, whichever is met first, as sip_dialog_route_count; 4 (CSeq); 9; 10; 13 below
+   90 and then answer 90 in least, in seconds; 14; 18. But for 13, least keeps its value. */
+
+/* For a request that we sent, and its response: the tag of From is the local one; Contact and Record-Route are the
+   response's, the routes reversed over all lines; the request's CSeq is the local number, and there is no remote one. */
+uint8_t sip_dialog_new_uac(const uint8_t *method, size_t method_len, const uint8_t *request, size_t request_len,
+                           uint16_t status, const uint8_t *response, size_t response_len,
+                           const uint8_t *local_uri, size_t local_uri_len, const uint8_t *remote_uri, size_t remote_uri_len,
+                           uint8_t *out, size_t out_len, size_t *length, uint64_t *least);
+
+/* For a request that we were sent, and our response: the tag of To is the local one; Contact and Record-Route are the
+   request's, the routes in their order; the request's CSeq is the remote number, and there is no local one. */
+uint8_t sip_dialog_new_uas(const uint8_t *method, size_t method_len, const uint8_t *request, size_t request_len,
+                           uint16_t status, const uint8_t *response, size_t response_len,
+                           const uint8_t *local_uri, size_t local_uri_len, const uint8_t *remote_uri, size_t remote_uri_len,
+                           uint8_t *out, size_t out_len, size_t *length, uint64_t *least);
+
 /* ---- One record image changed in its place. `image` is lent with its room of image_len bytes. `used` is read and answered:
    the image's length, and where the call is accepted its new length. 3: used over image_len, or the used bytes aren't exactly
    one image. 18: the changed image is larger than image_len. Refused, every lent byte stays and `used` keeps its value;
@@ -283,6 +306,23 @@ uint8_t sip_dialog_image_next_local_cseq(uint8_t *image, size_t image_len, size_
 /* Sets the session's interval, in seconds; who refreshes stays. The image grows by four bytes where it had none. Refuses with
    3; 13 below 90 and then answers 90 in least, in seconds; 14 over 86,400; 18. But for 13, least keeps its value. */
 uint8_t sip_dialog_image_set_session_expires(uint8_t *image, size_t image_len, size_t *used, uint64_t seconds, uint64_t *least);
+
+/* Takes a request. Its CSeq becomes the remote number: 1 to 2,147,483,647 and, where the record has a remote number, 1 to
+   1,000 above that. The CSeq of an ACK, exactly these letters in capitals, must be the remote number and becomes the last
+   ACK; no largest number holds for it. The URI of the first Contact line, if it is readable, becomes the target, whatever its
+   estimate. Nothing else changes, in any state, and the block's identifier isn't compared. Refuses with 1 (method, block); 2;
+   3; 4 (CSeq); 9, for ACK too; an ACK then with 11, any other with 10, 11, 12; 18. */
+uint8_t sip_dialog_image_update_from_request(const uint8_t *method, size_t method_len, const uint8_t *block, size_t block_len,
+                                             uint8_t *image, size_t image_len, size_t *used);
+
+/* Takes a response of any status. The URI of the first Contact line, if it is readable, becomes the target, whatever its
+   estimate. A readable Session-Expires replaces interval and refresher, 0 and over 86,400 s too; without a refresher there
+   the record has none. Status 200 to 299 makes Early Confirmed, and the block's routes, reversed over all lines, then replace
+   the record's; where there are none, or reading them is refused (7, 8), the record's stay. Any other state stays, with its
+   routes. The block's identifier isn't compared. A uas that has sent a 2xx calls sip_dialog_image_confirm instead: given here,
+   its own Contact would become the target, and its routes would be reversed. Refuses with 1, 2, 3, 18. */
+uint8_t sip_dialog_image_update_from_response(uint16_t status, const uint8_t *block, size_t block_len,
+                                              uint8_t *image, size_t image_len, size_t *used);
 
 /* ---- Stores of records: docs/LAYOUTS.md has their bytes. Neither function changes a byte of the store. */
 

@@ -1487,9 +1487,11 @@ static void test_listing(void)
 
 /* ---- One record image */
 
+enum { LARGEST = 12000 }; /* the largest image here */
+
 struct image {
     size_t length;
-    uint8_t bytes[600];
+    uint8_t bytes[LARGEST];
 };
 
 static struct image image_of(const uint8_t *bytes, size_t length)
@@ -2103,6 +2105,1265 @@ static void test_image_set_session_expires(void)
     CHECK(interval_stays(with_length(sheet, 0), 0, 0, 1800, 3));
 }
 
+/* ---- Requests and responses taken by one record image */
+
+/* Bytes as a string, whose closing zero isn't one of them. */
+#define IMAGE(text) image_of((const uint8_t *)(text), sizeof(text) - 1)
+
+/* Another text at the place of a text's two length bytes. */
+static struct image with_text(struct image i, size_t at, const char *text)
+{
+    size_t old_end = at + 2 + 256 * (size_t)i.bytes[at] + i.bytes[at + 1];
+    size_t length = strlen(text);
+    memmove(i.bytes + at + 2 + length, i.bytes + old_end, i.length - old_end);
+    memcpy(i.bytes + at + 2, text, length);
+    i.bytes[at] = (uint8_t)(length / 256);
+    i.bytes[at + 1] = (uint8_t)length;
+    i.length = i.length - old_end + at + 2 + length;
+    return i;
+}
+
+/* The bytes before a place, then these; the map is given whole. */
+static struct image ending(struct image i, unsigned map, size_t at, struct image end)
+{
+    memcpy(i.bytes + at, end.bytes, end.length);
+    i.length = at + end.length;
+    i.bytes[0] = (uint8_t)(map >> 8);
+    i.bytes[1] = (uint8_t)map;
+    return i;
+}
+
+/* Where the target, the state and the remote number of the three images are. */
+enum {
+    SHEET_STATE = 12,
+    SHEET_TARGET = 13,
+    SHEET_REMOTE = 40,
+    FULL_TARGET = 16,
+    LEAST_STATE = 2,
+    LEAST_TARGET = 3,
+    LEAST_LENGTH = 30
+};
+
+/* Another target: of a record that has it where the example has, of the one with every field, of the one with no other. */
+static struct image sheet_to(struct image i, const char *target)
+{
+    return with_text(i, SHEET_TARGET, target);
+}
+
+static struct image full_to(struct image i, const char *target)
+{
+    return with_text(i, FULL_TARGET, target);
+}
+
+static struct image least_to(struct image i, const char *target)
+{
+    return with_text(i, LEAST_TARGET, target);
+}
+
+/* Another interval and refresher of the record with every field. */
+static struct image with_interval(struct image i, uint32_t seconds, uint32_t refresher)
+{
+    return with_number(with_number(i, FULL_SECONDS, seconds), FULL_REFRESHER, refresher);
+}
+
+/* The example's record with another remote number. */
+static struct image remote_is(uint32_t number)
+{
+    return with_number(sheet_image(), SHEET_REMOTE, number);
+}
+
+/* The record that has no other field, with a remote number. */
+static struct image least_with(uint32_t number)
+{
+    return with_more(least_image(), 0x0178, LEAST_LENGTH, number);
+}
+
+static bool request_becomes(const char *method, const char *block, struct image before, size_t room, struct image after)
+{
+    struct run m = lend(method);
+    struct run b = lend(block);
+    struct change c = lend_room(before, room, before.length);
+    uint8_t number = sip_dialog_image_update_from_request(m.bytes, m.length, b.bytes, b.length, c.bytes, c.room, &c.used);
+    take_back(m);
+    take_back(b);
+    return became(c, number, after);
+}
+
+static bool request_stays(const char *method, const char *block, struct image before, size_t room, size_t used,
+                          uint8_t expected)
+{
+    struct run m = lend(method);
+    struct run b = lend(block);
+    struct change c = lend_room(before, room, used);
+    uint8_t number = sip_dialog_image_update_from_request(m.bytes, m.length, b.bytes, b.length, c.bytes, c.room, &c.used);
+    take_back(m);
+    take_back(b);
+    return stayed(c, number, expected, used);
+}
+
+/* Refused in room enough. */
+static bool request_is_refused(const char *method, const char *block, struct image before, uint8_t expected)
+{
+    return request_stays(method, block, before, before.length + 100, before.length, expected);
+}
+
+static void test_image_request_numbers(void)
+{
+    struct image sheet = sheet_image();
+    struct image least = least_image();
+    struct image full = full_image();
+    /* remote number 7 */
+    CHECK(request_becomes("INVITE", "CSeq:8 INVITE\r\n", sheet, RECORD, remote_is(8)));
+    CHECK(request_becomes("BYE", "CSeq:1007 BYE\r\n", sheet, 600, remote_is(1007)));
+    CHECK(request_is_refused("BYE", "CSeq:1008 BYE\r\n", sheet, 12));
+    CHECK(request_is_refused("BYE", "CSeq:2147483647 BYE\r\n", sheet, 12));
+    CHECK(request_is_refused("BYE", "CSeq:7 BYE\r\n", sheet, 11));
+    CHECK(request_is_refused("BYE", "CSeq:6 BYE\r\n", sheet, 11));
+    CHECK(request_is_refused("BYE", "CSeq:1 BYE\r\n", sheet, 11));
+    CHECK(request_is_refused("BYE", "CSeq:0 BYE\r\n", sheet, 9));
+    CHECK(request_is_refused("BYE", "CSeq:2147483648 BYE\r\n", sheet, 10));
+    CHECK(request_is_refused("BYE", "CSeq:4294967295 BYE\r\n", sheet, 10));
+    /* remote number 0 */
+    CHECK(request_becomes("INVITE", "CSeq:1 INVITE\r\n", least, 34, least_with(1)));
+    CHECK(request_becomes("INVITE", "CSeq:1001 INVITE\r\n", least, 34, least_with(1001)));
+    CHECK(request_becomes("INVITE", "CSeq:16909060 INVITE\r\n", least, 600,
+                          ending(least, 0x0178, LEAST_LENGTH, IMAGE("\1\2\3\4"))));
+    CHECK(request_becomes("INVITE", "CSeq:2147483647 INVITE\r\n", least, 600, least_with(2147483647)));
+    CHECK(request_is_refused("INVITE", "CSeq:2147483648 INVITE\r\n", least, 10));
+    CHECK(request_is_refused("INVITE", "CSeq:4294967295 INVITE\r\n", least, 10));
+    CHECK(request_is_refused("INVITE", "CSeq:0 INVITE\r\n", least, 9));
+    /* remote numbers near the largest one and above it */
+    CHECK(request_becomes("BYE", "CSeq:2147483647 BYE\r\n", remote_is(2147483646), RECORD, remote_is(2147483647)));
+    CHECK(request_becomes("BYE", "CSeq:2147483647 BYE\r\n", remote_is(2147482647), RECORD, remote_is(2147483647)));
+    CHECK(request_is_refused("BYE", "CSeq:2147483647 BYE\r\n", remote_is(2147482646), 12));
+    CHECK(request_is_refused("BYE", "CSeq:2147483647 BYE\r\n", remote_is(2147483647), 11));
+    CHECK(request_is_refused("BYE", "CSeq:2147483648 BYE\r\n", remote_is(2147483647), 10));
+    CHECK(request_is_refused("BYE", "CSeq:2147483648 BYE\r\n", remote_is(UINT32_MAX), 10));
+    CHECK(request_is_refused("BYE", "CSeq:2147483647 BYE\r\n", remote_is(UINT32_MAX), 11));
+    CHECK(request_is_refused("BYE", "CSeq:1 BYE\r\n", remote_is(UINT32_MAX), 11));
+    CHECK(request_is_refused("BYE", "CSeq:0 BYE\r\n", remote_is(UINT32_MAX), 9));
+    /* the number alone changes; what stands after it moves where it is new */
+    CHECK(request_becomes("INFO", "CSeq:10 INFO\r\n", full, FULL_LENGTH, with_number(full, FULL_REMOTE, 10)));
+    CHECK(request_becomes("INFO", "CSeq:2 INFO\r\n", with_more(least, 0x00F8, LEAST_LENGTH, 9), 38,
+                          ending(least, 0x01F8, LEAST_LENGTH, IMAGE("\0\0\0\x09" "\0\0\0\2"))));
+    CHECK(request_becomes("INFO", "CSeq:2 INFO\r\n", with_more(least, 0x0278, LEAST_LENGTH, 9), 38,
+                          ending(least, 0x0378, LEAST_LENGTH, IMAGE("\0\0\0\2" "\0\0\0\x09"))));
+    CHECK(request_becomes("INFO", "CSeq:2 INFO\r\n", with_routes(2), 53,
+                          with_more(with_routes(2), 0x1178, LEAST_LENGTH, 2)));
+}
+
+static void test_image_request_cseq(void)
+{
+    struct image sheet = sheet_image();
+    CHECK(request_becomes("BYE", "To:t\r\ncseq: \t+008\tx y\r\nCSeq:9 BYE\r\n", sheet, RECORD, remote_is(8)));
+    CHECK(request_becomes("BYE", "CSeq:8\r\n", sheet, RECORD, remote_is(8)));
+    CHECK(request_is_refused("BYE", "CSeq:+0 BYE\r\n", sheet, 9));
+    CHECK(request_is_refused("BYE", "CSeq:-0 BYE\r\n", sheet, 4));
+    CHECK(request_is_refused("BYE", "CSeq:-8 BYE\r\n", sheet, 4));
+    CHECK(request_is_refused("BYE", "CSeq:++8 BYE\r\n", sheet, 4));
+    CHECK(request_is_refused("BYE", "CSeq:8BYE\r\n", sheet, 4));
+    CHECK(request_is_refused("BYE", "CSeq:BYE 8\r\n", sheet, 4));
+    CHECK(request_is_refused("BYE", "CSeq:4294967296 BYE\r\n", sheet, 4));
+    CHECK(request_is_refused("BYE", "CSeq:4294967304 BYE\r\n", sheet, 4));
+    CHECK(request_is_refused("BYE", "CSeq:\r\nCSeq:8 BYE\r\n", sheet, 4));
+    CHECK(request_is_refused("BYE", "RSeq:8\r\n", sheet, 4));
+    CHECK(request_is_refused("BYE", "", sheet, 4));
+    CHECK(request_is_refused("BYE", NULL, sheet, 4));
+    CHECK(request_is_refused("ACK", "CSeq:x ACK\r\n", sheet, 4));
+    CHECK(request_is_refused("ACK", NULL, sheet, 4));
+}
+
+static void test_image_request_ack(void)
+{
+    struct image sheet = sheet_image();
+    struct image full = full_image();
+    struct image acked = with_more(sheet, 0x037F, RECORD, 7);
+    CHECK(request_becomes("ACK", "CSeq:7 ACK\r\n", sheet, 600, acked));
+    CHECK(request_becomes("ACK", "CSeq:7 ACK\r\n", sheet, RECORD + 4, acked));
+    CHECK(request_stays("ACK", "CSeq:7 ACK\r\n", sheet, RECORD + 3, RECORD, 18));
+    CHECK(request_stays("ACK", "CSeq:7 ACK\r\n", sheet, RECORD, RECORD, 18));
+    /* once more, and after another request */
+    CHECK(request_becomes("ACK", "CSeq:7 ACK\r\n", acked, RECORD + 4, acked));
+    CHECK(request_becomes("BYE", "CSeq:8 BYE\r\n", acked, RECORD + 4, with_number(acked, SHEET_REMOTE, 8)));
+    CHECK(request_becomes("ACK", "CSeq:9 ACK\r\n", full, FULL_LENGTH, with_number(full, FULL_ACK, 9)));
+    CHECK(request_becomes("ACK", "CSeq:+09 INVITE\r\n", full, 600, with_number(full, FULL_ACK, 9)));
+    /* unequal, also far above; the last ACK doesn't count */
+    CHECK(request_is_refused("ACK", "CSeq:6 ACK\r\n", sheet, 11));
+    CHECK(request_is_refused("ACK", "CSeq:8 ACK\r\n", sheet, 11));
+    CHECK(request_is_refused("ACK", "CSeq:1008 ACK\r\n", sheet, 11));
+    CHECK(request_is_refused("ACK", "CSeq:2147483648 ACK\r\n", sheet, 11));
+    CHECK(request_is_refused("ACK", "CSeq:4294967295 ACK\r\n", sheet, 11));
+    CHECK(request_is_refused("ACK", "CSeq:8 ACK\r\n", full, 11));
+    /* 0, and remote number 0 */
+    CHECK(request_is_refused("ACK", "CSeq:0 ACK\r\n", sheet, 9));
+    CHECK(request_is_refused("ACK", "CSeq:0 ACK\r\n", least_image(), 9));
+    CHECK(request_is_refused("ACK", "CSeq:1 ACK\r\n", least_image(), 11));
+    CHECK(request_is_refused("ACK", "CSeq:2147483648 ACK\r\n", least_image(), 11));
+    /* no largest number */
+    CHECK(request_becomes("ACK", "CSeq:2147483647 ACK\r\n", remote_is(2147483647), 600,
+                          with_more(remote_is(2147483647), 0x037F, RECORD, 2147483647)));
+    CHECK(request_becomes("ACK", "CSeq:2147483648 ACK\r\n", remote_is(2147483648), 600,
+                          with_more(remote_is(2147483648), 0x037F, RECORD, 2147483648)));
+    CHECK(request_becomes("ACK", "CSeq:4294967295 ACK\r\n", remote_is(UINT32_MAX), 600,
+                          with_more(remote_is(UINT32_MAX), 0x037F, RECORD, UINT32_MAX)));
+    /* the routes move on */
+    CHECK(request_becomes("ACK", "CSeq:2 ACK\r\n", with_more(with_routes(2), 0x1178, LEAST_LENGTH, 2), 57,
+                          with_more(with_more(with_routes(2), 0x1178, LEAST_LENGTH, 2), 0x1378, LEAST_LENGTH + 4, 2)));
+    CHECK(request_stays("ACK", "CSeq:2 ACK\r\n", with_more(with_routes(2), 0x1178, LEAST_LENGTH, 2), 56, 53, 18));
+}
+
+/* Only `ACK` is an ACK; any other method, of any bytes, is a request like all others. */
+static void test_image_request_methods(void)
+{
+    static const char *const others[] = {
+        "ack", "Ack", "ACk", "aCK", "ACK ", " ACK", "ACKK", "AC", "BCK", "ADK", "ACJ", "A", "INVITE", "PRACK", "\xff", "\r\n",
+        "", NULL,
+    };
+    struct image sheet = sheet_image();
+    const uint8_t zero_ended[] = {'A', 'C', 'K', 0};
+    const uint8_t block[] = {'C', 'S', 'e', 'q', ':', '7', '\r', '\n'};
+    struct change c = lend_room(sheet, 600, RECORD);
+    char buffer[LONGEST + 2];
+    size_t i;
+    uint8_t number;
+    for (i = 0; i < sizeof others / sizeof others[0]; i++) {
+        CHECK(request_becomes(others[i], "CSeq:8 ACK\r\n", sheet, RECORD, remote_is(8)));
+        CHECK(request_is_refused(others[i], "CSeq:7 ACK\r\n", sheet, 11));
+        CHECK(request_is_refused(others[i], "CSeq:1008 ACK\r\n", sheet, 12));
+        CHECK(request_is_refused(others[i], "CSeq:2147483648 ACK\r\n", remote_is(2147483648), 10));
+    }
+    number = sip_dialog_image_update_from_request(zero_ended, sizeof zero_ended, block, sizeof block, c.bytes, c.room, &c.used);
+    CHECK(stayed(c, number, 11, RECORD));
+    c = lend_room(sheet, 600, RECORD);
+    number = sip_dialog_image_update_from_request(zero_ended, 3, block, sizeof block, c.bytes, c.room, &c.used);
+    CHECK(became(c, number, with_more(sheet, 0x037F, RECORD, 7)));
+    CHECK(request_becomes(filled(buffer, "ACK", 'K', "", LONGEST), "CSeq:8 ACK\r\n", sheet, RECORD, remote_is(8)));
+    CHECK(request_is_refused(filled(buffer, "ACK", 'K', "", LONGEST + 1), "CSeq:8 ACK\r\n", sheet, 1));
+}
+
+static void test_image_request_target(void)
+{
+    struct image sheet = sheet_image();
+    struct image full = full_image();
+    struct image longer = sheet_to(remote_is(8), "sips:new@host.example:5061;x");
+    struct image acked = with_more(sheet, 0x037F, RECORD, 7);
+    char buffer[LONGEST + 2];
+    char uri[LONGEST + 2];
+    /* longer: by hand; the secure bit isn't the target's */
+    CHECK(request_becomes("BYE", "CSeq:8 BYE\r\nContact:\"N\" <sips:n@host>;q=1\r\n", sheet, 600,
+                          IMAGE("\x01\x7F" "\0\2" "c1" "\0\1" "L" "\0\1" "R" "\2" "\0\x0B" "sips:n@host"
+                                "\0\7" "sip:l@h" "\0\7" "sip:r@h" "\0\0\0\x08")));
+    CHECK(request_becomes("BYE", "Contact:<sips:new@host.example:5061;x>\r\nCSeq:8\r\n", sheet, RECORD + 21, longer));
+    CHECK(request_stays("BYE", "Contact:<sips:new@host.example:5061;x>\r\nCSeq:8\r\n", sheet, RECORD + 20, RECORD, 18));
+    CHECK(request_stays("BYE", "Contact:<sips:new@host.example:5061;x>\r\nCSeq:8\r\n", sheet, RECORD, RECORD, 18));
+    /* shorter: the two last bytes of the old image stay */
+    CHECK(request_becomes("BYE", "CSeq:8\r\nContact:sip:h;x\r\n", sheet, RECORD, sheet_to(remote_is(8), "sip:h")));
+    CHECK(request_becomes("BYE", "CSeq:8\r\nContact:sip:h;x\r\n", sheet, 600, sheet_to(remote_is(8), "sip:h")));
+    /* of the same length, and the same */
+    CHECK(request_becomes("BYE", "CSeq:8\r\ncontact:< sip:n@h\t>\r\n", sheet, RECORD, sheet_to(remote_is(8), "sip:n@h")));
+    CHECK(request_becomes("BYE", "CSeq:8\r\nContact:sip:r@h\r\n", sheet, RECORD, remote_is(8)));
+    /* unreadable or absent: kept; the first line alone is asked */
+    CHECK(request_becomes("BYE", "CSeq:8\r\nContact:*\r\n", sheet, RECORD, remote_is(8)));
+    CHECK(request_becomes("BYE", "CSeq:8\r\nContact:\r\n", sheet, RECORD, remote_is(8)));
+    CHECK(request_becomes("BYE", "CSeq:8\r\nContact:<sip:n@h\r\n", sheet, RECORD, remote_is(8)));
+    CHECK(request_becomes("BYE", "CSeq:8\r\nContact:\"a<b\" <sip:n@h>\r\n", sheet, RECORD, remote_is(8)));
+    CHECK(request_becomes("BYE", "CSeq:8\r\nContact:<tel:1>\r\nContact:<sip:n@h>\r\n", sheet, RECORD, remote_is(8)));
+    CHECK(request_becomes("BYE", "CSeq:8\r\nContact:<sip:n@h>,<sip:m@h>\r\nContact:<sip:k@h>\r\n", sheet, RECORD,
+                          sheet_to(remote_is(8), "sip:n@h")));
+    CHECK(request_becomes("BYE", "CSeq:8\r\nm:<sip:n@h>\r\n", sheet, RECORD, remote_is(8)));
+    /* an ACK brings one too; a refused request doesn't */
+    CHECK(request_becomes("ACK", "CSeq:7\r\nContact:sip:n@hh\r\n", sheet, RECORD + 5, sheet_to(acked, "sip:n@hh")));
+    CHECK(request_stays("ACK", "CSeq:7\r\nContact:sip:n@hh\r\n", sheet, RECORD + 4, RECORD, 18));
+    CHECK(request_is_refused("ACK", "CSeq:8\r\nContact:sip:n@h\r\n", sheet, 11));
+    CHECK(request_is_refused("BYE", "CSeq:7\r\nContact:sip:n@h\r\n", sheet, 11));
+    CHECK(request_is_refused("BYE", "CSeq:0\r\nContact:sip:n@h\r\n", sheet, 9));
+    CHECK(request_is_refused("BYE", "Contact:sip:n@h\r\n", sheet, 4));
+    /* what stands after it moves */
+    CHECK(request_becomes("BYE", "CSeq:10\r\nContact:<sip:h>\r\n", full, FULL_LENGTH,
+                          full_to(with_number(full, FULL_REMOTE, 10), "sip:h")));
+    CHECK(request_becomes("BYE", "CSeq:10\r\nContact:<sip:tt@h>\r\n", full, FULL_LENGTH + 1,
+                          full_to(with_number(full, FULL_REMOTE, 10), "sip:tt@h")));
+    CHECK(request_stays("BYE", "CSeq:10\r\nContact:<sip:tt@h>\r\n", full, FULL_LENGTH, FULL_LENGTH, 18));
+    /* not measured: an estimate of 513, and a block that is all Contact */
+    filled(buffer, "CSeq:8\r\nContact:<sip:", 'h', ">\r\n", 21 + 503 + 3);
+    filled(uri, "sip:", 'h', "", 4 + 503);
+    CHECK(request_becomes("BYE", buffer, sheet, RECORD + 500, sheet_to(remote_is(8), uri)));
+    CHECK(request_stays("BYE", buffer, sheet, RECORD + 499, RECORD, 18));
+    filled(buffer, "CSeq:8\r\nContact:sip:", 'h', "\r\n", LONGEST);
+    filled(uri, "sip:", 'h', "", LONGEST - 18);
+    CHECK(request_becomes("BYE", buffer, sheet, 9000, sheet_to(remote_is(8), uri)));
+    CHECK(request_becomes("BYE", "CSeq:9\r\nContact:sip:r@h\r\n", sheet_to(remote_is(8), uri), 9000, remote_is(9)));
+}
+
+/* A target that shrinks while a number comes in: it fits where the sum does. */
+static void test_image_request_room(void)
+{
+    struct image least = least_image();
+    struct image wide = least_to(least, "sip:rrrr@hhh");
+    struct image sheet = sheet_to(sheet_image(), "sip:rrrr@h");
+    CHECK(wide.length == 35 && sheet.length == 47);
+    /* a remote number: 4 more, and 3, 4, 5 or 7 less */
+    CHECK(request_becomes("BYE", "CSeq:2\r\nContact:sip:rrr@hh\r\n", wide, 37, least_to(least_with(2), "sip:rrr@hh")));
+    CHECK(request_stays("BYE", "CSeq:2\r\nContact:sip:rrr@hh\r\n", wide, 36, 35, 18));
+    CHECK(request_becomes("BYE", "CSeq:2\r\nContact:sip:rr@hh\r\n", wide, 36, least_to(least_with(2), "sip:rr@hh")));
+    CHECK(request_stays("BYE", "CSeq:2\r\nContact:sip:rr@hh\r\n", wide, 35, 35, 18));
+    CHECK(request_becomes("BYE", "CSeq:2\r\nContact:sip:rr@h\r\n", wide, 35, least_to(least_with(2), "sip:rr@h")));
+    CHECK(request_becomes("BYE", "CSeq:2\r\nContact:sip:r@h\r\n", wide, 35, least_with(2)));
+    CHECK(request_becomes("BYE", "CSeq:2\r\nContact:sip:h\r\n", wide, 35, least_to(least_with(2), "sip:h")));
+    CHECK(request_becomes("BYE", "CSeq:2\r\nContact:sip:h\r\n", wide, 600, least_to(least_with(2), "sip:h")));
+    /* a last ACK: 4 more, and 3 or 5 less */
+    CHECK(request_becomes("ACK", "CSeq:7\r\nContact:sip:r@h\r\n", sheet, 48, with_more(sheet_image(), 0x037F, RECORD, 7)));
+    CHECK(request_stays("ACK", "CSeq:7\r\nContact:sip:r@h\r\n", sheet, 47, 47, 18));
+    CHECK(request_becomes("ACK", "CSeq:7\r\nContact:sip:h\r\n", sheet, 47,
+                          sheet_to(with_more(sheet_image(), 0x037F, RECORD, 7), "sip:h")));
+    /* a number alone */
+    CHECK(request_becomes("BYE", "CSeq:2\r\n", least, 34, least_with(2)));
+    CHECK(request_stays("BYE", "CSeq:2\r\n", least, 33, 30, 18));
+    CHECK(request_stays("BYE", "CSeq:2\r\n", least, 30, 30, 18));
+}
+
+/* What a request doesn't look at: state and side, identifiers, routes, the interval. */
+static void test_image_request_rest(void)
+{
+    struct image sheet = sheet_image();
+    struct image full = full_image();
+    char buffer[LONGEST + 2];
+    uint8_t state;
+    for (state = 1; state <= 7; state++) {
+        if (state != 4) {
+            CHECK(request_becomes("BYE", "CSeq:8\r\n", with_byte(sheet, SHEET_STATE, state), RECORD,
+                                  with_byte(remote_is(8), SHEET_STATE, state)));
+            CHECK(request_becomes("ACK", "CSeq:7\r\n", with_byte(sheet, SHEET_STATE, state), RECORD + 4,
+                                  with_byte(with_more(sheet, 0x037F, RECORD, 7), SHEET_STATE, state)));
+        }
+    }
+    /* Terminated: its refusals and its target too */
+    CHECK(request_is_refused("BYE", "CSeq:7\r\n", with_byte(sheet, SHEET_STATE, 3), 11));
+    CHECK(request_becomes("BYE", "CSeq:8\r\nContact:sip:h\r\n", with_byte(sheet, SHEET_STATE, 3), RECORD,
+                          sheet_to(with_byte(remote_is(8), SHEET_STATE, 3), "sip:h")));
+    CHECK(request_becomes("BYE", "Call-ID:c2\r\nFrom:;tag=x\r\nTo:;tag=y\r\nCSeq:8\r\n", sheet, RECORD, remote_is(8)));
+    CHECK(request_becomes("BYE", "CSeq:10\r\nRecord-Route:<sip:a>\r\nSession-Expires:7;refresher=uac\r\n", full, FULL_LENGTH,
+                          with_number(full, FULL_REMOTE, 10)));
+    CHECK(request_becomes("BYE", routes(buffer, ROUTES + 1, "CSeq:8\r\n"), sheet, RECORD, remote_is(8)));
+    CHECK(request_becomes("BYE", long_block(buffer, "CSeq:8\r\n", LONGEST), sheet, RECORD, remote_is(8)));
+}
+
+static void test_image_request_order(void)
+{
+    struct image sheet = sheet_image();
+    struct image bad = with_byte(sheet, SHEET_STATE, 0);
+    char text[LONGEST + 2];
+    char buffer[LONGEST + 2];
+    /* 1 of the method, 1 of the block, 2, 3, 4: each with all that come after it */
+    filled(text, "", 'A', "", LONGEST + 1);
+    CHECK(request_stays(text, "CSeq", bad, RECORD, RECORD, 1));
+    CHECK(request_stays("BYE", text, bad, RECORD, RECORD, 1));
+    CHECK(request_stays(text, text, bad, RECORD, RECORD + 1, 1));
+    CHECK(request_stays("BYE", long_block(buffer, "CSeq:8\r\n", LONGEST + 1), sheet, RECORD, RECORD, 1));
+    CHECK(request_stays("BYE", filled(buffer, "", 'A', "", LONGEST), bad, RECORD, RECORD, 2));
+    CHECK(request_stays("BYE", "CSeq:7", bad, RECORD, RECORD, 2));
+    CHECK(request_stays("BYE", "CSeq:8\r\n\r\n", sheet, RECORD, RECORD, 2));
+    CHECK(request_stays("BYE", "CSeq:8\r\n", sheet, RECORD - 1, RECORD, 3));
+    CHECK(request_stays("BYE", "", bad, RECORD, RECORD, 3));
+    CHECK(request_stays("BYE", "CSeq:0\r\n", bad, RECORD, RECORD, 3));
+    CHECK(request_stays("BYE", "CSeq:8\r\n", sheet, RECORD, RECORD + 1, 3));
+    CHECK(request_stays("BYE", "CSeq:8\r\n", sheet, RECORD, SIZE_MAX, 3));
+    CHECK(request_stays("BYE", "CSeq:8\r\n", sheet, RECORD, RECORD - 1, 3));
+    CHECK(request_stays("BYE", "CSeq:8\r\n", sheet, RECORD, 0, 3));
+    CHECK(request_stays("BYE", "CSeq:8\r\n", sheet, RECORD + 1, RECORD + 1, 3));
+    CHECK(request_stays("ACK", "CSeq:7\r\n", sheet, RECORD + 1, RECORD + 1, 3));
+    CHECK(request_stays("BYE", "CSeq:8\r\n", with_length(sheet, 0), 0, 0, 3));
+    CHECK(request_stays("BYE", "CSeq:8\r\n", with_length(sheet, 0), 0, 1, 3));
+    CHECK(request_stays("BYE", NULL, with_length(sheet, 0), 0, 0, 3));
+    /* no room, and a number that is refused */
+    CHECK(request_stays("BYE", "Contact:sip:rr@h\r\n", sheet, RECORD, RECORD, 4));
+    CHECK(request_stays("BYE", "CSeq:0\r\nContact:sip:rr@h\r\n", sheet, RECORD, RECORD, 9));
+    CHECK(request_stays("BYE", "CSeq:2147483648\r\nContact:sip:rr@h\r\n", sheet, RECORD, RECORD, 10));
+    CHECK(request_stays("BYE", "CSeq:7\r\nContact:sip:rr@h\r\n", sheet, RECORD, RECORD, 11));
+    CHECK(request_stays("BYE", "CSeq:1008\r\nContact:sip:rr@h\r\n", sheet, RECORD, RECORD, 12));
+    CHECK(request_stays("BYE", "CSeq:8\r\nContact:sip:rr@h\r\n", sheet, RECORD, RECORD, 18));
+    CHECK(request_stays("ACK", "CSeq:0\r\n", sheet, RECORD, RECORD, 9));
+    CHECK(request_stays("ACK", "CSeq:8\r\n", sheet, RECORD, RECORD, 11));
+    CHECK(request_stays("ACK", "CSeq:7\r\n", sheet, RECORD, RECORD, 18));
+}
+
+static bool response_becomes(uint16_t status, const char *block, struct image before, size_t room, struct image after)
+{
+    struct run b = lend(block);
+    struct change c = lend_room(before, room, before.length);
+    uint8_t number = sip_dialog_image_update_from_response(status, b.bytes, b.length, c.bytes, c.room, &c.used);
+    take_back(b);
+    return became(c, number, after);
+}
+
+static bool response_stays(uint16_t status, const char *block, struct image before, size_t room, size_t used, uint8_t expected)
+{
+    struct run b = lend(block);
+    struct change c = lend_room(before, room, used);
+    uint8_t number = sip_dialog_image_update_from_response(status, b.bytes, b.length, c.bytes, c.room, &c.used);
+    take_back(b);
+    return stayed(c, number, expected, used);
+}
+
+/* The record with every field, Confirmed; and with these routes, Confirmed. */
+static struct image full_confirmed(void)
+{
+    return with_byte(full_image(), FULL_STATE, 14);
+}
+
+static struct image full_ending(struct image routes)
+{
+    return ending(full_confirmed(), 0x1FFF, FULL_ROUTES, routes);
+}
+
+/* A block with so many routes "sip:10", "sip:11", .., five to a line, then these lines. */
+static const char *numbered_routes(char *buffer, size_t count, const char *lines)
+{
+    size_t length = 0;
+    size_t k;
+    for (k = 0; k < count; k++) {
+        const char *before = k % 5 == 0 ? "Record-Route:" : ", ";
+        const char *after = k % 5 == 4 || k + 1 == count ? "\r\n" : "";
+        length += (size_t)sprintf(buffer + length, "%s<sip:%u>%s", before, 10 + (unsigned)k, after);
+    }
+    strcpy(buffer + length, lines);
+    return buffer;
+}
+
+/* The same routes as an image has them, 8 bytes each, after their count. */
+static struct image numbered_end(size_t count, bool reversed)
+{
+    struct image i = {0, {0}};
+    size_t k;
+    i.bytes[0] = (uint8_t)count;
+    i.length = 1;
+    for (k = 0; k < count; k++) {
+        unsigned host = 10 + (unsigned)(reversed ? count - 1 - k : k);
+        i.bytes[i.length + 1] = 6;
+        sprintf((char *)i.bytes + i.length + 2, "sip:%u", host);
+        i.length += 8;
+    }
+    return i;
+}
+
+static void test_image_response_state(void)
+{
+    static const uint16_t others[] = {0, 1, 100, 180, 199, 300, 302, 404, 486, 503, 603, 699, 2000, UINT16_MAX};
+    struct image full = full_image();
+    struct image sheet = sheet_image();
+    struct image early = with_byte(sheet, SHEET_STATE, 1);
+    struct image terminated = with_byte(sheet, SHEET_STATE, 3);
+    size_t i;
+    for (i = 0; i < sizeof others / sizeof others[0]; i++) {
+        CHECK(response_becomes(others[i], "", full, FULL_LENGTH, full));
+        CHECK(response_becomes(others[i], NULL, early, RECORD, early));
+        CHECK(response_becomes(others[i], "", sheet, RECORD, sheet));
+        CHECK(response_becomes(others[i], "", terminated, RECORD, terminated));
+    }
+    CHECK(response_becomes(200, "", full, FULL_LENGTH, full_confirmed()));
+    CHECK(response_becomes(200, NULL, full, 600, full_confirmed()));
+    CHECK(response_becomes(202, "CSeq:x\r\n", full, FULL_LENGTH + 1, full_confirmed()));
+    CHECK(response_becomes(299, "Call-ID:other\r\nFrom:;tag=x\r\nTo:;tag=y\r\n", full, FULL_LENGTH, full_confirmed()));
+    CHECK(response_becomes(200, "", early, RECORD, sheet));
+    CHECK(response_becomes(200, "", sheet, RECORD, sheet));
+    CHECK(response_becomes(200, "", terminated, RECORD, terminated));
+    CHECK(response_becomes(200, "", with_byte(sheet, SHEET_STATE, 5), RECORD, with_byte(sheet, SHEET_STATE, 6)));
+    CHECK(response_becomes(200, "", with_byte(sheet, SHEET_STATE, 7), RECORD, with_byte(sheet, SHEET_STATE, 7)));
+    CHECK(response_becomes(200, "", least_image(), LEAST_LENGTH, with_byte(least_image(), LEAST_STATE, 2)));
+}
+
+static void test_image_response_routes(void)
+{
+    const char *three = "Record-Route:<sip:a@h>, <x>, sip:b@h;lr\r\nTo:t\r\nRECORD-ROUTE:\"C\" < sip:c@hh;lr >\r\n";
+    struct image full = full_image();
+    struct image least = least_image();
+    struct image reversed = IMAGE("\3" "\0\x0B" "sip:c@hh;lr" "\0\7" "sip:b@h" "\0\7" "sip:a@h");
+    char buffer[LONGEST + 2];
+    char line[1024];
+    char uri[1024];
+    CHECK(full_ending(reversed).length == 97);
+    /* reversed over all lines, for both sides; more bytes than before, or fewer, or as many */
+    CHECK(response_becomes(200, three, full, 600, full_ending(reversed)));
+    CHECK(response_becomes(299, three, full, 97, full_ending(reversed)));
+    CHECK(response_stays(200, three, full, 96, FULL_LENGTH, 18));
+    CHECK(response_stays(200, three, full, FULL_LENGTH, FULL_LENGTH, 18));
+    CHECK(response_becomes(200, three, with_byte(full, FULL_STATE, 9), 97, with_byte(full_ending(reversed), FULL_STATE, 10)));
+    CHECK(response_becomes(200, "Record-Route:<sip:a>\r\n", full, FULL_LENGTH, full_ending(IMAGE("\1" "\0\5" "sip:a"))));
+    CHECK(response_becomes(200, "Record-Route:<sip:a>\r\n", full, 600, full_ending(IMAGE("\1" "\0\5" "sip:a"))));
+    CHECK(response_becomes(200, "Record-Route:sip:a@h,sip:b@hhhhh\r\n", full, FULL_LENGTH,
+                           full_ending(IMAGE("\2" "\0\x0B" "sip:b@hhhhh" "\0\7" "sip:a@h"))));
+    /* the first routes of a record */
+    CHECK(response_becomes(200, three, least, 62, with_byte(ending(least, 0x1078, LEAST_LENGTH, reversed), LEAST_STATE, 2)));
+    CHECK(response_stays(200, three, least, 61, LEAST_LENGTH, 18));
+    /* none, or none that is readable: the old ones stay */
+    CHECK(response_becomes(200, "Route:<sip:a>\r\n", full, FULL_LENGTH, full_confirmed()));
+    CHECK(response_becomes(200, "Record-Route:\r\n", full, FULL_LENGTH, full_confirmed()));
+    CHECK(response_becomes(200, "Record-Route:, ,\r\nRecord-Route:<x>,y\r\n", full, FULL_LENGTH, full_confirmed()));
+    CHECK(response_becomes(200, "Record-Route:\"a<b\" <sip:p@h>, <sip:q@h>\r\n", full, FULL_LENGTH, full_confirmed()));
+    CHECK(response_becomes(200, "Record-Route:x\r\n", least, LEAST_LENGTH, with_byte(least, LEAST_STATE, 2)));
+    /* 50 are taken; a part more keeps the old ones, and the rest of the response counts */
+    CHECK(response_becomes(200, numbered_routes(buffer, ROUTES, ""), full, 466, full_ending(numbered_end(ROUTES, true))));
+    CHECK(response_stays(200, buffer, full, 465, FULL_LENGTH, 18));
+    CHECK(response_becomes(200, numbered_routes(buffer, ROUTES, "Record-Route:, ,\r\n"), full, 600,
+                           full_ending(numbered_end(ROUTES, true))));
+    CHECK(response_becomes(200, numbered_routes(buffer, ROUTES - 1, "Record-Route:x,y,<sip:59>\r\n"), full, 600,
+                           full_ending(numbered_end(ROUTES, true))));
+    CHECK(response_becomes(200, numbered_routes(buffer, ROUTES + 1, ""), full, FULL_LENGTH, full_confirmed()));
+    CHECK(response_becomes(200, numbered_routes(buffer, ROUTES, "Record-Route:,x\r\n"), full, 600, full_confirmed()));
+    CHECK(response_becomes(200, numbered_routes(buffer, ROUTES + 1, ""), least, 600, with_byte(least, LEAST_STATE, 2)));
+    numbered_routes(buffer, ROUTES + 1, "Contact:sip:h\r\nSession-Expires:7;refresher=uac\r\n");
+    CHECK(response_becomes(200, buffer, full, FULL_LENGTH, full_to(with_interval(full_confirmed(), 7, 1), "sip:h")));
+    /* an estimate of 512 is taken, 513 keeps the old ones */
+    filled(line, "Record-Route:<sip:", 'h', ">\r\n", 18 + 502 + 3);
+    filled(uri, "sip:", 'h', "", 4 + 502);
+    CHECK(response_becomes(200, line, least, 600,
+                           with_text(with_byte(ending(least, 0x1078, LEAST_LENGTH, IMAGE("\1" "\0\0")), LEAST_STATE, 2),
+                                     LEAST_LENGTH + 1, uri)));
+    filled(line, "Record-Route:<sip:", 'h', ">\r\n", 18 + 503 + 3);
+    CHECK(response_becomes(200, line, full, FULL_LENGTH, full_confirmed()));
+    CHECK(response_becomes(200, strcat(line, "Record-Route:<sip:a>\r\n"), full, FULL_LENGTH, full_confirmed()));
+}
+
+/* Routes of a response that doesn't confirm are not looked at. */
+static void test_image_response_no_routes(void)
+{
+    static const uint16_t others[] = {0, 100, 183, 199, 300, 486, UINT16_MAX};
+    const char *block = "Record-Route:<sip:a>\r\n";
+    struct image full = full_image();
+    struct image confirmed = full_confirmed();
+    struct image terminated = with_byte(full, FULL_STATE, 15);
+    struct image sheet = sheet_image();
+    char buffer[LONGEST + 2];
+    size_t i;
+    for (i = 0; i < sizeof others / sizeof others[0]; i++) {
+        CHECK(response_becomes(others[i], block, full, FULL_LENGTH, full));
+        CHECK(response_becomes(others[i], block, confirmed, FULL_LENGTH, confirmed));
+        CHECK(response_becomes(others[i], block, least_image(), LEAST_LENGTH, least_image()));
+    }
+    CHECK(response_becomes(200, block, confirmed, FULL_LENGTH, confirmed));
+    CHECK(response_becomes(200, block, terminated, FULL_LENGTH, terminated));
+    CHECK(response_becomes(200, block, sheet, RECORD, sheet));
+    CHECK(response_becomes(200, routes(buffer, ROUTES + 1, ""), sheet, RECORD, sheet));
+    /* the target and the interval of such a response are taken */
+    CHECK(response_becomes(200, "Record-Route:<sip:a>\r\nContact:sip:h\r\nSession-Expires:7;refresher=uac\r\n", confirmed, 600,
+                           full_to(with_interval(confirmed, 7, 1), "sip:h")));
+    CHECK(response_becomes(200, "Record-Route:<sip:a>\r\nContact:sip:h\r\nSession-Expires:7;refresher=uac\r\n", terminated, 600,
+                           full_to(with_interval(terminated, 7, 1), "sip:h")));
+    CHECK(response_becomes(183, "Record-Route:<sip:a>\r\nContact:sip:h\r\nSession-Expires:7;refresher=uac\r\n", full, 600,
+                           full_to(with_interval(full, 7, 1), "sip:h")));
+}
+
+static void test_image_response_interval(void)
+{
+    struct image full = full_image();
+    struct image sheet = sheet_image();
+    struct image alone = with_more(sheet, 0x057F, RECORD, 1800);
+    struct image both = ending(sheet, 0x0D7F, RECORD, IMAGE("\0\0\7\x08" "\0\0\0\1"));
+    struct image refresher = with_more(sheet, 0x097F, RECORD, 2);
+    struct image dropped = ending(full, 0x17FF, FULL_REFRESHER, image_of(full.bytes + FULL_ROUTES, FULL_LENGTH - FULL_ROUTES));
+    /* the first interval of a record */
+    CHECK(response_becomes(200, "Session-Expires:1800\r\n", sheet, RECORD + 4, alone));
+    CHECK(response_becomes(200, "Session-Expires:1800\r\n", sheet, 600, alone));
+    CHECK(response_stays(200, "Session-Expires:1800\r\n", sheet, RECORD + 3, RECORD, 18));
+    CHECK(response_becomes(200, "session-expires: 1800 ; Refresher=UAC\r\n", sheet, RECORD + 8, both));
+    CHECK(response_stays(200, "Session-Expires:1800;refresher=uac\r\n", sheet, RECORD + 7, RECORD, 18));
+    CHECK(response_stays(200, "Session-Expires:1800;refresher=uac\r\n", sheet, RECORD, RECORD, 18));
+    CHECK(response_becomes(200, "Session-Expires:1800;refresher=uas\r\n", sheet, 600, with_number(both, RECORD + 4, 2)));
+    /* on any status, from the first line alone */
+    CHECK(response_becomes(0, "Session-Expires:1800\r\nSession-Expires:90\r\n", sheet, 600, alone));
+    CHECK(response_becomes(422, "Session-Expires:1800\r\n", sheet, 600, alone));
+    CHECK(response_becomes(UINT16_MAX, "Session-Expires:1800\r\n", sheet, 600, alone));
+    CHECK(response_becomes(180, "Session-Expires:90;refresher=uac\r\n", full, FULL_LENGTH, with_interval(full, 90, 1)));
+    /* without a refresher the old one goes */
+    CHECK(response_becomes(180, "Session-Expires:7\r\n", full, FULL_LENGTH, with_number(dropped, FULL_SECONDS, 7)));
+    CHECK(response_becomes(180, "Session-Expires:7;refresher=x\r\n", full, 600, with_number(dropped, FULL_SECONDS, 7)));
+    CHECK(response_becomes(180, "Session-Expires:1800\r\n", both, RECORD + 8, alone));
+    CHECK(response_becomes(180, "Session-Expires:1800\r\n", refresher, RECORD + 4, alone));
+    CHECK(response_becomes(180, "Session-Expires:1800;refresher=uac\r\n", refresher, RECORD + 8, both));
+    CHECK(response_stays(180, "Session-Expires:1800;refresher=uac\r\n", refresher, RECORD + 7, RECORD + 4, 18));
+    CHECK(response_becomes(180, "Session-Expires:1800;refresher=uac\r\n", alone, RECORD + 8, both));
+    CHECK(response_stays(180, "Session-Expires:1800;refresher=uac\r\n", alone, RECORD + 7, RECORD + 4, 18));
+    /* unmeasured */
+    CHECK(response_becomes(200, "Session-Expires:0\r\n", sheet, 600, with_number(alone, RECORD, 0)));
+    CHECK(response_becomes(200, "Session-Expires:89\r\n", sheet, 600, with_number(alone, RECORD, 89)));
+    CHECK(response_becomes(200, "Session-Expires:86400\r\n", sheet, 600, with_number(alone, RECORD, 86400)));
+    CHECK(response_becomes(200, "Session-Expires:86401\r\n", sheet, 600, with_number(alone, RECORD, 86401)));
+    CHECK(response_becomes(200, "Session-Expires:4294967295\r\n", sheet, 600, with_number(alone, RECORD, UINT32_MAX)));
+    /* unreadable or absent: both stay */
+    CHECK(response_becomes(180, "Session-Expires:4294967296;refresher=uac\r\n", full, FULL_LENGTH, full));
+    CHECK(response_becomes(180, "Session-Expires:+90;refresher=uac\r\n", full, FULL_LENGTH, full));
+    CHECK(response_becomes(180, "Session-Expires:;refresher=uac\r\n", full, FULL_LENGTH, full));
+    CHECK(response_becomes(180, "Session-Expires:\r\nSession-Expires:90\r\n", full, FULL_LENGTH, full));
+    CHECK(response_becomes(180, "Min-SE:90\r\nx:90\r\n", full, FULL_LENGTH, full));
+    CHECK(response_becomes(200, "Session-Expires:x\r\n", refresher, RECORD + 4, refresher));
+}
+
+static void test_image_response_target(void)
+{
+    static const uint16_t all[] = {0, 100, 199, 200, 299, 300, 404, 503, 699, UINT16_MAX};
+    struct image full = full_image();
+    struct image sheet = sheet_image();
+    char buffer[LONGEST + 2];
+    char uri[LONGEST + 2];
+    size_t i;
+    for (i = 0; i < sizeof all / sizeof all[0]; i++) {
+        CHECK(response_becomes(all[i], "Contact:sip:n@h\r\n", sheet, RECORD, sheet_to(sheet, "sip:n@h")));
+    }
+    /* longer: by hand; the secure bit isn't the target's */
+    CHECK(response_becomes(200, "To:t\r\ncontact:\"N\" < sips:n@host >;q=1\r\n", sheet, 600,
+                           IMAGE("\x01\x7F" "\0\2" "c1" "\0\1" "L" "\0\1" "R" "\2" "\0\x0B" "sips:n@host"
+                                 "\0\7" "sip:l@h" "\0\7" "sip:r@h" "\0\0\0\7")));
+    CHECK(response_becomes(404, "Contact:<sip:tt@h>\r\n", full, FULL_LENGTH + 1, full_to(full, "sip:tt@h")));
+    CHECK(response_stays(404, "Contact:<sip:tt@h>\r\n", full, FULL_LENGTH, FULL_LENGTH, 18));
+    CHECK(response_stays(200, "Contact:<sip:tt@h>\r\n", full, FULL_LENGTH, FULL_LENGTH, 18));
+    CHECK(response_becomes(200, "Contact:<sip:tt@h>\r\n", full, FULL_LENGTH + 1, full_to(full_confirmed(), "sip:tt@h")));
+    /* shorter */
+    CHECK(response_becomes(404, "Contact:<sip:h>\r\n", full, FULL_LENGTH, full_to(full, "sip:h")));
+    CHECK(response_becomes(404, "Contact:<sip:h>\r\n", full, 600, full_to(full, "sip:h")));
+    /* unreadable or absent: kept */
+    CHECK(response_becomes(200, "Contact:*\r\nContact:<sip:n@h>\r\n", sheet, RECORD, sheet));
+    CHECK(response_becomes(200, "Contact:<sip:n@h\r\n", sheet, RECORD, sheet));
+    CHECK(response_becomes(200, "Contact:\r\n", sheet, RECORD, sheet));
+    CHECK(response_becomes(200, "Contact:<sip:n@h>,<sip:m@h>\r\nContact:sip:k@h\r\n", sheet, RECORD,
+                           sheet_to(sheet, "sip:n@h")));
+    /* not measured */
+    filled(buffer, "Contact:<sip:", 'h', ">\r\n", 13 + 503 + 3);
+    filled(uri, "sip:", 'h', "", 4 + 503);
+    CHECK(response_becomes(200, buffer, sheet, RECORD + 500, sheet_to(sheet, uri)));
+    CHECK(response_stays(200, buffer, sheet, RECORD + 499, RECORD, 18));
+    filled(buffer, "Contact:sip:", 'h', "\r\n", LONGEST);
+    filled(uri, "sip:", 'h', "", LONGEST - 10);
+    CHECK(response_becomes(200, buffer, sheet, 9000, sheet_to(sheet, uri)));
+}
+
+/* Several parts at once. */
+static void test_image_response_parts(void)
+{
+    struct image full = full_image();
+    struct image wide = full_to(full, "sip:target@host.example");
+    struct image least = least_image();
+    struct image all = IMAGE("\x1C\x78" "\2" "\0\x08" "sip:nn@h" "\0\7" "sip:l@h" "\0\7" "sip:r@h" "\0\0\0\x5A" "\0\0\0\1"
+                             "\2" "\0\5" "sip:b" "\0\5" "sip:a");
+    const char *grow = "Contact:<sip:nn@h>\r\nSession-Expires:90;refresher=uac\r\nRecord-Route:<sip:a>,<sip:b>\r\n";
+    const char *shrink = "Contact:<sip:h>\r\nSession-Expires:7\r\nRecord-Route:<sip:a>\r\n";
+    struct image small = IMAGE("\x17\xFF" "\0\4" "id@x" "\0\1" "a" "\0\2" "bc" "\x0E" "\0\5" "sip:h" "\0\x08" "sips:l@h"
+                               "\0\x08" "sip:r@hh" "\1\2\3\4" "\0\0\0\x09" "\0\0\0\x08" "\0\0\0\7" "\1" "\0\5" "sip:a");
+    /* every part grows */
+    CHECK(all.length == LEAST_LENGTH + 24);
+    CHECK(response_becomes(200, grow, least, 600, all));
+    CHECK(response_becomes(200, grow, least, LEAST_LENGTH + 24, all));
+    CHECK(response_stays(200, grow, least, LEAST_LENGTH + 23, LEAST_LENGTH, 18));
+    CHECK(response_stays(200, grow, least, LEAST_LENGTH, LEAST_LENGTH, 18));
+    /* every part shrinks: all bytes past the new length are those of the old image, then KEPT */
+    CHECK(small.length == FULL_LENGTH - 2 - 4 - 15);
+    CHECK(response_becomes(200, shrink, full, FULL_LENGTH, small));
+    CHECK(response_becomes(200, shrink, full, 600, small));
+    CHECK(response_becomes(200, shrink, wide, wide.length, small));
+    CHECK(response_becomes(200, shrink, wide, 600, small));
+    /* the target grows by what the routes give back, and by a byte more */
+    CHECK(response_becomes(200, "Contact:<sip:tttttttttttttttt@h>\r\nRecord-Route:<sip:a>\r\n", full, FULL_LENGTH,
+                           full_to(full_ending(IMAGE("\1" "\0\5" "sip:a")), "sip:tttttttttttttttt@h")));
+    CHECK(response_stays(200, "Contact:<sip:ttttttttttttttttt@h>\r\nRecord-Route:<sip:a>\r\n", full, FULL_LENGTH,
+                         FULL_LENGTH, 18));
+    /* the routes grow by what the target and the refresher give back, and by a byte more */
+    CHECK(response_becomes(200, "Contact:<sip:h>\r\nSession-Expires:7\r\nRecord-Route:<sip:abcdefghijklmnopqrstuv>\r\n", full,
+                           FULL_LENGTH, with_text(small, small.length - 7, "sip:abcdefghijklmnopqrstuv")));
+    CHECK(response_stays(200, "Contact:<sip:h>\r\nSession-Expires:7\r\nRecord-Route:<sip:abcdefghijklmnopqrstuvw>\r\n", full,
+                         FULL_LENGTH, FULL_LENGTH, 18));
+}
+
+static void test_image_response_order(void)
+{
+    struct image sheet = sheet_image();
+    struct image bad = with_byte(sheet, SHEET_STATE, 0);
+    char buffer[LONGEST + 2];
+    CHECK(response_becomes(200, long_block(buffer, "Contact:sip:h\r\n", LONGEST), sheet, RECORD, sheet_to(sheet, "sip:h")));
+    CHECK(response_stays(200, long_block(buffer, "Contact:sip:h\r\n", LONGEST + 1), sheet, RECORD, RECORD, 1));
+    CHECK(response_stays(200, filled(buffer, "", 'A', "", LONGEST + 1), bad, RECORD, RECORD + 1, 1));
+    CHECK(response_stays(200, filled(buffer, "", 'A', "", LONGEST), bad, RECORD, RECORD + 1, 2));
+    CHECK(response_stays(200, "Contact:sip:h", sheet, RECORD, RECORD, 2));
+    CHECK(response_stays(404, "Contact:sip:h\r\n\r\n", bad, RECORD, RECORD, 2));
+    CHECK(response_stays(200, "Contact:sip:rr@h\r\n", bad, RECORD, RECORD, 3));
+    CHECK(response_stays(404, "", bad, RECORD, RECORD, 3));
+    CHECK(response_stays(200, "", sheet, RECORD - 1, RECORD, 3));
+    CHECK(response_stays(200, "", sheet, RECORD, RECORD + 1, 3));
+    CHECK(response_stays(200, "", sheet, RECORD, SIZE_MAX, 3));
+    CHECK(response_stays(200, "", sheet, RECORD, RECORD - 1, 3));
+    CHECK(response_stays(200, "", sheet, RECORD, 0, 3));
+    CHECK(response_stays(200, "", sheet, RECORD + 1, RECORD + 1, 3));
+    CHECK(response_stays(200, "Contact:sip:h\r\n", sheet, 600, RECORD + 1, 3));
+    CHECK(response_stays(200, NULL, with_length(sheet, 0), 0, 0, 3));
+    CHECK(response_stays(200, "", with_length(sheet, 0), 0, 1, 3));
+}
+
+/* ---- New record images */
+
+typedef uint8_t creation_function(const uint8_t *, size_t, const uint8_t *, size_t, uint16_t, const uint8_t *, size_t,
+                                  const uint8_t *, size_t, const uint8_t *, size_t, uint8_t *, size_t, size_t *, uint64_t *);
+
+/* What a creation is given. */
+struct creation {
+    creation_function *call;
+    const char *method;
+    const char *request;
+    uint16_t status;
+    const char *response;
+    const char *local_uri;
+    const char *remote_uri;
+};
+
+#define CSEQ "CSeq:5 INVITE\r\n"
+#define IDENTIFIER "Call-ID:c1\r\nFrom:<sip:f@h>;tag=F\r\nTo:<sip:t@h>;tag=T\r\n"
+
+static struct creation creation_by(creation_function *call)
+{
+    struct creation c = {NULL, "INVITE", CSEQ, 200, IDENTIFIER, "sip:l@h", "sip:r@h"};
+    c.call = call;
+    return c;
+}
+
+/* What is made of it, by hand: 44 bytes, with the fields where the example's record has them, the target too. */
+static struct image plain_image(creation_function *call)
+{
+    if (call == sip_dialog_new_uac) {
+        return IMAGE("\0\xFF" "\0\2" "c1" "\0\1" "F" "\0\1" "T" "\6" "\0\7" "sip:r@h" "\0\7" "sip:l@h" "\0\7" "sip:r@h"
+                     "\0\0\0\5");
+    }
+    return IMAGE("\x01\x7F" "\0\2" "c1" "\0\1" "T" "\0\1" "F" "\2" "\0\7" "sip:r@h" "\0\7" "sip:l@h" "\0\7" "sip:r@h"
+                 "\0\0\0\5");
+}
+
+enum {
+    NEW_CALL_ID = 2,
+    NEW_LOCAL_TAG = 6,
+    NEW_REMOTE_TAG = 9,
+    NEW_STATE = 12,
+    NEW_LOCAL_URI = 22,
+    NEW_REMOTE_URI = 31,
+    NEW_CSEQ = 40,
+    NEW_LENGTH = 44
+};
+
+/* More bits in the map, and bytes after the number. */
+static struct image and_then(struct image i, unsigned bits, struct image end)
+{
+    return ending(i, (256U * i.bytes[0] + i.bytes[1]) | bits, i.length, end);
+}
+
+/* Lines of the message whose Contact and Record-Route count, and of the other one. */
+static struct creation peer_lines(struct creation c, char *buffer, const char *lines)
+{
+    bool uac = c.call == sip_dialog_new_uac;
+    strcpy(buffer, uac ? c.response : c.request);
+    strcat(buffer, lines);
+    if (uac) {
+        c.response = buffer;
+    } else {
+        c.request = buffer;
+    }
+    return c;
+}
+
+static struct creation other_lines(struct creation c, char *buffer, const char *lines)
+{
+    bool uac = c.call == sip_dialog_new_uac;
+    strcpy(buffer, uac ? c.request : c.response);
+    strcat(buffer, lines);
+    if (uac) {
+        c.request = buffer;
+    } else {
+        c.response = buffer;
+    }
+    return c;
+}
+
+static struct creation with_request(struct creation c, const char *request)
+{
+    c.request = request;
+    return c;
+}
+
+static struct creation with_response(struct creation c, const char *response)
+{
+    c.response = response;
+    return c;
+}
+
+static struct creation with_method(struct creation c, const char *method)
+{
+    c.method = method;
+    return c;
+}
+
+static struct creation with_status(struct creation c, uint16_t status)
+{
+    c.status = status;
+    return c;
+}
+
+static struct creation with_uris(struct creation c, const char *local_uri, const char *remote_uri)
+{
+    c.local_uri = local_uri;
+    c.remote_uri = remote_uri;
+    return c;
+}
+
+/* Calls with so much room; `least` is followed by a number that must stay KEPT. */
+static struct written create(struct creation c, size_t room, uint64_t *least)
+{
+    struct run m = lend(c.method);
+    struct run q = lend(c.request);
+    struct run p = lend(c.response);
+    struct run l = lend(c.local_uri);
+    struct run r = lend(c.remote_uri);
+    struct written w = fresh_output(room);
+    uint64_t answered[2] = {KEPT, KEPT};
+    w.number = c.call(m.bytes, m.length, q.bytes, q.length, c.status, p.bytes, p.length, l.bytes, l.length, r.bytes, r.length,
+                      w.out, w.room, &w.length, answered);
+    take_back(m);
+    take_back(q);
+    take_back(p);
+    take_back(l);
+    take_back(r);
+    CHECK(answered[1] == KEPT);
+    *least = answered[0];
+    return w;
+}
+
+/* Whether just this image is made in so much room, and the bytes past it are kept. */
+static bool made_in(struct creation c, size_t room, struct image expected)
+{
+    uint64_t least;
+    struct written w = create(c, room, &least);
+    bool fits = w.number == 0 && least == KEPT && w.length == expected.length && w.length <= w.room;
+    bool holds = fits && memcmp(w.out, expected.bytes, expected.length) == 0 && kept_from(w, expected.length);
+    free(w.out);
+    return holds;
+}
+
+/* Whether it is refused in so much room, and all that is lent is kept but 13's minimum. */
+static bool refused_in(struct creation c, size_t room, uint8_t number)
+{
+    uint64_t least;
+    struct written w = create(c, room, &least);
+    return wrote_nothing(w, number) && least == (number == 13 ? 90 : KEPT);
+}
+
+/* The same in room enough, in no more than is used, and in a byte less: 18. */
+static bool makes(struct creation c, struct image expected)
+{
+    bool fits = made_in(c, expected.length + 300, expected) && made_in(c, expected.length, expected);
+    return fits && made_in(c, expected.length + 1, expected) && refused_in(c, expected.length - 1, 18);
+}
+
+/* Refused, in room enough and without any. */
+static bool is_not_made(struct creation c, uint8_t number)
+{
+    return refused_in(c, LARGEST, number) && refused_in(c, 0, number);
+}
+
+/* State, side and secure bit. */
+static void test_creation_state(creation_function *call)
+{
+    struct creation c = creation_by(call);
+    struct image plain = plain_image(call);
+    uint8_t side = call == sip_dialog_new_uac ? 4 : 0;
+    unsigned status;
+    CHECK(plain.length == NEW_LENGTH);
+    CHECK(makes(c, plain));
+    CHECK(refused_in(c, 0, 18));
+    CHECK(refused_in(c, 1, 18));
+    for (status = 0; status <= UINT16_MAX; status += status < 700 ? 1 : 409) {
+        if (status >= 100 && status < 300) {
+            CHECK(made_in(with_status(c, (uint16_t)status), 100, with_byte(plain, NEW_STATE, (status < 200 ? 1 : 2) + side)));
+        } else {
+            CHECK(refused_in(with_status(c, (uint16_t)status), 100, 5));
+        }
+    }
+    CHECK(is_not_made(with_status(c, UINT16_MAX), 5));
+    CHECK(makes(with_status(c, 100), with_byte(plain, NEW_STATE, 1 + side)));
+    /* secure by the local URI, by the remote one, by both; not by the target */
+    CHECK(makes(with_uris(c, "sips:l@h", "sip:r@h"),
+                with_byte(with_text(plain, NEW_LOCAL_URI, "sips:l@h"), NEW_STATE, 10 + side)));
+    CHECK(makes(with_uris(c, "SiPs:l@h", "sip:r@h"),
+                with_byte(with_text(plain, NEW_LOCAL_URI, "SiPs:l@h"), NEW_STATE, 10 + side)));
+    CHECK(makes(with_uris(c, "sip:l@h", "SIPS:r@h"),
+                sheet_to(with_byte(with_text(plain, NEW_REMOTE_URI, "SIPS:r@h"), NEW_STATE, 10 + side), "SIPS:r@h")));
+    CHECK(makes(with_status(with_uris(c, "sips:l", "sips:r"), 180),
+                with_byte(sheet_to(with_text(with_text(plain, NEW_REMOTE_URI, "sips:r"), NEW_LOCAL_URI, "sips:l"), "sips:r"),
+                          NEW_STATE, 9 + side)));
+}
+
+static void test_creation_identifier(creation_function *call)
+{
+    struct creation c = creation_by(call);
+    struct image plain = plain_image(call);
+    bool uac = call == sip_dialog_new_uac;
+    size_t from_tag = uac ? NEW_LOCAL_TAG : NEW_REMOTE_TAG;
+    size_t to_tag = uac ? NEW_REMOTE_TAG : NEW_LOCAL_TAG;
+    const char *mixed = "to: <sip:t@h>;x;TAG=U\r\nCALL-ID: \tid 1@x\t\r\nCall-ID:c2\r\nFROM:\"a;tag=G;b\" <sip:f@h>;tag=y\r\n";
+    char buffer[LONGEST + 2];
+    char text[LONGEST + 2];
+    /* for uac From's tag is the local one, for uas To's */
+    CHECK(makes(with_response(c, mixed),
+                with_text(with_text(with_text(plain, from_tag, "G"), to_tag, "U"), NEW_CALL_ID, "id 1@x")));
+    CHECK(makes(with_response(c, "Call-ID:c1\r\nFrom:;tag= F\r\nTo:tag=T\r\n"), with_text(plain, from_tag, " F")));
+    CHECK(makes(with_response(c, "Call-ID:c1\r\nFrom:;tag=F\r\nTo:<sip:t@h;tag=two>\r\n"), with_text(plain, to_tag, "two>")));
+    /* empty parts are taken, and have no field */
+    CHECK(makes(with_response(c, "Call-ID:\r\nFrom:;tag=\r\nTo:;tag=\r\n"),
+                uac ? IMAGE("\0\xF8" "\6" "\0\7" "sip:r@h" "\0\7" "sip:l@h" "\0\7" "sip:r@h" "\0\0\0\5")
+                    : IMAGE("\1\x78" "\2" "\0\7" "sip:r@h" "\0\7" "sip:l@h" "\0\7" "sip:r@h" "\0\0\0\5")));
+    CHECK(makes(with_response(c, "Call-ID:c1\r\nFrom:;tag=\r\nTo:;tag=T\r\n"),
+                uac ? IMAGE("\0\xFD" "\0\2" "c1" "\0\1" "T" "\6" "\0\7" "sip:r@h" "\0\7" "sip:l@h" "\0\7" "sip:r@h"
+                            "\0\0\0\5")
+                    : IMAGE("\1\x7B" "\0\2" "c1" "\0\1" "T" "\2" "\0\7" "sip:r@h" "\0\7" "sip:l@h" "\0\7" "sip:r@h"
+                            "\0\0\0\5")));
+    CHECK(makes(with_response(c, "Call-ID:c1\r\nFrom:;tag=F\r\nTo:;tag=\r\n"),
+                uac ? IMAGE("\0\xFB" "\0\2" "c1" "\0\1" "F" "\6" "\0\7" "sip:r@h" "\0\7" "sip:l@h" "\0\7" "sip:r@h"
+                            "\0\0\0\5")
+                    : IMAGE("\1\x7D" "\0\2" "c1" "\0\1" "F" "\2" "\0\7" "sip:r@h" "\0\7" "sip:l@h" "\0\7" "sip:r@h"
+                            "\0\0\0\5")));
+    /* absent ones are not; the request's don't count */
+    CHECK(is_not_made(with_response(c, "From:;tag=F\r\nTo:;tag=T\r\n"), 4));
+    CHECK(is_not_made(with_response(c, "Call-ID:c1\r\nTo:;tag=T\r\n"), 4));
+    CHECK(is_not_made(with_response(c, "Call-ID:c1\r\nFrom:;tag=F\r\n"), 4));
+    CHECK(is_not_made(with_response(c, "Call-ID:c1\r\nFrom:<sip:f@h>\r\nTo:;tag=T\r\n"), 4));
+    CHECK(is_not_made(with_response(c, "Call-ID:c1\r\nFrom:;tag=F\r\nTo:<sip:t@h>;tag =T\r\n"), 4));
+    CHECK(is_not_made(with_response(c, ""), 4));
+    CHECK(is_not_made(with_response(c, NULL), 4));
+    CHECK(is_not_made(with_response(with_request(c, CSEQ IDENTIFIER), ""), 4));
+    CHECK(makes(with_request(c, "Call-ID:x\r\nFrom:;tag=x\r\nTo:x\r\n" CSEQ), plain));
+    /* not held to 256 and 128 bytes */
+    filled(buffer, "From:;tag=F\r\nTo:;tag=T\r\nCall-ID:", 'c', "\r\n", 32 + 5000 + 2);
+    CHECK(makes(with_response(c, buffer), with_text(plain, NEW_CALL_ID, filled(text, "", 'c', "", 5000))));
+    filled(buffer, "Call-ID:c1\r\nFrom:;tag=F\r\nTo:;tag=", 'x', "\r\n", 33 + 300 + 2);
+    CHECK(makes(with_response(c, buffer), with_text(plain, to_tag, filled(text, "", 'x', "", 300))));
+}
+
+static void test_creation_target(creation_function *call)
+{
+    struct creation c = creation_by(call);
+    struct image plain = plain_image(call);
+    char buffer[LONGEST + 2];
+    char uri[LONGEST + 2];
+    char line[LONGEST + 2];
+    CHECK(makes(peer_lines(c, buffer, "Contact:<sip:nn@h;x>;y\r\n"), sheet_to(plain, "sip:nn@h;x")));
+    CHECK(makes(peer_lines(c, buffer, "CONTACT: \"N\" < sip:h >\r\nContact:sip:k\r\n"), sheet_to(plain, "sip:h")));
+    CHECK(makes(peer_lines(c, buffer, "Contact:sips:n;x\r\n"), sheet_to(plain, "sips:n")));
+    /* unreadable or absent: the remote URI, whatever the second line is */
+    CHECK(makes(with_uris(peer_lines(c, buffer, "Contact:*\r\nContact:<sip:n@h>\r\n"), "sip:l@h", "sip:rr@h:1;p?x"),
+                sheet_to(with_text(plain, NEW_REMOTE_URI, "sip:rr@h:1;p?x"), "sip:rr@h:1;p?x")));
+    CHECK(makes(peer_lines(c, buffer, "Contact:\r\n"), plain));
+    CHECK(makes(peer_lines(c, buffer, "Contact:<sip:n@h\r\n"), plain));
+    CHECK(makes(with_uris(c, "sip:ll@h", "sip:r@h"), with_text(plain, NEW_LOCAL_URI, "sip:ll@h")));
+    /* the other message's isn't asked */
+    CHECK(makes(other_lines(c, buffer, "Contact:<sip:n@h>\r\n"), plain));
+    CHECK(makes(other_lines(peer_lines(c, buffer, "Contact:<sip:n>\r\n"), line, "Contact:<sip:k>\r\n"),
+                sheet_to(plain, "sip:n")));
+    /* an estimate of 512, and one more */
+    filled(uri, "sip:", 'h', "", 4 + 502);
+    filled(line, "Contact:<sip:", 'h', ">\r\n", 13 + 502 + 3);
+    CHECK(makes(peer_lines(c, buffer, line), sheet_to(plain, uri)));
+    CHECK(makes(with_uris(c, uri, "sip:r@h"), with_text(plain, NEW_LOCAL_URI, uri)));
+    CHECK(makes(with_uris(c, "sip:l@h", uri), sheet_to(with_text(plain, NEW_REMOTE_URI, uri), uri)));
+    filled(uri, "sip:", 'u', "@h:5060", 4 + 495 + 7);
+    CHECK(makes(with_uris(c, uri, "sip:r@h"), with_text(plain, NEW_LOCAL_URI, uri)));
+    filled(uri, "sip:", 'u', "@h:5060", 4 + 496 + 7);
+    CHECK(is_not_made(with_uris(c, uri, "sip:r@h"), 7));
+    filled(uri, "sip:", 'h', "", 4 + 503);
+    filled(line, "Contact:<sip:", 'h', ">\r\n", 13 + 503 + 3);
+    CHECK(is_not_made(peer_lines(c, buffer, line), 7));
+    CHECK(makes(other_lines(c, buffer, line), plain));
+    CHECK(is_not_made(with_uris(c, uri, "sip:r@h"), 7));
+    CHECK(is_not_made(with_uris(c, "sip:l@h", uri), 7));
+    CHECK(is_not_made(with_uris(peer_lines(c, buffer, "Contact:sip:h\r\n"), "sip:l@h", uri), 7));
+    /* parameters don't count: URIs as long as a text may be */
+    filled(uri, "sip:h;", 'p', "", LONGEST);
+    CHECK(makes(with_uris(c, uri, "sip:r@h"), with_text(plain, NEW_LOCAL_URI, uri)));
+    CHECK(makes(with_uris(peer_lines(c, buffer, "Contact:sip:h\r\n"), "sip:l@h", uri),
+                sheet_to(with_text(plain, NEW_REMOTE_URI, uri), "sip:h")));
+    filled(uri, "sip:h;", 'p', "", LONGEST + 1);
+    CHECK(is_not_made(with_uris(c, uri, "sip:r@h"), 1));
+    CHECK(is_not_made(with_uris(c, "sip:l@h", uri), 1));
+}
+
+static void test_creation_routes(creation_function *call)
+{
+    struct creation c = creation_by(call);
+    struct image plain = plain_image(call);
+    bool uac = call == sip_dialog_new_uac;
+    const char *three = "Record-Route:<sip:a@h>, <x>, sip:b@h;lr\r\nX:x\r\nRECORD-ROUTE:\"C\" < sip:c@hh;lr >\r\n";
+    struct image in_order = IMAGE("\3" "\0\7" "sip:a@h" "\0\7" "sip:b@h" "\0\x0B" "sip:c@hh;lr");
+    struct image reversed = IMAGE("\3" "\0\x0B" "sip:c@hh;lr" "\0\7" "sip:b@h" "\0\7" "sip:a@h");
+    char buffer[LONGEST + 2];
+    char lines[LONGEST + 2];
+    char line[LONGEST + 2];
+    char uri[LONGEST + 2];
+    CHECK(makes(peer_lines(c, buffer, three), and_then(plain, 0x1000, uac ? reversed : in_order)));
+    CHECK(makes(peer_lines(c, buffer, "Record-Route:<sip:a>\r\n"), and_then(plain, 0x1000, IMAGE("\1" "\0\5" "sip:a"))));
+    CHECK(makes(peer_lines(c, buffer, "Record-Route:<x>\r\nRecord-Route:, ,\r\nRoute:<sip:a>\r\n"), plain));
+    CHECK(makes(peer_lines(c, buffer, "Record-Route:\"a<b\" <sip:p@h>, <sip:q@h>\r\n"), plain));
+    CHECK(makes(other_lines(c, buffer, three), plain));
+    /* 50, and a part more */
+    CHECK(makes(peer_lines(c, buffer, numbered_routes(lines, ROUTES, "")), and_then(plain, 0x1000, numbered_end(ROUTES, uac))));
+    CHECK(makes(peer_lines(c, buffer, numbered_routes(lines, ROUTES, "Record-Route:, ,\r\n")),
+                and_then(plain, 0x1000, numbered_end(ROUTES, uac))));
+    CHECK(makes(peer_lines(c, buffer, numbered_routes(lines, ROUTES - 1, "Record-Route:x,y,<sip:59>\r\n")),
+                and_then(plain, 0x1000, numbered_end(ROUTES, uac))));
+    CHECK(is_not_made(peer_lines(c, buffer, numbered_routes(lines, ROUTES + 1, "")), 8));
+    CHECK(is_not_made(peer_lines(c, buffer, numbered_routes(lines, ROUTES, "Record-Route:,x\r\n")), 8));
+    CHECK(makes(other_lines(c, buffer, numbered_routes(lines, ROUTES + 1, "")), plain));
+    /* an estimate of 512, and one more: 7 where it is met before 50 routes are held, else 8 */
+    filled(line, "Record-Route:<sip:", 'h', ">\r\n", 18 + 502 + 3);
+    filled(uri, "sip:", 'h', "", 4 + 502);
+    CHECK(makes(peer_lines(c, buffer, line), with_text(and_then(plain, 0x1000, IMAGE("\1" "\0\0")), NEW_LENGTH + 1, uri)));
+    CHECK(is_not_made(peer_lines(c, buffer, numbered_routes(lines, ROUTES, line)), 8));
+    filled(line, "Record-Route:<sip:", 'h', ">\r\n", 18 + 503 + 3);
+    CHECK(is_not_made(peer_lines(c, buffer, line), 7));
+    CHECK(is_not_made(peer_lines(c, buffer, numbered_routes(lines, ROUTES - 1, line)), 7));
+    CHECK(is_not_made(peer_lines(c, buffer, numbered_routes(lines, ROUTES, line)), 8));
+    strcpy(lines, line);
+    numbered_routes(lines + strlen(lines), ROUTES + 1, "");
+    CHECK(is_not_made(peer_lines(c, buffer, lines), 7));
+    CHECK(makes(other_lines(c, buffer, line), plain));
+}
+
+static void test_creation_number(creation_function *call)
+{
+    struct creation c = creation_by(call);
+    struct image plain = plain_image(call);
+    CHECK(makes(with_request(c, "CSeq:1 INVITE\r\n"), with_number(plain, NEW_CSEQ, 1)));
+    CHECK(makes(with_request(c, "To:t\r\ncseq: \t+016909060\r\nCSeq:5 INVITE\r\n"), with_number(plain, NEW_CSEQ, 16909060)));
+    CHECK(makes(with_request(c, "CSeq:2147483647 INVITE\r\n"), with_number(plain, NEW_CSEQ, 2147483647)));
+    CHECK(is_not_made(with_request(c, "CSeq:2147483648 INVITE\r\n"), 10));
+    CHECK(is_not_made(with_request(c, "CSeq:4294967295 INVITE\r\n"), 10));
+    CHECK(is_not_made(with_request(c, "CSeq:4294967296 INVITE\r\n"), 4));
+    CHECK(is_not_made(with_request(c, "CSeq:0 INVITE\r\n"), 9));
+    CHECK(is_not_made(with_request(c, "CSeq:+0\r\n"), 9));
+    CHECK(is_not_made(with_request(c, "CSeq:-0 INVITE\r\n"), 4));
+    CHECK(is_not_made(with_request(c, "CSeq:\r\nCSeq:5 INVITE\r\n"), 4));
+    CHECK(is_not_made(with_request(c, ""), 4));
+    CHECK(is_not_made(with_request(c, NULL), 4));
+    /* the response's doesn't count */
+    CHECK(is_not_made(with_response(with_request(c, ""), IDENTIFIER CSEQ), 4));
+    CHECK(makes(with_response(c, IDENTIFIER "CSeq:0 BYE\r\n"), plain));
+}
+
+static void test_creation_interval(creation_function *call)
+{
+    struct creation c = creation_by(call);
+    struct image plain = plain_image(call);
+    CHECK(makes(with_response(c, IDENTIFIER "Session-Expires:90\r\n"), and_then(plain, 0x0400, IMAGE("\0\0\0\x5A"))));
+    CHECK(makes(with_response(c, IDENTIFIER "session-expires: 1800;x;Refresher=UAC\r\nSession-Expires:7\r\n"),
+                and_then(plain, 0x0C00, IMAGE("\0\0\7\x08" "\0\0\0\1"))));
+    CHECK(makes(with_response(c, IDENTIFIER "Session-Expires:86400;refresher=uas\r\n"),
+                and_then(plain, 0x0C00, IMAGE("\0\1\x51\x80" "\0\0\0\2"))));
+    CHECK(makes(with_response(c, IDENTIFIER "Session-Expires:86400;refresher=x\r\n"),
+                and_then(plain, 0x0400, IMAGE("\0\1\x51\x80"))));
+    CHECK(is_not_made(with_response(c, IDENTIFIER "Session-Expires:89\r\n"), 13));
+    CHECK(is_not_made(with_response(c, IDENTIFIER "Session-Expires:0;refresher=uac\r\n"), 13));
+    CHECK(is_not_made(with_response(c, IDENTIFIER "Session-Expires:86401\r\n"), 14));
+    CHECK(is_not_made(with_response(c, IDENTIFIER "Session-Expires:4294967295;refresher=uas\r\n"), 14));
+    /* unreadable: none, and no refresher */
+    CHECK(makes(with_response(c, IDENTIFIER "Session-Expires:4294967296;refresher=uac\r\n"), plain));
+    CHECK(makes(with_response(c, IDENTIFIER "Session-Expires:+90\r\nSession-Expires:90\r\n"), plain));
+    CHECK(makes(with_response(c, IDENTIFIER "Session-Expires:\r\n"), plain));
+    /* the request's doesn't count */
+    CHECK(makes(with_request(c, CSEQ "Session-Expires:1800\r\n"), plain));
+    CHECK(makes(with_request(c, CSEQ "Session-Expires:89\r\n"), plain));
+}
+
+/* Every field at once. */
+static void test_creation_whole(creation_function *call)
+{
+    struct creation c = creation_by(call);
+    char request[LONGEST + 2];
+    char response[LONGEST + 2];
+    c.request = CSEQ "Contact:<sip:q@h>\r\nRecord-Route:<sip:a>,<sip:b>\r\nSession-Expires:91;refresher=uas\r\n";
+    c.response = IDENTIFIER "Contact:<sip:p@hh>\r\nRecord-Route:<sip:c>\r\nRecord-Route:<sip:dd>\r\n"
+                            "Session-Expires:1800;refresher=uac\r\nCSeq:6 INVITE\r\n";
+    c.status = 183;
+    c.local_uri = "sips:l";
+    CHECK(makes(c, call == sip_dialog_new_uac
+                       ? IMAGE("\x1C\xFF" "\0\2" "c1" "\0\1" "F" "\0\1" "T" "\x0D" "\0\x08" "sip:p@hh" "\0\6" "sips:l"
+                               "\0\7" "sip:r@h" "\0\0\0\5" "\0\0\7\x08" "\0\0\0\1" "\2" "\0\6" "sip:dd" "\0\5" "sip:c")
+                       : IMAGE("\x1D\x7F" "\0\2" "c1" "\0\1" "T" "\0\1" "F" "\x09" "\0\7" "sip:q@h" "\0\6" "sips:l"
+                               "\0\7" "sip:r@h" "\0\0\0\5" "\0\0\7\x08" "\0\0\0\1" "\2" "\0\5" "sip:a" "\0\5" "sip:b")));
+    /* blocks as long as they may be, and a byte longer */
+    c = creation_by(call);
+    c.request = long_block(request, CSEQ, LONGEST);
+    c.response = long_block(response, IDENTIFIER, LONGEST);
+    CHECK(makes(c, plain_image(call)));
+    c.request = long_block(request, CSEQ, LONGEST + 1);
+    CHECK(is_not_made(c, 1));
+    c = creation_by(call);
+    c.response = long_block(response, IDENTIFIER, LONGEST + 1);
+    CHECK(is_not_made(c, 1));
+}
+
+/* Any method is taken, but for its length. */
+static void test_creation_method(creation_function *call)
+{
+    static const char *const methods[] = {"ACK", "BYE", "invite", "SUBSCRIBE", "x y", "\xff", "", NULL};
+    struct creation c = creation_by(call);
+    struct image plain = plain_image(call);
+    char buffer[LONGEST + 2];
+    size_t i;
+    for (i = 0; i < sizeof methods / sizeof methods[0]; i++) {
+        CHECK(makes(with_method(c, methods[i]), plain));
+        CHECK(is_not_made(with_request(with_method(c, methods[i]), "CSeq:0\r\n"), 9));
+    }
+    CHECK(makes(with_method(c, filled(buffer, "", 'A', "", LONGEST)), plain));
+    CHECK(is_not_made(with_method(c, filled(buffer, "", 'A', "", LONGEST + 1)), 1));
+}
+
+static void test_creation_uris(creation_function *call)
+{
+    static const char *const unreadable[] = {
+        "", NULL, "sip:", "tel:1", "<sip:l@h>", " sip:l@h", "sip:l@h ", "sip:@h", "sip:h:65536", "sip:\x7f@h", "l@h",
+    };
+    struct creation c = creation_by(call);
+    size_t i;
+    for (i = 0; i < sizeof unreadable / sizeof unreadable[0]; i++) {
+        CHECK(is_not_made(with_uris(c, unreadable[i], "sip:r@h"), 6));
+        CHECK(is_not_made(with_uris(c, "sip:l@h", unreadable[i]), 6));
+        CHECK(is_not_made(with_uris(c, unreadable[i], unreadable[i]), 6));
+    }
+}
+
+/* Every cause at once, and then without the first one, again and again. */
+static void test_creation_order(creation_function *call)
+{
+    struct creation c = creation_by(call);
+    bool uac = call == sip_dialog_new_uac;
+    char text[LONGEST + 2];
+    char uri[LONGEST + 2];
+    char request[LONGEST + 2];
+    char response[LONGEST + 2];
+    char line[1024];
+    filled(text, "", ' ', "", LONGEST + 1);
+    filled(uri, "sip:", 'h', "", 4 + 503);
+    filled(line, "Contact:<sip:", 'h', ">\r\n", 13 + 503 + 3);
+    c.status = 300;
+    c.method = c.request = c.response = c.local_uri = c.remote_uri = text;
+    CHECK(is_not_made(c, 1));
+    c.method = "INVITE";
+    CHECK(is_not_made(c, 1));
+    c.request = "CSeq";
+    CHECK(is_not_made(c, 1));
+    c.response = "Call-ID";
+    CHECK(is_not_made(c, 1));
+    c.local_uri = "l@h";
+    CHECK(is_not_made(c, 1));
+    c.remote_uri = "r@h";
+    CHECK(is_not_made(c, 2));
+    c.request = "";
+    CHECK(is_not_made(c, 2));
+    c.request = "CSeq";
+    c.response = "";
+    CHECK(is_not_made(c, 2));
+    c.request = "";
+    CHECK(is_not_made(c, 6));
+    c.local_uri = uri;
+    CHECK(is_not_made(c, 6));
+    c.local_uri = "l@h";
+    c.remote_uri = uri;
+    CHECK(is_not_made(c, 6));
+    c.local_uri = uri;
+    CHECK(is_not_made(c, 4));
+    /* an identifier; the message that counts has a Contact over 512 and 51 routes, the response 89 s, the request no CSeq */
+    numbered_routes(request, uac ? 0 : ROUTES + 1, uac ? "" : line);
+    strcpy(response, IDENTIFIER "Session-Expires:89\r\n");
+    numbered_routes(response + strlen(response), uac ? ROUTES + 1 : 0, uac ? line : "");
+    c.request = request;
+    c.response = response;
+    CHECK(is_not_made(c, 5));
+    c.status = 99;
+    CHECK(is_not_made(c, 5));
+    c.status = 200;
+    CHECK(is_not_made(c, 7));
+    c.local_uri = "sip:l@h";
+    CHECK(is_not_made(c, 7));
+    c.remote_uri = "sip:r@h";
+    CHECK(is_not_made(c, 7));
+    /* the Contact readable and short */
+    numbered_routes(request, uac ? 0 : ROUTES + 1, "Contact:sip:h\r\n");
+    strcpy(response, IDENTIFIER "Session-Expires:89\r\n");
+    numbered_routes(response + strlen(response), uac ? ROUTES + 1 : 0, "Contact:sip:h\r\n");
+    CHECK(is_not_made(c, 8));
+    /* a route over 512 first: 7 before 4 */
+    filled(line, "Record-Route:<sip:", 'h', ">\r\n", 18 + 503 + 3);
+    strcpy(request, uac ? "" : line);
+    strcpy(response, IDENTIFIER "Session-Expires:89\r\n");
+    strcat(response, uac ? line : "");
+    CHECK(is_not_made(c, 7));
+    /* no routes: CSeq absent, 0, too large; then the interval; then no room */
+    c.request = "";
+    c.response = IDENTIFIER "Session-Expires:89\r\n";
+    CHECK(is_not_made(c, 4));
+    c.request = "CSeq:0\r\n";
+    CHECK(is_not_made(c, 9));
+    c.request = "CSeq:2147483648\r\n";
+    CHECK(is_not_made(c, 10));
+    c.response = IDENTIFIER "Session-Expires:86401\r\n";
+    CHECK(is_not_made(c, 10));
+    c.request = CSEQ;
+    CHECK(is_not_made(c, 14));
+    c.response = IDENTIFIER "Session-Expires:89\r\n";
+    CHECK(is_not_made(c, 13));
+    c.response = IDENTIFIER "Session-Expires:90\r\n";
+    CHECK(refused_in(c, NEW_LENGTH + 3, 18));
+    CHECK(made_in(c, NEW_LENGTH + 4, and_then(plain_image(call), 0x0400, IMAGE("\0\0\0\x5A"))));
+}
+
+/* Pairs of causes, by name. */
+static void test_creation_pairs(creation_function *call)
+{
+    struct creation c = creation_by(call);
+    char uri[1024];
+    filled(uri, "sip:", 'h', "", 4 + 503);
+    /* status 300 and no tag */
+    CHECK(is_not_made(with_status(with_response(c, "Call-ID:c1\r\nFrom:;tag=F\r\nTo:t\r\n"), 300), 4));
+    /* the response malformed and the local URI unreadable; the request malformed and the remote one */
+    CHECK(is_not_made(with_uris(with_response(c, "Call-ID:c1"), "l@h", "sip:r@h"), 2));
+    CHECK(is_not_made(with_uris(with_request(c, "CSeq:5 INVITE"), "sip:l@h", "r@h"), 2));
+    /* the local URI over 512 and the remote one unreadable */
+    CHECK(is_not_made(with_uris(c, uri, "r@h"), 6));
+    /* a URI over 512 and status 300; and no CSeq; and 89 s */
+    CHECK(is_not_made(with_status(with_uris(c, uri, "sip:r@h"), 300), 5));
+    CHECK(is_not_made(with_request(with_uris(c, uri, "sip:r@h"), ""), 7));
+    CHECK(is_not_made(with_response(with_uris(c, "sip:l@h", uri), IDENTIFIER "Session-Expires:89\r\n"), 7));
+    /* no identifier and no CSeq with status 699; status 699 and no CSeq */
+    CHECK(is_not_made(with_status(with_request(with_response(c, ""), ""), 699), 4));
+    CHECK(is_not_made(with_status(with_request(c, ""), 699), 5));
+    CHECK(is_not_made(with_status(with_request(c, "CSeq:0\r\n"), 0), 5));
+}
+
+static void test_creation(creation_function *call)
+{
+    test_creation_state(call);
+    test_creation_identifier(call);
+    test_creation_target(call);
+    test_creation_routes(call);
+    test_creation_number(call);
+    test_creation_interval(call);
+    test_creation_whole(call);
+    test_creation_method(call);
+    test_creation_uris(call);
+    test_creation_order(call);
+    test_creation_pairs(call);
+}
+
+static void test_new_uac(void)
+{
+    test_creation(sip_dialog_new_uac);
+}
+
+static void test_new_uas(void)
+{
+    test_creation(sip_dialog_new_uas);
+}
+
 /* ---- Counts of dialogs */
 
 static void test_counts(void)
@@ -2128,7 +3389,11 @@ int main(void)
         test_format_rack, test_validate_session_expires, test_negotiate_session_expires, test_intervals, test_needs_refresh,
         test_determine_refresher_role, test_count, test_listing, test_image_parts, test_image_numbers, test_image_routes,
         test_no_image, test_image_matches_request, test_image_needs_refresh, test_image_confirm, test_image_terminate,
-        test_image_next_local_cseq, test_image_set_session_expires, test_counts,
+        test_image_next_local_cseq, test_image_set_session_expires, test_image_request_numbers, test_image_request_cseq,
+        test_image_request_ack, test_image_request_methods, test_image_request_target, test_image_request_room,
+        test_image_request_rest, test_image_request_order, test_image_response_state, test_image_response_routes,
+        test_image_response_no_routes, test_image_response_interval, test_image_response_target, test_image_response_parts,
+        test_image_response_order, test_new_uac, test_new_uas, test_counts,
     };
     size_t i;
     for (i = 0; i < sizeof tests / sizeof tests[0]; i++) {

@@ -1,5 +1,5 @@
 #!/bin/sh
-# The differential run over the leaves, and the same run with a fault planted in each operation.
+# The differential runs over the leaves and over the dialogs, and the same with a fault planted in each operation.
 # PORT_LIB: a folder with libsip_dialog.a (default: built by `rt staticlib sip_dialog`).
 set -eu
 cd "$(dirname "$0")/.."
@@ -7,4 +7,5 @@ command -v cargo >/dev/null || { apt-get update -q && apt-get install -q -y carg
 [ -n "${PORT_LIB:-}" ] || { rt staticlib sip_dialog >&2; PORT_LIB=$PWD/target/staticlib; }
 export PORT_LIB
 oracle/run --if-present leaves
+oracle/run --if-present dialogs
 oracle/run --if-present planted

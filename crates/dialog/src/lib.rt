@@ -1,4 +1,5 @@
-// Dialog: readings of one record image. Creation and updates are definitions with their laws so far (specs/ and proofs/).
+// Dialog: what creation and the updates make of a record, as definitions with their laws (specs/ and proofs/); readings of one record image, and the
+// updates that change its numbers alone. The others are in `dialog_creation` and `dialog_updates`.
 mod matching;
 mod readings;
 mod routes;

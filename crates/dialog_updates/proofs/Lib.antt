@@ -1,3 +1,4 @@
 pub mod ContactLaws
 pub mod PlaceLaws
 pub mod RequestLaws
+pub mod ResponseLaws

@@ -32,7 +32,7 @@ passed-block L block e = by (blockCause L block) e
     by none e = refl
     by (some cause) e = absurd (let z : _≡_ {A = ℕ} 0 1 = cc in omega arith)
 
-refused-block : (L : LimitSet) (block : List ℕ) {cause : Refusal} → checkOf (blockCause L block) ≡ check.Refused cause → blockCause L block ≡ some cause
+pub refused-block : (L : LimitSet) (block : List ℕ) {cause : Refusal} → checkOf (blockCause L block) ≡ check.Refused cause → blockCause L block ≡ some cause
 refused-block L block {cause} e = by (blockCause L block) e
   where
     by : (o : Option Refusal) → checkOf o ≡ check.Refused cause → o ≡ some cause

@@ -7,7 +7,7 @@ use native.Mathlib.Numerals.{add-one}
 use native.Mathlib.Omega.{arith}
 use lib.ListN.{length, take, drop, getD, set, length-append, length-take, length-drop, length-set, take-append-drop}
 use lib.Seq.{paste, paste-suc, drop-paste, take-paste, getD-drop, getD-take, take-suc, drop-cons, set-at, append-snoc, length-take-le, take-length, take-at, take-add, drop-at, take-take, take-append-le, drop-append-add, drop-drop}
-use Rattle.edit.specs.Edit.{putAt, over, spliced}
+use Rattle.edit.specs.Edit.{putAt, over, spliced, tailMoved}
 
 -- what stands at i, where two lists agree from m on, or up to m
 pub getD-past : (x y : List ℕ) (m i : ℕ) → drop m x ≡ drop m y → m ≤ i → getD x i 0 ≡ getD y i 0
@@ -74,7 +74,7 @@ drop-take f n l h = rw (take-add f n l, drop-at (take f l) (take n (drop f l)) f
 
 module _ (s piece : List ℕ) (used at old : ℕ) (a : at + old ≤ used) (b : used ≤ length s) (d : used - old + length piece ≤ length s) where
   -- the tail put where it goes, and then the piece put before it, make the spliced list over the front of the store
-  pub replace-law : putAt at piece (putAt (at + length piece) (take (used - (at + old)) (drop (at + old) s)) s) ≡ over (spliced at old piece (take used s)) s
+  pub replace-law : putAt at piece (tailMoved used at old (length piece) s) ≡ over (spliced at old piece (take used s)) s
   replace-law =
       let n = used - (at + old) in
       let t = take n (drop (at + old) s) in

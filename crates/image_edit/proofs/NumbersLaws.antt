@@ -61,7 +61,7 @@ pub image-cut : (v : Record) → image .write v ≡ two .write (mapOfParts (part
 unfolding imageOf
 image-cut v = image-parts v
 
-sized : {u : List ℕ} (g a b c d e f r : List ℕ) → u ≡ g ++ ((a ++ (b ++ (c ++ (d ++ (e ++ f))))) ++ r) → length u ≡ length g + (length a + (length b + (length c + (length d + (length e + length f))))) + length r
+pub sized : {u : List ℕ} (g a b c d e f r : List ℕ) → u ≡ g ++ ((a ++ (b ++ (c ++ (d ++ (e ++ f))))) ++ r) → length u ≡ length g + (length a + (length b + (length c + (length d + (length e + length f))))) + length r
 sized g a b c d e f r q = ap length q ∙ simp length-append (omega arith)
 
 module _ (s : List ℕ) (at : ℕ) (p : RecordAt) (h : Held s at p) (x : Numbers) where

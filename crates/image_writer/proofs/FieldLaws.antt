@@ -10,13 +10,13 @@ use lib.ListN.{length, length-append}
 use lib.Dec.{ltb}
 use borrow.Author.Tests.{lt-ltb, le-ltb}
 use Rattle.record.specs.Codec.{two, four, text}
-use Rattle.record.specs.Record.{Side, uac, uas, Numbers, Ids, Uris, bitOf, isFilled, isGiven, idText, number, optional, refresherField}
+use Rattle.record.specs.Record.{Side, uac, uas, Numbers, Ids, Uris, bitOf, isFilled, isGiven, idsMap, idText, number, optional, refresherField}
 use Rattle.edit.specs.Edit.{over}
 use Rattle.edit.proofs.EditLaws.{Wrote, wrote-then}
 use Rattle.limits.specs.declared.Refusal.the-variants.{NoRoom}
 use Rattle.output.specs.Output.{fitted, leaves, writtenFrom}
 use Rattle.output.specs.declared.Written.the-variants as written
-use Rattle.image_writer.specs.Parts.{Parts, idsBytes, urisBytes, numbersBytes, mapOfParts, stateByteOf, imageOf}
+use Rattle.image_writer.specs.Parts.{Front, idsBytes, urisBytes, numbersBytes, numbersMap, mapOfFront, stateByteIn, frontOf, fittedBefore}
 
 -- ---- texts
 
@@ -95,16 +95,23 @@ numbers-size x =
     let e = refresherField (isGiven (x .refresher)) .write (x .refresher) in
     omega (arith, length-append a (b ++ (c ++ (d ++ e))), length-append b (c ++ (d ++ e)), length-append c (d ++ e), length-append d e, number-size (x .local), number-size (x .remote), optional-size (x .lastAck), optional-size (x .seconds), refresher-size (x .refresher))
 
-pub image-size : (p : Parts) → length (imageOf p) ≡ 2 + length (idsBytes (p .ids)) + 1 + length (urisBytes (p .uris)) + length (numbersBytes (p .numbers)) + length (p .routes)
-unfolding imageOf
-image-size p =
-    let a = idsBytes (p .ids) in
-    let b = urisBytes (p .uris) in
-    let c = numbersBytes (p .numbers) in
-    let d = p .routes in
-    omega (arith, length-append a ((stateByteOf p ∷ []) ++ (b ++ (c ++ d))), length-append b (c ++ d), length-append c d)
+pub front-size : (f : Front) → length (frontOf f) ≡ 2 + length (idsBytes (f .ids)) + 1 + length (urisBytes (f .uris)) + length (numbersBytes (f .numbers))
+unfolding frontOf
+front-size f =
+    let a = idsBytes (f .ids) in
+    let b = urisBytes (f .uris) in
+    let c = numbersBytes (f .numbers) in
+    omega (arith, length-append a ((stateByteIn f ∷ []) ++ (b ++ c)), length-append b c)
 
--- ---- the sections and the image, written one after another
+bit-le : (b : Bool) → bitOf b ≤ 1
+bit-le true = omega arith
+bit-le false = omega arith
+
+-- the map without routes is below bit 12
+pub map-small : (i : Ids) (x : Numbers) → idsMap i + 120 + numbersMap x ≤ 4095
+map-small i x = omega (arith, bit-le (isFilled (i .first)), bit-le (isFilled (i .second .first)), bit-le (isFilled (i .second .second)), bit-le (ltb 0 (x .local)), bit-le (ltb 0 (x .remote)), bit-le (isGiven (x .lastAck)), bit-le (isGiven (x .seconds)), bit-le (isGiven (x .refresher)))
+
+-- ---- the sections and the front, written one after another
 
 module _ (at : ℕ) (a b c d e bytes : List ℕ) {k l m n o : ℕ} {v w x y z : List ℕ} (h : at ≤ length bytes) where
   pub wrote-five : Wrote at a bytes k v → Wrote k b v l w → Wrote l c w m x → Wrote m d x n y → Wrote n e y o z → Wrote at (a ++ (b ++ (c ++ (d ++ e)))) bytes o z
@@ -116,19 +123,12 @@ module _ (at : ℕ) (a b c d e bytes : List ℕ) {k l m n o : ℕ} {v w x y z : 
       let same : (((a ++ b) ++ c) ++ d) ++ e ≡ a ++ (b ++ (c ++ (d ++ e))) = simp append-assoc in
       subst (λ (u : List ℕ). Wrote at u bytes o z) same all
 
-  pub wrote-six : (f : List ℕ) {i : ℕ} {u : List ℕ} → Wrote at a bytes k v → Wrote k b v l w → Wrote l c w m x → Wrote m d x n y → Wrote n e y o z → Wrote o f z i u
-      → Wrote at (a ++ (b ++ (c ++ (d ++ (e ++ f))))) bytes i u
-  wrote-six f {i} {u} p q r s t g =
-      let all : Wrote at ((a ++ (b ++ (c ++ (d ++ e)))) ++ f) bytes i u = wrote-then at (a ++ (b ++ (c ++ (d ++ e)))) f bytes h (wrote-five p q r s t) g in
-      let same : (a ++ (b ++ (c ++ (d ++ e)))) ++ f ≡ a ++ (b ++ (c ++ (d ++ (e ++ f)))) = simp append-assoc in
-      subst (λ (j : List ℕ). Wrote at j bytes i u) same all
-
--- the whole image over the front of the bytes
-pub image-written : (p : Parts) (bytes : List ℕ) {n : ℕ} {after : List ℕ}
-    → Wrote 0 (two .write (mapOfParts p) ++ (idsBytes (p .ids) ++ ((stateByteOf p ∷ []) ++ (urisBytes (p .uris) ++ (numbersBytes (p .numbers) ++ p .routes))))) bytes n after
-    → after ≡ over (imageOf p) bytes
-unfolding imageOf
-image-written p bytes w = w .1 ∙ rw (zero-add (length (imageOf p)))
+-- the whole front over the front of the bytes
+pub front-written : (f : Front) (bytes : List ℕ) {n : ℕ} {after : List ℕ}
+    → Wrote 0 (two .write (mapOfFront f) ++ (idsBytes (f .ids) ++ ((stateByteIn f ∷ []) ++ (urisBytes (f .uris) ++ numbersBytes (f .numbers))))) bytes n after
+    → after ≡ over (frontOf f) bytes
+unfolding frontOf
+front-written f bytes w = w .1 ∙ rw (zero-add (length (frontOf f)))
 
 -- ---- 18 only where the image is larger
 
@@ -139,3 +139,12 @@ module _ (s bytes : List ℕ) where
   pub accepted : {n : ℕ} {after : List ℕ} → length s ≤ length bytes → n ≡ length s → after ≡ over s bytes
       → (written.Length n ≡ writtenFrom (fitted (length bytes) s)) × (after ≡ leaves (fitted (length bytes) s) bytes)
   accepted h e q = rw (le-ltb (length bytes) (length s) h) (ap written.Length e, q)
+
+-- the same of a text with so many bytes after it
+module _ (more : ℕ) (s bytes : List ℕ) where
+  pub refused-before : length bytes < length s + more → (written.Refused NoRoom ≡ writtenFrom (fittedBefore more (length bytes) s)) × (bytes ≡ leaves (fittedBefore more (length bytes) s) bytes)
+  refused-before h = rw (lt-ltb (length bytes) (length s + more) h) (refl, refl)
+
+  pub accepted-before : {n : ℕ} {after : List ℕ} → length s + more ≤ length bytes → n ≡ length s → after ≡ over s bytes
+      → (written.Length n ≡ writtenFrom (fittedBefore more (length bytes) s)) × (after ≡ leaves (fittedBefore more (length bytes) s) bytes)
+  accepted-before h e q = rw (le-ltb (length bytes) (length s + more) h) (ap written.Length e, q)

@@ -8,7 +8,7 @@ use Rattle.record.specs.Codec.{two}
 use Rattle.record.specs.Record.{Record, bitOf, stands, isFilled, isGiven, isSips, number, optional, refresherField, fields, fieldsOf, routesField, mapOf, image}
 use Rattle.record.proofs.MapLaws.{stands-0, stands-1, stands-2, stands-7, stands-8, stands-9, stands-10, stands-11, stands-12}
 use lib.Dec.{ltb}
-use Rattle.image_writer.specs.Parts.{Parts, partsOf, idsBytes, urisBytes, numbersBytes, mapOfParts, stateByteOf, imageOf}
+use Rattle.image_writer.specs.Parts.{Parts, partsOf, idsBytes, urisBytes, numbersBytes, mapOfParts, stateByteOf, imageOf, frontIn, frontOf}
 
 -- the routes' section of a record
 abbrev pub routesBytes : Record → List ℕ
@@ -19,8 +19,8 @@ abbrev pub partsIn : Record → Parts
 partsIn r =
     partsOf (r .numbers) (r .weAreUac) (isSips (r .localUri) || isSips (r .remoteUri)) (r .callId) (r .localTag) (r .remoteTag) (r .target) (r .localUri) (r .remoteUri) (routesBytes r)
 
-tail-shape : (g h i j k l : List ℕ) → g ++ (h ++ (i ++ (j ++ (k ++ l)))) ≡ (g ++ (h ++ (i ++ (j ++ k)))) ++ l
-tail-shape g h i j k l = simp append-assoc
+front-shape : (g h i j k l : List ℕ) → g ++ (h ++ (i ++ (j ++ (k ++ l)))) ≡ (g ++ (h ++ (i ++ (j ++ k)))) ++ l
+front-shape g h i j k l = simp append-assoc
 
 -- the fields whose bits stand in a map that is the record's own
 module _ (r : Record) (m : ℕ) where
@@ -31,7 +31,7 @@ module _ (r : Record) (m : ℕ) where
       let x = r .numbers in
       rw (a, b, c, g, h, i, j, k, l)
       (ap (λ (t : List ℕ). idsBytes (partsIn r .ids) ++ ((stateByteOf (partsIn r) ∷ []) ++ (urisBytes (partsIn r .uris) ++ t)))
-      (tail-shape (number (ltb 0 (x .local)) .write (x .local)) (number (ltb 0 (x .remote)) .write (x .remote)) (optional (isGiven (x .lastAck)) .write (x .lastAck)) (optional (isGiven (x .seconds)) .write (x .seconds)) (refresherField (isGiven (x .refresher)) .write (x .refresher)) (routesBytes r)))
+      (front-shape (number (ltb 0 (x .local)) .write (x .local)) (number (ltb 0 (x .remote)) .write (x .remote)) (optional (isGiven (x .lastAck)) .write (x .lastAck)) (optional (isGiven (x .seconds)) .write (x .seconds)) (refresherField (isGiven (x .refresher)) .write (x .refresher)) (routesBytes r)))
 
 routes-filled : (r : Record) → isFilled (routesBytes r) ≡ isFilled (r .routes)
 routes-filled r = by (r .routes)
@@ -52,3 +52,9 @@ image-parts r =
     let m = mapOf f in
     ap (λ (n : ℕ). two .write n ++ fields m .write f) (map-parts r)
     ∙ ap (λ (s : List ℕ). two .write (mapOfParts (partsIn r)) ++ s) (fields-bytes r m (stands-0 f) (stands-1 f) (stands-2 f) (stands-7 f) (stands-8 f) (stands-9 f) (stands-10 f) (stands-11 f) (stands-12 f))
+
+-- an image is its front and the routes' section
+pub image-front : (p : Parts) → imageOf p ≡ frontOf (frontIn p) ++ p .routes
+unfolding imageOf frontOf
+image-front p =
+    front-shape (two .write (mapOfParts p)) (idsBytes (p .ids)) (stateByteOf p ∷ []) (urisBytes (p .uris)) (numbersBytes (p .numbers)) (p .routes)

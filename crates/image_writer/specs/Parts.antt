@@ -1,11 +1,13 @@
 -- A record's image from its parts, in the order of document 01, "Record image": the bit map, the identifiers, the state byte, the URIs, the
 -- numbers, and the routes as a section that is encoded already (no bytes where there are no routes). That these are the bytes of `image`
--- (record/specs/Record.antt) is the law `image-parts`.
+-- (record/specs/Record.antt) is the law `image-parts`. The front of an image is all before the routes: the law `image-front`.
 use Prim.Native.Nat.{ℕ, _+_, _*_, _<_}
 use mathlib.Core.Bool.{Bool, true, false}
 use mathlib.Core.List.{List, _∷_, [], _++_}
 use lib.ListN.{length}
 use lib.Dec.{ltb}
+use Rattle.limits.specs.Outcome.{Outcome, given, causeIf, refuseBy}
+use Rattle.limits.specs.declared.Refusal.the-variants.{NoRoom}
 use Rattle.record.specs.Codec.{two, text}
 use Rattle.record.specs.Record.{Numbers, Ids, Uris, StateByte, bitOf, isFilled, isGiven, idsMap, idText, number, optional, refresherField, stateByteNumber}
 
@@ -46,8 +48,12 @@ numbersMap x =
     + 1024 * bitOf (isGiven (x .seconds))
     + 2048 * bitOf (isGiven (x .refresher))
 
+-- with routes or without
+abbrev pub mapWith : Ids → Numbers → Bool → ℕ
+mapWith i x routed = idsMap i + 120 + (numbersMap x + 4096 * bitOf routed)
+
 abbrev pub mapOfParts : Parts → ℕ
-mapOfParts p = idsMap (p .ids) + 120 + (numbersMap (p .numbers) + 4096 * bitOf (isFilled (p .routes)))
+mapOfParts p = mapWith (p .ids) (p .numbers) (isFilled (p .routes))
 
 -- ---- the image
 
@@ -69,3 +75,51 @@ partsOf x weAreUac secure callId localTag remoteTag target localUri remoteUri ro
   uris = record { first = target; second = record { first = localUri; second = remoteUri } };
   routes = routes;
 }
+
+-- ---- the front
+
+-- the parts of a record before its routes
+pub record Front : Type 0 where
+  pub numbers : Numbers
+  pub weAreUac : Bool
+  pub secure : Bool
+  pub ids : Ids
+  pub uris : Uris
+  -- whether routes follow
+  pub routed : Bool
+
+abbrev pub frontIn : Parts → Front
+frontIn p = record {
+  numbers = p .numbers;
+  weAreUac = p .weAreUac;
+  secure = p .secure;
+  ids = p .ids;
+  uris = p .uris;
+  routed = isFilled (p .routes);
+}
+
+abbrev pub mapOfFront : Front → ℕ
+mapOfFront f = mapWith (f .ids) (f .numbers) (f .routed)
+
+abbrev pub stateByteIn : Front → ℕ
+stateByteIn f = stateByteNumber (record { state = f .numbers .state; weAreUac = f .weAreUac; secure = f .secure })
+
+unfoldable pub frontOf : Front → List ℕ
+frontOf f =
+    two .write (mapOfFront f)
+    ++ (idsBytes (f .ids) ++ ((stateByteIn f ∷ []) ++ (urisBytes (f .uris) ++ numbersBytes (f .numbers))))
+
+-- the front as the writer is given it: identifiers, URIs, whether routes follow
+abbrev pub frontFrom : Numbers → Bool → Bool → List ℕ → List ℕ → List ℕ → List ℕ → List ℕ → List ℕ → Bool → Front
+frontFrom x weAreUac secure callId localTag remoteTag target localUri remoteUri routed = record {
+  numbers = x;
+  weAreUac = weAreUac;
+  secure = secure;
+  ids = record { first = callId; second = record { first = localTag; second = remoteTag } };
+  uris = record { first = target; second = record { first = localUri; second = remoteUri } };
+  routed = routed;
+}
+
+-- 18 where a text and so many bytes after it are larger than the room
+abbrev pub fittedBefore : ℕ → ℕ → List ℕ → Outcome (List ℕ)
+fittedBefore more room s = refuseBy (causeIf (ltb room (length s + more)) NoRoom) (given s)

@@ -16,7 +16,7 @@ ghost use lib.Dec.{ltb};
 ghost use Rattle.edit.specs.Edit.{putAt};
 ghost use Rattle.record.specs.NumbersForm.{meaning, stateIn, numberIn, sideIn};
 ghost use Rattle.record.specs.Record.{bitOf, isFilled, isGiven, idText, idsMap, stateNumber, stateByteNumber};
-ghost use Rattle.image_writer.specs.Parts.{idsBytes, urisBytes, numbersBytes, numbersMap};
+ghost use Rattle.image_writer.specs.Parts.{idsBytes, urisBytes, numbersBytes, numbersMap, mapWith};
 
 // ---- sizes
 
@@ -85,6 +85,24 @@ pub fn map_of(
         + 1024 * optional_bit(seconds)
         + 2048 * refresher_bit(refresher);
     ids + 120 + (numbers + 4096 * text_bit(routes))
+}
+
+// The same, with routes or without.
+pub fn front_map(
+    x: Numbers,
+    call_id: &[u8],
+    local_tag: &[u8],
+    remote_tag: &[u8],
+    routed: bool,
+) -> usize
+    ensures { λ r. ⌜ r ≡ mapWith (record { first = now («call_id» .entry); second = record { first = now («local_tag» .entry); second = now («remote_tag» .entry) } }) (meaning x) routed ⌝ }
+    ensures { λ r. ⌜ r < 65536 ⌝ }
+{
+    let map = map_of(x, call_id, local_tag, remote_tag, b"");
+    if routed {
+        return map + 4096;
+    }
+    map
 }
 
 // The state byte: the state, bit 2 we are uac, bit 3 secure.

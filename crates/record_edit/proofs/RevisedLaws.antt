@@ -2,12 +2,13 @@
 -- were written around them, are the changed record's image among the used bytes. Assumes nothing.
 use mathlib.Core.Path.{_≡_, refl, sym, ap, _∙_}
 use mathlib.Core.Bool.{_||_}
-use mathlib.Core.List.{List, [], _∷_, _++_, append-assoc}
+use mathlib.Core.List.{List, [], _∷_, _++_, append-assoc, append-nil}
 use Prim.Native.Nat.{ℕ, _+_, _-_, _≤_}
 use native.Mathlib.Omega.{arith}
 use lib.ListN.{length, take, drop, length-append, take-append-drop}
 use lib.Seq.{length-take-le}
 use Rattle.edit.specs.Edit.{over, putAt}
+use Rattle.record.specs.Changes.{withNumbers, withTarget, withRoutes}
 use Rattle.record.specs.Codec.{text, two}
 use Rattle.record.specs.Record.{Numbers, Record, stateByteNumber, image}
 use Rattle.image.specs.declared.RecordAt.{RecordAt}
@@ -19,6 +20,8 @@ use Rattle.image_edit.specs.Maps.{mapFrom}
 use Rattle.image_edit.proofs.ImageCuts.{Held, changed-held}
 use Rattle.image_edit.proofs.NumbersLaws.{image-cut, state-is, end-is, routes-is, map-is, state-byte-is}
 use Rattle.image_edit.proofs.TargetLaws.{start-is, length-is}
+use Rattle.route_section.specs.Section.{sectionOf}
+use Rattle.routes_edit.proofs.RoutesLaws.{tailBytes, record-end, routes-map}
 use Rattle.record_edit.specs.Revised.{revised}
 use Rattle.record_edit.proofs.PartLaws.{part-at, merged, around}
 
@@ -171,3 +174,45 @@ module _ (bytes : List ℕ) (used at : ℕ) (p : RecordAt) (fits : used ≤ leng
       rw old-is
       (revised-edit bytes used at p fits h old (routesBytes (h .value)) refl (two .write (mapFrom x (p .ids) (p .«route_count»))) t (numbersBytes x) (image .write (revised x t (h .value))) (stateByteNumber (record { state = x .state; weAreUac = p .«we_are_uac»; secure = p .uris .«local_secure» || p .uris .«remote_secure» })) refl image-is (omega (arith, room, old-is))
       ∙ ap (λ (s : List ℕ). over s bytes) (sym (changed-held (revised x t) (take used bytes) at h)))
+
+-- ---- other numbers, other routes and another target
+
+-- f gives the record the numbers x, the routes l and the target t
+module _ (bytes : List ℕ) (used at : ℕ) (p : RecordAt) (fits : used ≤ length bytes) (h : Held (take used bytes) at p) (x : Numbers) (t : List ℕ) (l : List (List ℕ)) (f : Record → Record) (is : f (h .value) ≡ withTarget t (withNumbers x (withRoutes l (h .value)))) where
+  abbrev tail : List ℕ
+  tail = numbersBytes x ++ sectionOf l
+
+  -- the old numbers and routes
+  whole-tail : numbersBytes (h .value .numbers) ++ routesBytes (h .value) ≡ tailBytes (h .value) ++ []
+  whole-tail = sym (append-nil (tailBytes (h .value)))
+
+  tail-is : p .end - p .uris .end ≡ length (tailBytes (h .value))
+  tail-is = omega (arith, record-end (take used bytes) at p h (λ v. withNumbers x (withRoutes l v)) x l refl)
+
+  -- the new image in sections
+  all-image : image .write (f (h .value))
+      ≡ two .write (mapFrom x (p .ids) (length l)) ++ (idsBytes (idsOf (h .value)) ++ ((stateByteNumber (record { state = x .state; weAreUac = p .«we_are_uac»; secure = p .uris .«local_secure» || p .uris .«remote_secure» }) ∷ []) ++ ((text .write t ++ others (h .value)) ++ (tail ++ []))))
+  all-image =
+      ap (image .write) is
+      ∙ image-cut (withTarget t (withNumbers x (withRoutes l (h .value))))
+      ∙ rw (routes-map (take used bytes) at p h (λ v. withNumbers x (withRoutes l v)) x l refl, state-byte-is (take used bytes) at p h x, append-nil)
+
+  pub all-within : (at + 2 ≤ p .state) × (p .uris .target .start ≡ p .state + 3) × (p .uris .target .start + p .uris .target .length ≤ p .uris .end) × (p .uris .end ≤ p .end) × (p .end ≤ used)
+  all-within =
+      let s = sections bytes used at p fits h (tailBytes (h .value)) [] whole-tail in
+      let r = record-end (take used bytes) at p h (λ v. withNumbers x (withRoutes l v)) x l refl in
+      (s .0, s .1, s .2, omega (arith, r), omega (arith, r, s .3))
+
+  pub all-size : length (changed f at (take used bytes)) ≡ used - p .uris .target .length - (p .end - p .uris .end) + length t + (length (numbersBytes x) + length (sectionOf l))
+  all-size =
+      ap length (changed-held f (take used bytes) at h)
+      ∙ revised-size bytes used at p fits h (tailBytes (h .value)) [] whole-tail (two .write (mapFrom x (p .ids) (length l))) t tail (image .write (f (h .value))) (stateByteNumber (record { state = x .state; weAreUac = p .«we_are_uac»; secure = p .uris .«local_secure» || p .uris .«remote_secure» })) refl all-image
+      ∙ omega (arith, tail-is, length-append (numbersBytes x) (sectionOf l))
+
+  pub all-edit : used - p .uris .target .length - (p .end - p .uris .end) + length t + (length (numbersBytes x) + length (sectionOf l)) ≤ length bytes
+      → putAt at (two .write (mapFrom x (p .ids) (length l))) (putAt (p .state) ((stateByteNumber (record { state = x .state; weAreUac = p .«we_are_uac»; secure = p .uris .«local_secure» || p .uris .«remote_secure» }) ∷ []) ++ text .write t) (putAt (p .uris .target .start + length t + (p .uris .end - (p .uris .target .start + p .uris .target .length))) tail (putAt (p .uris .target .start + length t) (take (p .uris .end - (p .uris .target .start + p .uris .target .length)) (drop (p .uris .target .start + p .uris .target .length) bytes)) (putAt (p .uris .target .start + length t + (p .uris .end - (p .uris .target .start + p .uris .target .length)) + length tail) (take (used - (p .uris .end + (p .end - p .uris .end))) (drop (p .uris .end + (p .end - p .uris .end)) bytes)) bytes))))
+      ≡ over (changed f at (take used bytes)) bytes
+  all-edit room =
+      rw tail-is
+      (revised-edit bytes used at p fits h (tailBytes (h .value)) [] whole-tail (two .write (mapFrom x (p .ids) (length l))) t tail (image .write (f (h .value))) (stateByteNumber (record { state = x .state; weAreUac = p .«we_are_uac»; secure = p .uris .«local_secure» || p .uris .«remote_secure» })) refl all-image (omega (arith, room, tail-is, length-append (numbersBytes x) (sectionOf l)))
+      ∙ ap (λ (s : List ℕ). over s bytes) (sym (changed-held f (take used bytes) at h)))

@@ -1,6 +1,7 @@
 // Two sections of the used bytes made longer or shorter: the bytes between them and those after them move.
 use edit::move_left;
 use edit::move_right;
+use edit::shift;
 ghost use mathlib.Core.Path.{_≡_};
 ghost use Prim.Native.Nat.{_+_, _-_, _≤_};
 ghost use lib.ListN.{length, take, drop};
@@ -37,16 +38,4 @@ pub fn open_gaps(
         move_right(bytes, from, to, between);
     }
     end + n
-}
-
-// The n bytes from a place on, moved to another, down or up.
-fn shift(bytes: &mut [u8], from: usize, to: usize, n: usize)
-    requires { ⌜ (from + n ≤ length (now bytes)) × (to + n ≤ length (now bytes)) ⌝ }
-    ensures { λ _. ⌜ now (bytes .exit) ≡ putAt to (take n (drop from (now (bytes .entry)))) (now (bytes .entry)) ⌝ }
-{
-    if to <= from {
-        move_left(bytes, from, to, n);
-    } else {
-        move_right(bytes, from, to, n);
-    }
 }

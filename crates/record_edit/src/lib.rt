@@ -1,36 +1,32 @@
-// A record's numbers, or its numbers and its target, changed in its place in lent bytes: 18 where the result is larger than they are. The caller has read it.
+// A record's numbers, with or without its target and its routes, changed in its place in lent bytes: 18 where the result is larger than they are.
+// The caller has read the record.
 use crate::gaps::open_gaps;
+use crate::head::write_head;
 use image::RecordAt;
 use image_edit::change_numbers;
-use image_edit::either;
-use image_edit::new_map;
 use image_writer::numbers_size;
-use image_writer::state_byte;
-use image_writer::write_byte;
 use image_writer::write_numbers;
-use image_writer::write_text;
-use image_writer::write_two;
 use limits::Refusal;
 use output::Written;
 use record::Numbers;
 ghost use mathlib.Core.Path.{_≡_};
-ghost use mathlib.Core.List.{_∷_, [], _++_};
-ghost use mathlib.Core.Bool.{_||_};
-ghost use Prim.Native.Nat.{_+_, _≤_, _<_};
+ghost use Prim.Native.Nat.{_≤_, _<_};
 ghost use lib.ListN.{length, take};
-ghost use Rattle.edit.specs.Edit.{over, putAt};
+ghost use Rattle.edit.specs.Edit.{over};
 ghost use Rattle.output.specs.Output.{fitted, leaves, writtenFrom};
 ghost use Rattle.record.specs.Changes.{withNumbers};
-ghost use Rattle.record.specs.Codec.{two, text};
-ghost use Rattle.record.specs.Record.{stateByteNumber};
 ghost use Rattle.record.specs.NumbersForm.{meaning};
 ghost use Rattle.image.specs.Places.{recordFrom};
 ghost use Rattle.image.specs.declared.RecordReading.the-variants.{Whole};
 ghost use Rattle.image_edit.specs.Changes.{readAt, changed};
-ghost use Rattle.image_edit.specs.Maps.{mapFrom};
 ghost use Rattle.record_edit.specs.Revised.{revised};
 
 mod gaps;
+mod head;
+mod routes;
+
+pub use routes::revise_all;
+pub use routes::revise_numbers_and_routes;
 
 // Other numbers for the record whose image begins at a place of the used bytes: 18. Answers the new used length.
 pub fn revise_numbers(
@@ -71,8 +67,8 @@ pub fn revise_numbers_and_target(
     let uris = r.uris;
     let text = uris.target;
     let old = r.routes - uris.end;
-    let size = used - text.length - old + target.len() + numbers_size(numbers);
-    if bytes.len() < size {
+    let result = used - text.length - old + target.len() + numbers_size(numbers);
+    if bytes.len() < result {
         return Written::Refused(Refusal::NoRoom);
     }
     Written::Length(change_numbers_and_target(bytes, used, at, r, numbers, target))
@@ -111,20 +107,6 @@ fn change_numbers_and_target(
     );
     let to = start + target.len() + (from - (start + old_length));
     write_numbers(bytes, to, numbers);
-    write_head(bytes, at, r, numbers, target);
+    write_head(bytes, at, r, numbers, r.route_count, target);
     n
-}
-
-// The bit map, the state byte and the target of the record whose image begins at a place: the identifiers between them stay.
-fn write_head(bytes: &mut [u8], at: usize, r: RecordAt, numbers: Numbers, target: &[u8])
-    requires { ⌜ (at + 2 ≤ r .state) × (r .state + 3 + length (now target) ≤ length (now bytes)) × (length (now target) < 65536) ⌝ }
-    ensures { λ _. ⌜ now (bytes .exit) ≡ putAt at (two .write (mapFrom (meaning numbers) (r .ids) (r .«route_count»))) (putAt (r .state) ((stateByteNumber (record { state = meaning numbers .state; weAreUac = r .«we_are_uac»; secure = r .uris .«local_secure» || r .uris .«remote_secure» }) ∷ []) ++ text .write (now (target .entry))) (now (bytes .entry))) ⌝ }
-{
-    let ids = r.ids;
-    let uris = r.uris;
-    let map = new_map(numbers, ids, r.route_count);
-    let secure = either(uris.local_secure, uris.remote_secure);
-    let a = write_byte(bytes, r.state, state_byte(numbers, r.we_are_uac, secure));
-    write_text(bytes, a, target);
-    write_two(bytes, at, map);
 }

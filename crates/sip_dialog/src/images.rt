@@ -18,6 +18,7 @@ ghost use Rattle.dialog.specs.OneImage.{oneRecord, imageAnswer, refreshOf, refr
 ghost use Rattle.dialog.specs.ImageRoutes.{imageRoute};
 ghost use Rattle.dialog.specs.Matching.{matchesRequest, matchesAnswer};
 ghost use Rattle.dialog.specs.ImageUpdates.{confirmed, terminated, localRaised, raisedRecord, raisedAnswer, intervalSet};
+ghost use Rattle.dialog_updates.specs.Messages.{requested, responded};
 ghost use Rattle.c_answers.specs.Given.{LookupGives, WrittenGives};
 ghost use Rattle.c_image_answers.specs.Given.{ImageIdGives, StateGives, UrisGives, NumbersGives, RouteCountGives, MatchesGives, RefreshGives, RaisedGives, SetGives};
 
@@ -148,6 +149,40 @@ pub extern "C" fn sip_dialog_image_needs_refresh(image: &[u8], elapsed: u64, due
     ensures { λ r. ⌜ RefreshGives (refreshAnswer (refreshOf (now (image .entry)) elapsed)) (now (due .entry)) r (now (due .exit)) ⌝ }
 {
     give_refresh(dialog::needs_refresh(image, elapsed), due)
+}
+
+// A request from the peer: 1, 2, 3, 4, 9; ACK: 11; others: 10, 11, 12; 18.
+#[no_mangle]
+pub extern "C" fn sip_dialog_image_update_from_request(
+    method: &[u8],
+    block: &[u8],
+    image: &mut [u8],
+    used: &mut usize,
+) -> u8
+    ensures { λ r. ⌜ WrittenGives (writtenFrom (requested rustLimits (now (method .entry)) (now (block .entry)) (now (image .entry)) (now (used .entry)))) (now (used .entry)) r (now (used .exit)) ⌝ }
+    ensures { λ _. ⌜ now (image .exit) ≡ leaves (requested rustLimits (now (method .entry)) (now (block .entry)) (now (image .entry)) (now (used .entry))) (now (image .entry)) ⌝ }
+{
+    give_written(
+        dialog_updates::update_from_request(method, block, image, *used),
+        used,
+    )
+}
+
+// A response: 1, 2, 3, 18.
+#[no_mangle]
+pub extern "C" fn sip_dialog_image_update_from_response(
+    status: u16,
+    block: &[u8],
+    image: &mut [u8],
+    used: &mut usize,
+) -> u8
+    ensures { λ r. ⌜ WrittenGives (writtenFrom (responded rustLimits status (now (block .entry)) (now (image .entry)) (now (used .entry)))) (now (used .entry)) r (now (used .exit)) ⌝ }
+    ensures { λ _. ⌜ now (image .exit) ≡ leaves (responded rustLimits status (now (block .entry)) (now (image .entry)) (now (used .entry))) (now (image .entry)) ⌝ }
+{
+    give_written(
+        dialog_updates::update_from_response(status, block, image, *used),
+        used,
+    )
 }
 
 // Early becomes Confirmed: 3.

@@ -1,5 +1,6 @@
 // The C face: functions on numbers and byte runs. Nothing but calls, and answers handed over.
 mod blocks;
+mod creation;
 mod identifiers;
 mod images;
 mod prack;

@@ -15,7 +15,7 @@ pub type Out = (&'static str, Width);
 /// A call's arguments: byte runs and numbers. Those that an operation doesn't have are empty and 0.
 #[derive(Debug, Clone, Copy, Default)]
 pub struct Input<'a> {
-    pub texts: [&'a [u8]; 3],
+    pub texts: [&'a [u8]; 5],
     pub numbers: [u64; 6],
 }
 

@@ -1,6 +1,9 @@
 //! Times: nanoseconds per call of the port beside the Rust, or beside the stand-in where the Rust has no such function,
 //! on the same bytes in one run. Each figure is the median of several rounds after a warm-up.
 
+mod dialogs;
+
+use dialogs::dialogs;
 use sip_core::{block, Headers, SipUri};
 use sip_dialog::storage::private;
 use smol_str::SmolStr;
@@ -24,16 +27,22 @@ pub fn run() -> bool {
     table("tag, after other parameters", tag_value, tag);
     table("URI, a long user", uri_text, uri);
     table("CSeq number, leading zeros", cseq_block, cseq);
+    dialogs();
     true
 }
 
 /// One table: a line for each size.
 fn table(title: &str, text: fn(usize) -> Vec<u8>, sides: for<'a> fn(&'a [u8]) -> Vec<Side<'a>>) {
+    table_from(64, title, text, sides);
+}
+
+/// The same from a given size on.
+fn table_from(smallest: usize, title: &str, text: fn(usize) -> Vec<u8>, sides: for<'a> fn(&'a [u8]) -> Vec<Side<'a>>) {
     println!("\n{title}");
-    let sample = text(64);
+    let sample = text(smallest);
     let names = sides(&sample).into_iter().map(|(name, _)| format!("{name:>34}"));
     println!("{:>6} {}", "bytes", names.collect::<Vec<_>>().join(" "));
-    for size in (6..=13).map(|power| 1 << power) {
+    for size in (6..=13).map(|power| 1 << power).filter(|size| *size >= smallest) {
         let text = text(size);
         assert_eq!(text.len(), size);
         let figures = medians(&sides(&text)).into_iter().map(|time| {

@@ -63,9 +63,7 @@ fn random_block(random: &mut Random, blocks: &Blocks) -> Vec<u8> {
         let name = random.pick(&["X", "Via", "-", "Subject2", "9"]);
         lines.push(line(random, name, |random, _| vec![b'v'; random.below(9)]));
     }
-    for last in (1..lines.len()).rev() {
-        lines.swap(last, random.below(last + 1));
-    }
+    shuffle(random, &mut lines);
     if random.one_in(12) {
         let length = near(random, LONGEST);
         fill(random, &mut lines, length);
@@ -94,8 +92,15 @@ fn line(random: &mut Random, name: &str, write: impl Fn(&mut Random, &str) -> Ve
     bytes
 }
 
+/// Puts the lines in a random order.
+pub fn shuffle(random: &mut Random, lines: &mut [Vec<u8>]) {
+    for last in (1..lines.len()).rev() {
+        lines.swap(last, random.below(last + 1));
+    }
+}
+
 /// Brings the lines to `length` bytes together by one more line, at a random place among them.
-fn fill(random: &mut Random, lines: &mut Vec<Vec<u8>>, length: usize) {
+pub fn fill(random: &mut Random, lines: &mut Vec<Vec<u8>>, length: usize) {
     let held: usize = lines.iter().map(Vec::len).sum();
     let filler = random.pick(b"x \t;,:");
     let overhead = b"F:\r\n".len();

@@ -2,12 +2,14 @@
 //! document 01 where the Rust has no such function.
 //!
 //!     driver leaves [--calls N] [--seed S]     compares, prints the table, fails on any difference
+//!     driver dialogs [--calls N] [--seed S]    the same for creations, changes and readings of one record
 //!     driver planted [--calls N] [--seed S]    plants one fault per operation and fails if any goes unreported
 //!     driver bench                             times both sides
 
 mod answer;
 mod bench;
 mod blocks;
+mod dialogs;
 mod messages;
 mod operations;
 mod places;
@@ -20,7 +22,7 @@ mod uris;
 
 use std::process::ExitCode;
 
-const USAGE: &str = "use: driver leaves|planted [--calls N] [--seed S], driver bench";
+const USAGE: &str = "use: driver leaves|dialogs|planted [--calls N] [--seed S], driver bench";
 
 /// What the command line asks for.
 struct Options {
@@ -37,6 +39,7 @@ fn main() -> ExitCode {
     };
     let good = match options.command.as_str() {
         "leaves" => report::leaves(options.calls, options.seed),
+        "dialogs" => report::dialogs(options.calls, options.seed),
         "planted" => report::planted(options.calls, options.seed),
         "bench" => bench::run(),
         _ => {

@@ -80,21 +80,36 @@ pub struct Feed<'a> {
 
 /// Compares all calls of one operation.
 pub fn compare_all(operation: &Operation, calls: usize, seed: u64, planted: bool) -> Tally {
-    let mut feed = Feed {
-        random: Random::new(seed, operation.name),
-        calls,
-        operation,
-        planted,
-        turn: 0,
-        tally: Tally::default(),
-    };
+    let mut feed = Feed::new(operation, calls, seed, planted);
     (operation.inputs)(&mut feed);
     feed.tally
 }
 
-impl Feed<'_> {
+impl<'a> Feed<'a> {
+    /// A feed that has compared nothing yet.
+    pub fn new(operation: &'a Operation, calls: usize, seed: u64, planted: bool) -> Feed<'a> {
+        Feed {
+            random: Random::new(seed, operation.name),
+            calls,
+            operation,
+            planted,
+            turn: 0,
+            tally: Tally::default(),
+        }
+    }
+
+    /// The operation, and what was counted.
+    pub fn finish(self) -> (&'a Operation, Tally) {
+        (self.operation, self.tally)
+    }
+
     /// Compares one call.
     pub fn compare(&mut self, input: &Input) {
+        self.compare_and_go_on(input);
+    }
+
+    /// Compares one call and gives what the port itself answered, without a planted fault.
+    pub fn compare_and_go_on(&mut self, input: &Input) -> Answer {
         let operation = self.operation;
         let pattern = PATTERNS[self.turn % PATTERNS.len()];
         self.turn += 1;
@@ -102,9 +117,11 @@ impl Feed<'_> {
         let mut answered = expected.clone();
         expected.number = (operation.expect)(input, &mut expected).err().unwrap_or(0);
         answered.number = (operation.ask)(input, &mut answered);
-        if self.planted {
+        let own = self.planted.then(|| {
+            let own = answered.clone();
             (operation.distort)(input, &mut answered);
-        }
+            own
+        });
         let longest = input.texts.iter().any(|text| text.len() == LONGEST);
         self.tally.longest_read += u64::from(longest && expected.number != 1);
         let row = class(operation.outs, &expected);
@@ -114,6 +131,12 @@ impl Feed<'_> {
             count.differing += 1;
             self.show(input, &expected, &answered);
         }
+        own.unwrap_or(answered)
+    }
+
+    /// The operation that is fed.
+    pub fn operation(&self) -> &'a Operation {
+        self.operation
     }
 
     /// How many calls were compared so far: lets generators vary what they feed.

@@ -71,6 +71,20 @@ pub fn each_sequence(pieces: &[&str], longest: usize, give: &mut dyn FnMut(&[u8]
     }
 }
 
+/// Every list of choices, each below its own count.
+pub fn each_choice(counts: &[usize], give: &mut dyn FnMut(&[usize])) {
+    let lists: usize = counts.iter().product();
+    for list in 0..lists {
+        let mut rest = list;
+        let choice = counts.iter().map(|count| {
+            let digit = rest % count;
+            rest /= count;
+            digit
+        });
+        give(&choice.collect::<Vec<_>>());
+    }
+}
+
 /// The next number of these digits, or false after the last.
 fn count_up(digits: &mut [usize], base: usize) -> bool {
     for digit in digits.iter_mut().rev() {

@@ -183,4 +183,127 @@ extern "C" {
     // metrics
     pub fn sip_dialog_record_created(created: u64) -> u64;
     pub fn sip_dialog_record_terminated(terminated: u64) -> u64;
+
+    // dialog: creation
+    pub fn sip_dialog_new_uac(
+        method: *const u8,
+        method_len: usize,
+        request: *const u8,
+        request_len: usize,
+        status: u16,
+        response: *const u8,
+        response_len: usize,
+        local_uri: *const u8,
+        local_uri_len: usize,
+        remote_uri: *const u8,
+        remote_uri_len: usize,
+        out: *mut u8,
+        out_len: usize,
+        length: *mut usize,
+        least: *mut u64,
+    ) -> u8;
+    pub fn sip_dialog_new_uas(
+        method: *const u8,
+        method_len: usize,
+        request: *const u8,
+        request_len: usize,
+        status: u16,
+        response: *const u8,
+        response_len: usize,
+        local_uri: *const u8,
+        local_uri_len: usize,
+        remote_uri: *const u8,
+        remote_uri_len: usize,
+        out: *mut u8,
+        out_len: usize,
+        length: *mut usize,
+        least: *mut u64,
+    ) -> u8;
+
+    // dialog: changes of one record image, lent with its room
+    pub fn sip_dialog_image_update_from_request(
+        method: *const u8,
+        method_len: usize,
+        block: *const u8,
+        block_len: usize,
+        image: *mut u8,
+        image_len: usize,
+        used: *mut usize,
+    ) -> u8;
+    pub fn sip_dialog_image_update_from_response(
+        status: u16,
+        block: *const u8,
+        block_len: usize,
+        image: *mut u8,
+        image_len: usize,
+        used: *mut usize,
+    ) -> u8;
+    pub fn sip_dialog_image_confirm(image: *mut u8, image_len: usize, used: *mut usize) -> u8;
+    pub fn sip_dialog_image_terminate(image: *mut u8, image_len: usize, used: *mut usize) -> u8;
+    pub fn sip_dialog_image_next_local_cseq(image: *mut u8, image_len: usize, used: *mut usize, number: *mut u32)
+        -> u8;
+    pub fn sip_dialog_image_set_session_expires(
+        image: *mut u8,
+        image_len: usize,
+        used: *mut usize,
+        seconds: u64,
+        least: *mut u64,
+    ) -> u8;
+
+    // dialog: readings of one record image
+    pub fn sip_dialog_image_matches_request(
+        block: *const u8,
+        block_len: usize,
+        image: *const u8,
+        image_len: usize,
+        matches: *mut u8,
+    ) -> u8;
+    pub fn sip_dialog_image_needs_refresh(image: *const u8, image_len: usize, elapsed: u64, due: *mut u8) -> u8;
+    pub fn sip_dialog_image_id(
+        image: *const u8,
+        image_len: usize,
+        call_id: *mut usize,
+        call_id_length: *mut usize,
+        local_tag: *mut usize,
+        local_tag_length: *mut usize,
+        remote_tag: *mut usize,
+        remote_tag_length: *mut usize,
+    ) -> u8;
+    pub fn sip_dialog_image_state(
+        image: *const u8,
+        image_len: usize,
+        state: *mut u8,
+        we_are_uac: *mut u8,
+        secure: *mut u8,
+    ) -> u8;
+    pub fn sip_dialog_image_uris(
+        image: *const u8,
+        image_len: usize,
+        target: *mut usize,
+        target_length: *mut usize,
+        local_uri: *mut usize,
+        local_uri_length: *mut usize,
+        remote_uri: *mut usize,
+        remote_uri_length: *mut usize,
+    ) -> u8;
+    pub fn sip_dialog_image_numbers(
+        image: *const u8,
+        image_len: usize,
+        local: *mut u32,
+        remote: *mut u32,
+        has_last_ack: *mut u8,
+        last_ack: *mut u32,
+        has_seconds: *mut u8,
+        seconds: *mut u32,
+        refresher: *mut u8,
+    ) -> u8;
+    pub fn sip_dialog_image_route_count(image: *const u8, image_len: usize, count: *mut usize) -> u8;
+    pub fn sip_dialog_image_route(
+        image: *const u8,
+        image_len: usize,
+        index: usize,
+        found: *mut u8,
+        place: *mut usize,
+        length: *mut usize,
+    ) -> u8;
 }

@@ -414,3 +414,206 @@ pub fn record_created(created: u64) -> u64 {
 pub fn record_terminated(terminated: u64) -> u64 {
     unsafe { c::sip_dialog_record_terminated(terminated) }
 }
+
+/// What a record is made from: the request's method and block, the response's status and block, the two URIs.
+#[derive(Debug, Clone, Copy)]
+pub struct Creation<'a> {
+    pub method: &'a [u8],
+    pub request: &'a [u8],
+    pub status: u16,
+    pub response: &'a [u8],
+    pub local_uri: &'a [u8],
+    pub remote_uri: &'a [u8],
+}
+
+/// A record of a call that we made, as an image at the front of the lent output.
+pub fn new_uac(given: &Creation, out: &mut [u8], length: &mut usize, least: &mut u64) -> u8 {
+    unsafe {
+        c::sip_dialog_new_uac(
+            given.method.as_ptr(),
+            given.method.len(),
+            given.request.as_ptr(),
+            given.request.len(),
+            given.status,
+            given.response.as_ptr(),
+            given.response.len(),
+            given.local_uri.as_ptr(),
+            given.local_uri.len(),
+            given.remote_uri.as_ptr(),
+            given.remote_uri.len(),
+            out.as_mut_ptr(),
+            out.len(),
+            length,
+            least,
+        )
+    }
+}
+
+/// A record of a call that we received, as an image at the front of the lent output.
+pub fn new_uas(given: &Creation, out: &mut [u8], length: &mut usize, least: &mut u64) -> u8 {
+    unsafe {
+        c::sip_dialog_new_uas(
+            given.method.as_ptr(),
+            given.method.len(),
+            given.request.as_ptr(),
+            given.request.len(),
+            given.status,
+            given.response.as_ptr(),
+            given.response.len(),
+            given.local_uri.as_ptr(),
+            given.local_uri.len(),
+            given.remote_uri.as_ptr(),
+            given.remote_uri.len(),
+            out.as_mut_ptr(),
+            out.len(),
+            length,
+            least,
+        )
+    }
+}
+
+/// A request on the record whose image the first `used` of the lent bytes are.
+pub fn image_update_from_request(method: &[u8], block: &[u8], image: &mut [u8], used: &mut usize) -> u8 {
+    unsafe {
+        c::sip_dialog_image_update_from_request(
+            method.as_ptr(),
+            method.len(),
+            block.as_ptr(),
+            block.len(),
+            image.as_mut_ptr(),
+            image.len(),
+            used,
+        )
+    }
+}
+
+/// A response on the record.
+pub fn image_update_from_response(status: u16, block: &[u8], image: &mut [u8], used: &mut usize) -> u8 {
+    unsafe {
+        c::sip_dialog_image_update_from_response(
+            status,
+            block.as_ptr(),
+            block.len(),
+            image.as_mut_ptr(),
+            image.len(),
+            used,
+        )
+    }
+}
+
+/// Early becomes Confirmed.
+pub fn image_confirm(image: &mut [u8], used: &mut usize) -> u8 {
+    unsafe { c::sip_dialog_image_confirm(image.as_mut_ptr(), image.len(), used) }
+}
+
+/// The record becomes Terminated.
+pub fn image_terminate(image: &mut [u8], used: &mut usize) -> u8 {
+    unsafe { c::sip_dialog_image_terminate(image.as_mut_ptr(), image.len(), used) }
+}
+
+/// The local number rises by one.
+pub fn image_next_local_cseq(image: &mut [u8], used: &mut usize, number: &mut u32) -> u8 {
+    unsafe { c::sip_dialog_image_next_local_cseq(image.as_mut_ptr(), image.len(), used, number) }
+}
+
+/// Another session interval.
+pub fn image_set_session_expires(image: &mut [u8], used: &mut usize, seconds: u64, least: &mut u64) -> u8 {
+    unsafe { c::sip_dialog_image_set_session_expires(image.as_mut_ptr(), image.len(), used, seconds, least) }
+}
+
+/// Whether a request belongs to the record.
+pub fn image_matches_request(block: &[u8], image: &[u8], matches: &mut u8) -> u8 {
+    unsafe { c::sip_dialog_image_matches_request(block.as_ptr(), block.len(), image.as_ptr(), image.len(), matches) }
+}
+
+/// Whether the record's session is to be refreshed.
+pub fn image_needs_refresh(image: &[u8], elapsed: u64, due: &mut u8) -> u8 {
+    unsafe { c::sip_dialog_image_needs_refresh(image.as_ptr(), image.len(), elapsed, due) }
+}
+
+/// The record's identifier: places in the image.
+pub fn image_id(image: &[u8], parts: &mut Identifier) -> u8 {
+    let [call_id, call_id_length, local, local_length, remote, remote_length] = parts;
+    unsafe {
+        c::sip_dialog_image_id(
+            image.as_ptr(),
+            image.len(),
+            call_id,
+            call_id_length,
+            local,
+            local_length,
+            remote,
+            remote_length,
+        )
+    }
+}
+
+/// The record's state (1 Early, 2 Confirmed, 3 Terminated), side and security.
+pub fn image_state(image: &[u8], state: &mut u8, we_are_uac: &mut u8, secure: &mut u8) -> u8 {
+    unsafe { c::sip_dialog_image_state(image.as_ptr(), image.len(), state, we_are_uac, secure) }
+}
+
+/// The record's target, local URI and remote URI: places and lengths in the image.
+pub fn image_uris(image: &[u8], parts: &mut [usize; 6]) -> u8 {
+    let [target, target_length, local, local_length, remote, remote_length] = parts;
+    unsafe {
+        c::sip_dialog_image_uris(
+            image.as_ptr(),
+            image.len(),
+            target,
+            target_length,
+            local,
+            local_length,
+            remote,
+            remote_length,
+        )
+    }
+}
+
+/// A record's numbers; refresher 0 none, 1 uac, 2 uas.
+#[derive(Debug, Clone, Copy)]
+pub struct Numbers {
+    pub local: u32,
+    pub remote: u32,
+    pub has_last_ack: u8,
+    pub last_ack: u32,
+    pub has_seconds: u8,
+    pub seconds: u32,
+    pub refresher: u8,
+}
+
+/// The record's numbers.
+pub fn image_numbers(image: &[u8], numbers: &mut Numbers) -> u8 {
+    unsafe {
+        c::sip_dialog_image_numbers(
+            image.as_ptr(),
+            image.len(),
+            &mut numbers.local,
+            &mut numbers.remote,
+            &mut numbers.has_last_ack,
+            &mut numbers.last_ack,
+            &mut numbers.has_seconds,
+            &mut numbers.seconds,
+            &mut numbers.refresher,
+        )
+    }
+}
+
+/// How many routes the record has.
+pub fn image_route_count(image: &[u8], count: &mut usize) -> u8 {
+    unsafe { c::sip_dialog_image_route_count(image.as_ptr(), image.len(), count) }
+}
+
+/// One route of the record.
+pub fn image_route(image: &[u8], index: usize, part: &mut Part) -> u8 {
+    unsafe {
+        c::sip_dialog_image_route(
+            image.as_ptr(),
+            image.len(),
+            index,
+            &mut part.found,
+            &mut part.place,
+            &mut part.length,
+        )
+    }
+}

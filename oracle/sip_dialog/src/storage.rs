@@ -38,4 +38,21 @@ pub mod private {
     pub fn validate_uri(uri: &SipUri) -> Result<(), DialogError> {
         crate::validate_uri(uri)
     }
+
+    pub fn validate_route_set(route_set: &[SipUri]) -> Result<(), DialogError> {
+        crate::validate_route_set(route_set)
+    }
+
+    pub fn validate_cseq(cseq: u32) -> Result<(), DialogError> {
+        crate::validate_cseq(cseq)
+    }
+
+    pub fn validate_session_expires(duration: Duration) -> Result<(), DialogError> {
+        crate::validate_session_expires(duration)
+    }
+}
+
+/// Puts a dialog's remote number back, so that one request can be timed again and again.
+pub fn set_remote_cseq(dialog: &mut crate::Dialog, number: u32) {
+    dialog.remote_cseq = number;
 }

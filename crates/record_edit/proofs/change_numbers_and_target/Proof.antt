@@ -23,7 +23,7 @@ use Rattle.record_edit.proofs.change_numbers_and_target.Lts as lts
 use Rattle.image_writer.proofs.numbers_size.Reads as numbers-size-reads
 use Rattle.image_writer.proofs.write_numbers.Reads as write-numbers-reads
 use Rattle.record_edit.proofs.gaps.open_gaps.Reads as open-gaps-reads
-use Rattle.record_edit.proofs.write_head.Reads as write-head-reads
+use Rattle.record_edit.proofs.head.write_head.Reads as write-head-reads
 
 -- the record among the used bytes
 stood : (c : tie.After-slice-known) → Held (take (c .before .args .used) (c .before .args .bytes .now)) (c .before .args .at) (c .before .args .r)

@@ -39,20 +39,20 @@ sized c =
 sub-old : tie.Need-sub-old
 sub-old c = within (c .before .before .before .before .before) .3
 
-sub-size : tie.Need-sub-size
-sub-size c = omega (arith, within (c .before .before .before .before .before .before))
+sub-result : tie.Need-sub-result
+sub-result c = omega (arith, within (c .before .before .before .before .before .before))
 
-sub-size-2 : tie.Need-sub-size-2
-sub-size-2 c = omega (arith, within (c .before .before .before .before .before .before))
+sub-result-2 : tie.Need-sub-result-2
+sub-result-2 c = omega (arith, within (c .before .before .before .before .before .before))
 
-add-size : tie.Need-add-size
-add-size c = omega (arith, within (c .before .before .before .before .before .before), c .before .before .before .before .before .before .before .pre .0 .0, c .before .before .before .before .before .before .before .pre .0 .2)
+add-result : tie.Need-add-result
+add-result c = omega (arith, within (c .before .before .before .before .before .before), c .before .before .before .before .before .before .before .pre .0 .0, c .before .before .before .before .before .before .before .pre .0 .2)
 
 numbers-size-requires : tie.Need-numbers-size-requires
 numbers-size-requires c κs = search needs
 
-add-size-2 : tie.Need-add-size-2
-add-size-2 c = omega (arith, within (c .before .before .before .before .before .before .before), c .numbers-size .ensures .1, c .before .before .before .before .before .before .before .before .pre .0 .0, c .before .before .before .before .before .before .before .before .pre .0 .2)
+add-result-2 : tie.Need-add-result-2
+add-result-2 c = omega (arith, within (c .before .before .before .before .before .before .before), c .numbers-size .ensures .1, c .before .before .before .before .before .before .before .before .pre .0 .0, c .before .before .before .before .before .before .before .before .pre .0 .2)
 
 returns : tie.Need-returns
 returns c =
@@ -83,11 +83,11 @@ revise-numbers-and-target-spec =
     tie.close
     (tie.spec
     sub-old
-    sub-size
-    sub-size-2
-    add-size
+    sub-result
+    sub-result-2
+    add-result
     numbers-size-requires
-    add-size-2
+    add-result-2
     returns
     change-numbers-and-target-requires
     same-length

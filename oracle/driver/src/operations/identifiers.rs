@@ -46,7 +46,7 @@ pub const OPERATIONS: &[Operation] = &[
         rows: &[0, 1, 25, 26, 27],
         expect: expect_id_new,
         ask: |input, _| {
-            let [call_id, local, remote] = input.texts;
+            let [call_id, local, remote, ..] = input.texts;
             port::dialog_id_new(call_id, local, remote)
         },
         inputs: each_identifier,
@@ -176,7 +176,7 @@ fn distort_tag(input: &Input, answer: &mut Answer) {
 fn expect_id_new(input: &Input, _: &mut Answer) -> Result<(), u8> {
     rules::limit(&input.texts)?;
     let ascii = |text: &[u8]| text.iter().map(|byte| char::from((*byte).min(127))).collect();
-    let [call_id, local, remote]: [String; 3] = input.texts.map(ascii);
+    let [call_id, local, remote, ..]: [String; 5] = input.texts.map(ascii);
     match DialogId::new(call_id, local, remote) {
         Ok(_) => Ok(()),
         Err(DialogError::InvalidCallId(_) | DialogError::InvalidTag(_)) => Err(25),
@@ -191,7 +191,7 @@ fn distort_id_new(input: &Input, answer: &mut Answer) {
     let texts = input
         .texts
         .map(|text| text.iter().map(|byte| if *byte == 127 { b'x' } else { *byte }));
-    let [call_id, local, remote]: [Vec<u8>; 3] = texts.map(Iterator::collect);
+    let [call_id, local, remote, ..]: [Vec<u8>; 5] = texts.map(Iterator::collect);
     if answer.number == 27 {
         answer.number = port::dialog_id_new(&call_id, &local, &remote);
     }

@@ -8,7 +8,7 @@ mod numbers;
 mod status;
 mod timers;
 mod uri;
-mod values;
+pub mod values;
 
 use crate::answer::{Answer, Out, Width};
 use crate::run::Operation;
@@ -29,7 +29,7 @@ pub fn all() -> Vec<&'static Operation> {
 }
 
 /// The out numbers of an operation that may find a part.
-const PART: &[Out] = &[("found", Width::U8), ("place", Width::U64), ("length", Width::U64)];
+pub const PART: &[Out] = &[("found", Width::U8), ("place", Width::U64), ("length", Width::U64)];
 
 /// The out numbers of one step of a list.
 const LIST_PART: &[Out] = &[
@@ -40,10 +40,10 @@ const LIST_PART: &[Out] = &[
 ];
 
 /// The answer of an operation that says yes or no.
-const YES: &[Out] = &[("yes", Width::U8)];
+pub const YES: &[Out] = &[("yes", Width::U8)];
 
 /// The out numbers of a part, to lend.
-fn lent_part(answer: &Answer) -> port::Part {
+pub fn lent_part(answer: &Answer) -> port::Part {
     port::Part {
         found: answer.outs[0] as u8,
         place: answer.outs[1] as usize,
@@ -52,7 +52,7 @@ fn lent_part(answer: &Answer) -> port::Part {
 }
 
 /// Takes the lent numbers back.
-fn take_part(answer: &mut Answer, part: port::Part) {
+pub fn take_part(answer: &mut Answer, part: port::Part) {
     answer.outs[0] = u64::from(part.found);
     answer.outs[1] = part.place as u64;
     answer.outs[2] = part.length as u64;

@@ -149,7 +149,7 @@ fn distort_check_block(input: &Input, answer: &mut Answer) {
 
 /// The lines of the asked name, after the refusals; the stand-in's values must be the bytes at their places.
 fn named_lines(input: &Input) -> Result<Vec<Line>, u8> {
-    let [block, name, _] = input.texts;
+    let [block, name, ..] = input.texts;
     rules::limit(&[block, name])?;
     let headers = rules::headers(block)?;
     // A name that is no text is the name of no line.
@@ -251,7 +251,7 @@ fn expect_all_headers(input: &Input, answer: &mut Answer) -> Result<(), u8> {
 
 /// The port's steps from place 0 to the end.
 fn ask_all_headers(input: &Input, answer: &mut Answer) -> u8 {
-    let [block, name, _] = input.texts;
+    let [block, name, ..] = input.texts;
     let mut from = 0;
     loop {
         let mut part = lent_list_part(answer);

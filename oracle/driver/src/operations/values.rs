@@ -261,7 +261,7 @@ fn each_route_block(feed: &mut Feed, give: &dyn Fn(&mut Feed, &[u8])) {
 }
 
 /// A Record-Route value of up to `most` parts: readable, skipped, empty, or with a URI at the estimate's limit.
-fn route_value(random: &mut Random, most: usize) -> Vec<u8> {
+pub fn route_value(random: &mut Random, most: usize) -> Vec<u8> {
     let mut value = Vec::new();
     for index in 0..random.below(most + 1) {
         if index > 0 {
@@ -279,13 +279,13 @@ fn route_value(random: &mut Random, most: usize) -> Vec<u8> {
 }
 
 /// A URI in angle brackets.
-fn bracketed(uri: &[u8]) -> Vec<u8> {
+pub fn bracketed(uri: &[u8]) -> Vec<u8> {
     [b"<", uri, b">"].concat()
 }
 
 /// A block with 48 to 52 readable routes over several lines, with skipped and empty parts between them, and at times
 /// one more part at the end that is unreadable, too long or empty.
-fn full_route_block(random: &mut Random) -> Vec<u8> {
+pub fn full_route_block(random: &mut Random) -> Vec<u8> {
     let mut block = b"Record-Route:".to_vec();
     let routes = 48 + random.below(5);
     for index in 0..routes {
@@ -415,7 +415,7 @@ const EXPIRES_BLOCKS: Blocks = Blocks {
 };
 
 /// A number, then parts of which some name a refresher.
-fn session_value(random: &mut Random) -> Vec<u8> {
+pub fn session_value(random: &mut Random) -> Vec<u8> {
     const PARTS: [&str; 8] = [
         "refresher=uac",
         "refresher=uas",

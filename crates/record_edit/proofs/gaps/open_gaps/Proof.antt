@@ -15,7 +15,7 @@ use Rattle.record_edit.proofs.gaps.open_gaps.Reads as reads
 use Rattle.record_edit.proofs.gaps.open_gaps.Lts as lts
 use Rattle.edit.proofs.move_left.Reads as move-left-reads
 use Rattle.edit.proofs.move_right.Reads as move-right-reads
-use Rattle.record_edit.proofs.gaps.shift.Reads as shift-reads
+use Rattle.edit.proofs.shift.Reads as shift-reads
 
 -- both parts at their places
 abbrev opened : tie.Joined1 → List ℕ

@@ -11,10 +11,10 @@ use Rattle.record.specs.NumbersForm.{meaning}
 use Rattle.image_edit.specs.Maps.{mapFrom}
 use native.Mathlib.Omega.{arith}
 use borrow.Author.Needs.{needs}
-use Rattle.record_edit.proofs.write_head.Statement.{statement}
-use Rattle.record_edit.proofs.write_head.Tie as tie
-use Rattle.record_edit.proofs.write_head.Reads as reads
-use Rattle.record_edit.proofs.write_head.Lts as lts
+use Rattle.record_edit.proofs.head.write_head.Statement.{statement}
+use Rattle.record_edit.proofs.head.write_head.Tie as tie
+use Rattle.record_edit.proofs.head.write_head.Reads as reads
+use Rattle.record_edit.proofs.head.write_head.Lts as lts
 use Rattle.image_edit.proofs.either.Reads as either-reads
 use Rattle.image_edit.proofs.new_map.Reads as new-map-reads
 use Rattle.image_writer.proofs.write_byte.Reads as write-byte-reads
@@ -59,7 +59,7 @@ returns c =
     ∙ put-put (a .r .state) (c .before .before .before .before .before .before .before .before .before .before .before .state-byte .result ∷ []) t (a .bytes .now) (omega (arith, c .before .before .before .before .before .before .before .before .before .before .before .before .before .before .before .before .before .before .before .pre)) in
     c .before .before .write-two .ensures .1
     ∙ ap (λ (n : ℕ). putAt (a .at) (two .write n) (c .before .before .before .before .before .before .write-text .last .0)) (c .before .before .before .before .before .before .before .before .before .before .before .before .before .before .new-map .ensures .0)
-    ∙ ap (putAt (a .at) (two .write (mapFrom x (a .r .ids) (a .r .«route_count»)))) (head ∙ ap (λ (n : ℕ). putAt (a .r .state) ((n ∷ []) ++ t) (a .bytes .now)) state)
+    ∙ ap (putAt (a .at) (two .write (mapFrom x (a .r .ids) (a .count)))) (head ∙ ap (λ (n : ℕ). putAt (a .r .state) ((n ∷ []) ++ t) (a .bytes .now)) state)
 
 pub write-head-spec : {M : Type 1} → statement M
 write-head-spec =

@@ -1,0 +1,5 @@
+pub mod CheckLaws
+pub mod ImageLaws
+pub mod MadeLaws
+pub mod NewLaws
+pub mod ReadingLaws

@@ -1,0 +1,114 @@
+//! Creations, changes and readings of one record, compared with the Rust's `Dialog`: every byte of the image, every lent
+//! byte around it, every number.
+
+pub mod bounds;
+mod calls;
+mod creation;
+mod image;
+mod order;
+mod readings;
+mod records;
+mod room;
+mod updates;
+
+use crate::random::Random;
+use crate::run::{Feed, Operation, Tally};
+use calls::Call;
+use creation::Side;
+
+pub use image::encode;
+
+/// Makes a call on an image.
+type Make = fn(&mut Random, &[u8]) -> Call;
+
+/// All operations on one record, in the order of the C declarations.
+pub fn all() -> Vec<&'static Operation> {
+    let files: [&'static [Operation]; 3] = [creation::OPERATIONS, updates::OPERATIONS, readings::OPERATIONS];
+    files.into_iter().flatten().collect()
+}
+
+/// Compares all of them: each with calls of its own, then in chains. `planted` says which have their fault put in.
+pub fn compare_all(calls: usize, seed: u64, planted: impl Fn(&str) -> bool) -> Vec<(&'static Operation, Tally)> {
+    let feed = |operation: &'static Operation| Feed::new(operation, calls, seed, planted(operation.name));
+    let mut feeds: Vec<Feed> = all().into_iter().map(feed).collect();
+    for feed in &mut feeds {
+        (feed.operation().inputs)(feed);
+    }
+    let mut random = Random::new(seed, "chains");
+    for _ in 0..calls {
+        chain(&mut random, &mut feeds);
+    }
+    feeds.into_iter().map(Feed::finish).collect()
+}
+
+/// The most changes in a chain.
+const LONGEST_CHAIN: usize = 8;
+
+/// A record is made, then changed up to eight times, each change given what the port left before; then it is read.
+fn chain(random: &mut Random, feeds: &mut [Feed]) {
+    let side = random.pick(&[Side::Uac, Side::Uas]);
+    let call = creation::make(random, side);
+    let Some(mut image) = next_image(feeds, side.name(), &call) else {
+        return;
+    };
+    for _ in 0..random.below(LONGEST_CHAIN + 1) {
+        let (name, make) = random.pick(updates::MAKERS);
+        let call = make(random, &image);
+        if let Some(next) = next_image(feeds, name, &call) {
+            image = next;
+        }
+        if random.one_in(4) {
+            let (name, make) = random.pick(readings::MAKERS);
+            let call = make(random, &image);
+            feed_of(feeds, name).compare(&call.input());
+        }
+    }
+    for (name, make) in readings::MAKERS {
+        let call = make(random, &image);
+        feed_of(feeds, name).compare(&call.input());
+    }
+}
+
+/// Compares a call; the image that the port left, if it accepted.
+fn next_image(feeds: &mut [Feed], name: &str, call: &Call) -> Option<Vec<u8>> {
+    let mut answer = feed_of(feeds, name).compare_and_go_on(&call.input());
+    let length = answer.outs[0] as usize;
+    let image = room::lent(&mut answer.bytes).get(..length)?.to_vec();
+    (answer.number == 0).then_some(image)
+}
+
+/// The feed of an operation.
+fn feed_of<'a, 'b>(feeds: &'a mut [Feed<'b>], name: &str) -> &'a mut Feed<'b> {
+    let of_name = feeds.iter_mut().find(|feed| feed.operation().name == name);
+    of_name.expect("an operation of that name")
+}
+
+/// Feeds an operation on images: every broken form of the templates, then random images, some of them broken.
+fn each_image(feed: &mut Feed, make: Make) {
+    give(feed, make, "empty", &[]);
+    for template in records::templates() {
+        records::each_broken(&template, &mut |kind, image| give(feed, make, kind, image));
+    }
+    for turn in 0..feed.calls {
+        let image = records::record(&mut feed.random);
+        if turn % 6 == 0 {
+            let (kind, broken) = records::broken(&mut feed.random, &image);
+            give(feed, make, kind, &broken);
+        } else {
+            let call = make(&mut feed.random, &image);
+            feed.compare(&call.input());
+        }
+        if turn % 200 == 0 {
+            give(feed, make, "empty", &[]);
+        }
+    }
+}
+
+/// Feeds a broken image of that kind.
+fn give(feed: &mut Feed, make: Make, kind: &'static str, image: &[u8]) {
+    if image::decode(image).is_none() {
+        bounds::met(feed.operation().name, "image", kind);
+    }
+    let call = make(&mut feed.random, image);
+    feed.compare(&call.input());
+}
