@@ -1,4 +1,4 @@
--- The parts of an identifier that is read from a block lie in the block. Assumes nothing.
+-- The parts of an identifier and the Contact's URI that are read from a block lie in the block. Assumes nothing.
 use Prim.Native.Nat.{ℕ, _+_, _-_, _≤_}
 use native.Mathlib.Nat.{add-assoc}
 use native.Mathlib.Omega.{arith}
@@ -12,6 +12,9 @@ use Rattle.text.specs.Text.{Piece, movedPiece, moved}
 use Rattle.text.specs.Answers.{spanOf}
 use Rattle.msg.specs.Block.{HeaderLine, linesOf, firstNamed, valueOf, valueNamed, foundOf}
 use Rattle.msg.proofs.LookupLaws.{Placed, Says, found-at}
+use Rattle.uri.specs.HeaderUri.{ReadUri, headerUri, pieceOf}
+use Rattle.uri.proofs.Laws.{Found, found}
+use Rattle.route_set.specs.Routes.{contactName, uriIn, contactOf}
 use Rattle.headers.specs.Tag.{tagOf}
 use Rattle.headers.specs.DialogId.{Identifier, callIdName, tagIn, tagNamed, identifier, identifierOf}
 use Rattle.headers.proofs.TagLaws.{tag-placed}
@@ -29,7 +32,7 @@ value-placed name block v e = by (firstNamed name (linesOf block)) refl e
         subst (Placed block) (ap (λ (x : HeaderLine). x .value) k ∙ w) (r .placed)
 
 -- a piece of a piece
-pub moved-placed : (s : List ℕ) (v p : Piece) → Placed s v → Placed (v .text) p → Placed s (movedPiece (v .place) p)
+moved-placed : (s : List ℕ) (v p : Piece) → Placed s v → Placed (v .text) p → Placed s (movedPiece (v .place) p)
 moved-placed s v p a b =
     let x : List ℕ = drop (v .place) s in
     let n : ℕ = length (v .text) - p .place in
@@ -73,3 +76,19 @@ identifier-placed a b block i e = by (valueNamed callIdName block) (tagNamed a b
     by (some c) (some l) (some r) p q t h =
         let w : record { callId = c; localTag = l; remoteTag = r } ≡ i = cc in
         subst (PlacedId block) w (record { callId = value-placed callIdName block c p; localTag = tag-lies a block l q; remoteTag = tag-lies b block r t })
+
+-- the Contact's URI
+pub contact-placed : (block : List ℕ) (p : Piece) → contactOf block ≡ some p → Placed block p
+unfolding contactOf
+contact-placed block p e = by (valueNamed contactName block) refl e
+  where
+    in-value : (v : Piece) (o : Option ReadUri) → headerUri (v .text) ≡ o → Placed block v → moved (v .place) (pieceOf o) ≡ some p → Placed block p
+    in-value v none q h e = absurd (let z : _≡_ {A = ℕ} 0 1 = cc in omega arith)
+    in-value v (some r) q h e =
+        let f : Found (v .text) r = found (v .text) q in
+        let s : movedPiece (v .place) (r .piece) ≡ p = cc in
+        subst (Placed block) s (moved-placed block v (r .piece) h (record { fits = f .stands .fits; there = f .stands .bytes }))
+
+    by : (o : Option Piece) → valueNamed contactName block ≡ o → uriIn o ≡ some p → Placed block p
+    by none q e = absurd (let z : _≡_ {A = ℕ} 0 1 = cc in omega arith)
+    by (some v) q e = in-value v (headerUri (v .text)) refl (value-placed contactName block v q) e

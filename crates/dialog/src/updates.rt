@@ -2,12 +2,11 @@
 use crate::readings::ImageAnswer;
 use crate::readings::read_image;
 use image::RecordAt;
-use image_edit::change_numbers;
-use image_writer::numbers_size;
 use limits::Refusal;
 use output::Written;
 use record::Numbers;
 use record::Step;
+use record_edit::revise_numbers;
 ghost use mathlib.Core.Path.{_≡_};
 ghost use Prim.Native.Nat.{_≤_};
 ghost use lib.ListN.{length, take};
@@ -97,11 +96,5 @@ fn update_numbers(bytes: &mut [u8], used: usize, r: RecordAt, numbers: Numbers) 
     ensures { λ n. ⌜ n ≡ writtenFrom (fitted (length (now (bytes .entry))) (changed (withNumbers (meaning numbers)) 0 (take used (now (bytes .entry))))) ⌝ }
     ensures { λ _. ⌜ now (bytes .exit) ≡ leaves (fitted (length (now (bytes .entry))) (changed (withNumbers (meaning numbers)) 0 (take used (now (bytes .entry))))) (now (bytes .entry)) ⌝ }
 {
-    let uris = r.uris;
-    let old = r.routes - uris.end;
-    let size = used - old + numbers_size(numbers);
-    if bytes.len() < size {
-        return Written::Refused(Refusal::NoRoom);
-    }
-    Written::Length(change_numbers(bytes, used, 0, r, numbers))
+    revise_numbers(bytes, used, 0, r, numbers)
 }

@@ -14,20 +14,17 @@ use Rattle.limits.specs.declared.Refusal.{Refusal}
 use Rattle.limits.specs.declared.Refusal.the-variants.{MissingHeader, CSeqZero, CSeqTooLarge, SessionExpiresTooSmall, SessionExpiresTooLarge}
 use Rattle.limits.specs.declared.Check.the-variants.{Passed, Refused}
 use Rattle.limits.proofs.Laws.{passed, stopped}
-use Rattle.text.specs.Text.{Piece, movedPiece, moved}
+use Rattle.text.specs.Text.{Piece}
 use Rattle.text.specs.Number.{numberFrom}
 use Rattle.text.specs.declared.Span.{Span}
 use Rattle.text.specs.declared.number.Number.the-variants.{Value, Unreadable}
 use Rattle.text.specs.Answers.{spanOf}
-use Rattle.msg.specs.Block.{valueNamed}
 use Rattle.msg.proofs.LookupLaws.{Placed}
-use Rattle.uri.specs.HeaderUri.{ReadUri, headerUri, pieceOf}
-use Rattle.uri.proofs.Laws.{found}
 use Rattle.headers.specs.SessionExpires.{Interval, expiresFrom}
 use Rattle.headers.specs.declared.session_timer.Refresher.{Refresher}
 use Rattle.headers.specs.declared.session_timer.Expires.{Expires}
 use Rattle.headers.specs.declared.session_timer.Expires.the-variants as expires
-use Rattle.route_set.specs.Routes.{contactName, uriIn, contactOf, contactFrom}
+use Rattle.route_set.specs.Routes.{contactOf, contactFrom}
 use Rattle.route_set.specs.declared.routes.Contact.the-variants as contact
 use Rattle.prack_headers.specs.Sequence.{numberAnswer}
 use Rattle.prack_headers.specs.declared.NumberAnswer.the-variants as number
@@ -38,7 +35,7 @@ use Rattle.record.specs.declared.numbers.Step.{Step}
 use Rattle.record.specs.declared.numbers.Step.the-variants as step
 use Rattle.dialog.specs.Creation.{numbersAt, intervalCause}
 use Rattle.dialog.specs.Updates.{textOr, intervalFrom}
-use Rattle.dialog.proofs.PlacedLaws.{value-placed, moved-placed}
+use Rattle.dialog.proofs.PlacedLaws.{contact-placed}
 use Rattle.route_section.specs.Section.{sectionOf, routeTexts, sectionFrom}
 use Rattle.route_section.specs.declared.Section.the-variants as section
 use Rattle.dialog_creation.specs.Steps.{intervalIn, secondsIn, refresherIn, remainderBy}
@@ -143,21 +140,6 @@ given-rest (given ps) m {k} {n} {s} {x} e f g =
     rw (sym f ∙ ap outcomeIn g) (ap (λ (j : ℕ). given (record { numbers = meaning x; routes = j })) (sym q))
 
 -- ---- the Contact
-
-contact-placed : (block : List ℕ) (p : Piece) → contactOf block ≡ some p → Placed block p
-unfolding contactOf
-contact-placed block p e = by (valueNamed contactName block) refl e
-  where
-    by : (o : Option Piece) → valueNamed contactName block ≡ o → uriIn o ≡ some p → Placed block p
-    by none q h = absurd (let z : _≡_ {A = ℕ} 0 1 = cc in omega arith)
-    by (some v) q h = is (headerUri (v .text)) refl h
-      where
-        is : (o : Option ReadUri) → headerUri (v .text) ≡ o → moved (v .place) (pieceOf o) ≡ some p → Placed block p
-        is none t g = absurd (let z : _≡_ {A = ℕ} 0 1 = cc in omega arith)
-        is (some r) t g =
-            let m : movedPiece (v .place) (r .piece) ≡ p = cc in
-            let f = found (v .text) t in
-            subst (Placed block) m (moved-placed block v (r .piece) (value-placed contactName block v q) (record { fits = f .stands .fits; there = f .stands .bytes }))
 
 -- where the code finds it
 pub record ContactAt (block : List ℕ) (v : Span) : Type 0 where

@@ -5,32 +5,13 @@ use mathlib.Core.Path.{_≡_, refl, sym, ap, subst, _∙_}
 use mathlib.Core.List.{List}
 use mathlib.Core.Option.{Option, none, some}
 use lib.ListN.{length, take, drop}
-use Rattle.text.specs.Text.{Piece, movedPiece, moved}
+use Rattle.text.specs.Text.{Piece}
 use Rattle.text.specs.Answers.{spanOf}
 use Rattle.text.specs.declared.Span.{Span}
-use Rattle.msg.specs.Block.{valueNamed}
-use Rattle.msg.proofs.LookupLaws.{Placed}
-use Rattle.uri.specs.HeaderUri.{ReadUri, headerUri, pieceOf}
-use Rattle.uri.proofs.Laws.{Found, found}
-use Rattle.route_set.specs.Routes.{contactName, uriIn, contactOf, contactFrom}
+use Rattle.route_set.specs.Routes.{contactOf, contactFrom}
 use Rattle.route_set.specs.declared.routes.Contact.the-variants as contact
 use Rattle.dialog.specs.Updates.{textOr}
-use Rattle.dialog.proofs.PlacedLaws.{value-placed, moved-placed}
-
-contact-placed : (block : List ℕ) (p : Piece) → contactOf block ≡ some p → Placed block p
-unfolding contactOf
-contact-placed block p e = by (valueNamed contactName block) refl e
-  where
-    in-value : (v : Piece) (o : Option ReadUri) → headerUri (v .text) ≡ o → Placed block v → moved (v .place) (pieceOf o) ≡ some p → Placed block p
-    in-value v none q h e = absurd (let z : _≡_ {A = ℕ} 0 1 = cc in omega arith)
-    in-value v (some r) q h e =
-        let f : Found (v .text) r = found (v .text) q in
-        let s : movedPiece (v .place) (r .piece) ≡ p = cc in
-        subst (Placed block) s (moved-placed block v (r .piece) h (record { fits = f .stands .fits; there = f .stands .bytes }))
-
-    by : (o : Option Piece) → valueNamed contactName block ≡ o → uriIn o ≡ some p → Placed block p
-    by none q e = absurd (let z : _≡_ {A = ℕ} 0 1 = cc in omega arith)
-    by (some v) q e = in-value v (headerUri (v .text)) refl (value-placed contactName block v q) e
+use Rattle.dialog.proofs.PlacedLaws.{contact-placed}
 
 -- nothing was found: the old target stays
 pub no-contact : (block old : List ℕ) → contactFrom (contactOf block) ≡ contact.Nothing → textOr old (contactOf block) ≡ old

@@ -12,6 +12,7 @@ use Rattle.limits.specs.Outcome.{Outcome, refused, given, causeIf, checkOf}
 use Rattle.limits.specs.declared.Check.the-variants as check
 use Rattle.limits.specs.declared.Refusal.{Refusal}
 use Rattle.limits.specs.declared.Refusal.the-variants.{TextTooLong, Malformed, BadStore, MissingHeader}
+use Rattle.limits.proofs.Laws.{passed, stopped}
 use Rattle.text.specs.Answers.{tooLong, lengthCause}
 use Rattle.msg.specs.Block.{isBlock, blockCause}
 use Rattle.prack_headers.specs.Sequence.{cseqNumber}
@@ -25,24 +26,10 @@ use Rattle.dialog_updates.specs.Messages.{requested}
 
 -- ---- a block that was checked
 
-pub passed-block : (L : LimitSet) (block : List ℕ) → checkOf (blockCause L block) ≡ check.Passed → blockCause L block ≡ none
-passed-block L block e = by (blockCause L block) e
-  where
-    by : (o : Option Refusal) → checkOf o ≡ check.Passed → o ≡ none
-    by none e = refl
-    by (some cause) e = absurd (let z : _≡_ {A = ℕ} 0 1 = cc in omega arith)
-
-pub refused-block : (L : LimitSet) (block : List ℕ) {cause : Refusal} → checkOf (blockCause L block) ≡ check.Refused cause → blockCause L block ≡ some cause
-refused-block L block {cause} e = by (blockCause L block) e
-  where
-    by : (o : Option Refusal) → checkOf o ≡ check.Refused cause → o ≡ some cause
-    by none e = absurd (let z : _≡_ {A = ℕ} 0 1 = cc in omega arith)
-    by (some own) e = let q : own ≡ cause = cc in ap some q
-
 pub short-block : (L : LimitSet) (block : List ℕ) → checkOf (blockCause L block) ≡ check.Passed → length block ≤ L .text
 unfolding blockCause
 short-block L block e =
-    let n = no-causes (lengthCause L block) (causeIf (not (isBlock block)) Malformed) (passed-block L block e) in
+    let n = no-causes (lengthCause L block) (causeIf (not (isBlock block)) Malformed) (passed (blockCause L block) e) in
     ltb-false (L .text) (length block) (no-cause (tooLong L block) TextTooLong (n .0))
 
 -- ---- the step
@@ -70,12 +57,12 @@ module _ (L : LimitSet) (method block bytes : List ℕ) (used : ℕ) where
   module _ (short : tooLong L method ≡ false) where
     pub bad-block : {cause : Refusal} → checkOf (blockCause L block) ≡ check.Refused cause → requested L method block bytes used ≡ refused cause
     unfolding requested
-    bad-block e = rw (short, refused-block L block e)
+    bad-block e = rw (short, stopped (blockCause L block) e)
 
     module _ (good : checkOf (blockCause L block) ≡ check.Passed) where
       pub as-image : requested L method block bytes used ≡ imageAfter (requestUpdate L (kindOf method) block) bytes used
       unfolding requested
-      as-image = rw (short, passed-block L block good)
+      as-image = rw (short, passed (blockCause L block) good)
 
       pub no-record : usedRecord bytes used ≡ refused BadStore → requested L method block bytes used ≡ refused BadStore
       unfolding imageAfter

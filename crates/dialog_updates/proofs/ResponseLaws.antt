@@ -11,6 +11,7 @@ use Rattle.limits.specs.Outcome.{Outcome, refused, given, checkOf}
 use Rattle.limits.specs.declared.Check.the-variants as check
 use Rattle.limits.specs.declared.Refusal.{Refusal}
 use Rattle.limits.specs.declared.Refusal.the-variants.{BadStore}
+use Rattle.limits.proofs.Laws.{passed, stopped}
 use Rattle.text.specs.Text.{Piece}
 use Rattle.msg.specs.Block.{blockCause}
 use Rattle.headers.specs.SessionExpires.{Interval, expiresFrom}
@@ -25,7 +26,6 @@ use Rattle.record.specs.Record.{Side, Numbers, Record}
 use Rattle.dialog.specs.Updates.{retargeted, confirms, routesOr, sideOf, intervalFrom, answered, responseUpdate}
 use Rattle.dialog.specs.ImageUpdates.{usedRecord, imageAfter}
 use Rattle.dialog_updates.specs.Messages.{responded}
-use Rattle.dialog_updates.proofs.RequestLaws.{passed-block, refused-block}
 
 -- ---- the interval
 
@@ -80,12 +80,12 @@ module _ (L : LimitSet) (status : ℕ) (block : List ℕ) (v : Record) where
 module _ (L : LimitSet) (status : ℕ) (block bytes : List ℕ) (used : ℕ) where
   pub bad-response : {cause : Refusal} → checkOf (blockCause L block) ≡ check.Refused cause → responded L status block bytes used ≡ refused cause
   unfolding responded
-  bad-response e = rw (refused-block L block e)
+  bad-response e = rw (stopped (blockCause L block) e)
 
   module _ (good : checkOf (blockCause L block) ≡ check.Passed) where
     pub response-image : responded L status block bytes used ≡ imageAfter (λ r. given (responseUpdate L status block r)) bytes used
     unfolding responded
-    response-image = rw (passed-block L block good)
+    response-image = rw (passed (blockCause L block) good)
 
     pub no-image : usedRecord bytes used ≡ refused BadStore → responded L status block bytes used ≡ refused BadStore
     unfolding imageAfter
