@@ -1,0 +1,209 @@
+-- The search of the first record of a name, a record at a time: what a step changes, and what the answer is. Assumes nothing.
+use Prim.Native.Nat.{ℕ, zero, suc, _+_, _-_, _≤_, _<_}
+use native.Mathlib.Omega.{arith}
+use mathlib.Core.Path.{_≡_, refl, sym, ap, subst, _∙_}
+use mathlib.Core.Bool.{Bool, true, false, cond, true≢false, false≢true}
+use mathlib.Core.List.{List, [], _∷_}
+use mathlib.Core.Option.{Option, none, some, Option·some-injective}
+use lib.ListN.{length, drop, length-drop, drop-of-length-le}
+use lib.Seq.{drop-drop, drop-append-seam}
+use Rattle.text.specs.Text.{equal}
+use Rattle.record.specs.Codec.{Reading, writeAll}
+use Rattle.record.specs.Record.{Record, image}
+use Rattle.record.specs.Store.{distinct, encodeAll, recordBefore, recordsIn, onlyDistinct, decodeAll}
+use Rattle.record.proofs.CodecLaws.{Bytes, bytes-drop}
+use Rattle.record.proofs.StoreLaws.{EachFormed, decoded}
+use Rattle.record.proofs.WellFormedLaws.{image-round}
+use Rattle.image.specs.Places.{recordPlaces, idsOf}
+use Rattle.image.specs.declared.RecordAt.{RecordAt}
+use Rattle.image.specs.declared.sections.IdsAt.{IdsAt}
+use Rattle.image.proofs.AnswerLaws.{RecordGot}
+use Rattle.image.proofs.SizeLaws.{recordSize}
+use Rattle.image_writer.proofs.LieLaws.{Lie, record-lies}
+use Rattle.dialog.specs.Matching.{partIn}
+use Rattle.store.proofs.WalkLaws.{Step, step}
+use Rattle.book.specs.Calls.{sameIdent}
+use Rattle.book.specs.Book.{Book, storeRead}
+use Rattle.dialog_manager.specs.Search.{named, Spot, first, foundOf, foundIn, Stored, IdsWithin, namedAt}
+use Rattle.dialog_manager.specs.declared.finding.Found.the-variants as found
+
+-- ---- records of bytes
+
+-- the records of a store, identifiers not compared
+whole : (s : List ℕ) (b : Book) → storeRead s ≡ some b → recordsIn (length s) s ≡ some b
+unfolding decodeAll
+whole s b e = by (recordsIn (length s) s) refl e
+  where
+    is : (rs : List Record) (t : Bool) → cond t (some rs) none ≡ some b → some rs ≡ some b
+    is rs true e = e
+    is rs false e = absurd (let z : _≡_ {A = ℕ} 0 1 = cc in omega arith)
+
+    by : (o : Option (List Record)) → recordsIn (length s) s ≡ o → onlyDistinct o ≡ some b → recordsIn (length s) s ≡ some b
+    by none q e = absurd (let z : _≡_ {A = ℕ} 0 1 = cc in omega arith)
+    by (some rs) q e = q ∙ is rs (distinct rs) e
+
+-- no record in front
+not-broken : (fuel : ℕ) (t : List ℕ) (b : Book) → 0 < length t → recordsIn fuel t ≡ some b → image .read t ≡ none → ⊥
+unfolding recordsIn
+not-broken fuel [] b h e n = omega (arith, h)
+not-broken zero (x ∷ t) b h e n = let z : _≡_ {A = ℕ} 0 1 = cc in omega arith
+not-broken (suc fuel) (x ∷ t) b h e n =
+    let k : none ≡ some b = (rw n at e) in
+    let z : _≡_ {A = ℕ} 0 1 = cc in omega arith
+
+-- no bytes left
+ended : (fuel : ℕ) (b : Book) → recordsIn fuel [] ≡ some b → [] ≡ b
+unfolding recordsIn
+ended zero b e = cc
+ended (suc fuel) b e = cc
+
+-- the first, then the others
+pub record Others (fuel : ℕ) (x : Reading Record) (b : Book) : Type 0 where
+  pub rest : Book
+  pub are : recordsIn (fuel - 1) (x .rest) ≡ some rest
+  pub all : b ≡ x .value ∷ rest
+
+others : (fuel : ℕ) (t : List ℕ) (b : Book) (x : Reading Record) → 0 < length t → length t ≤ fuel → recordsIn fuel t ≡ some b → image .read t ≡ some x → Others fuel x b
+unfolding recordsIn
+others fuel [] b x h l e r = absurd (let z : 0 < 0 = h in omega arith)
+others zero (y ∷ t) b x h l e r = absurd (let z : suc (length t) ≤ 0 = l in omega arith)
+others (suc fuel) (y ∷ t) b x h l e r = by (recordsIn fuel (x .rest)) refl (rw r at e)
+  where
+    by : (o : Option (List Record)) → recordsIn fuel (x .rest) ≡ o → recordBefore (x .value) o ≡ some b → Others (suc fuel) x b
+    by none q e = absurd (let z : _≡_ {A = ℕ} 0 1 = cc in omega arith)
+    by (some rs) q e =
+        let k : suc fuel - 1 ≡ fuel = omega arith in
+        record { rest = rs; are = ap (λ (n : ℕ). recordsIn n (x .rest)) k ∙ q; all = cc }
+
+-- ---- the search
+
+-- what is asked of the store is asked of the records from `at` on
+pub record Left (test : Record → Bool) (s : List ℕ) (at : ℕ) : Type 0 where
+  pub rest : Book
+  pub fuel : ℕ
+  pub enough : length s - at ≤ fuel
+  pub here : at ≤ length s
+  pub are : recordsIn fuel (drop at s) ≡ some rest
+  pub same : foundIn test (storeRead s) ≡ foundOf (first test at rest)
+
+pub start : (test : Record → Bool) (s : List ℕ) → Stored s → Left test s 0
+start test s k = record {
+  rest = k .records;
+  fuel = length s;
+  enough = omega arith;
+  here = omega arith;
+  are = whole s (k .records) (k .are);
+  same = ap (foundIn test) (k .are);
+}
+
+module _ (test : Record → Bool) (s : List ℕ) (at : ℕ) (g : Left test s at) where
+  pub nothing : length s ≤ at → found.Nothing ≡ foundIn test (storeRead s)
+  unfolding first
+  nothing h =
+      let k : [] ≡ g .rest = ended (g .fuel) (g .rest) (ap (recordsIn (g .fuel)) (sym (drop-of-length-le s h)) ∙ g .are) in
+      ap (λ (b : Book). foundOf (first test at b)) k ∙ sym (g .same)
+
+  module _ (h : at < length s) where
+    filled : 0 < length (drop at s)
+    filled = omega (arith, length-drop at s)
+
+    pub unbroken : image .read (drop at s) ≡ none → ⊥
+    unbroken e = not-broken (g .fuel) (drop at s) (g .rest) filled (g .are) e
+
+    module _ (p : RecordAt) (r : Step s at p) where
+      after : Others (g .fuel) (record { value = r .value; rest = drop (p .end) s }) (g .rest)
+      after = others (g .fuel) (drop at s) (g .rest) (record { value = r .value; rest = drop (p .end) s }) filled (omega (arith, g .enough, length-drop at s)) (g .are) (r .reads)
+
+      split : foundIn test (storeRead s) ≡ foundOf (cond (test (r .value)) (some (record { place = at; value = r .value })) (first test (at + length (image .write (r .value))) (after .rest)))
+      unfolding first
+      split = g .same ∙ ap (λ (b : Book). foundOf (first test at b)) (after .all)
+
+      pub met : p ≡ recordPlaces at (r .value) → test (r .value) ≡ true → found.At at p ≡ foundIn test (storeRead s)
+      met w e =
+          ap (found.At at) w ∙ sym (split ∙ ap (λ (t : Bool). foundOf (cond t (some (record { place = at; value = r .value })) (first test (at + length (image .write (r .value))) (after .rest)))) e)
+
+      pub passed-by : test (r .value) ≡ false → Left test s (p .end)
+      passed-by e = record {
+        rest = after .rest;
+        fuel = g .fuel - 1;
+        enough = omega (arith, g .enough, r .moves);
+        here = r .within;
+        are = after .are;
+        same = split
+            ∙ ap (λ (t : Bool). foundOf (cond t (some (record { place = at; value = r .value })) (first test (at + length (image .write (r .value))) (after .rest)))) e
+            ∙ ap (λ (n : ℕ). foundOf (first test n (after .rest))) (sym (r .ends));
+      }
+
+-- ---- the record of a turn
+
+pub record Turn (s : List ℕ) (at : ℕ) (p : RecordAt) : Type 0 where
+  pub step : Step s at p
+  pub placed : p ≡ recordPlaces at (step .value)
+
+pub turn : (s : List ℕ) (at : ℕ) {p : RecordAt} → Bytes s → at ≤ length s → RecordGot s at p → Turn s at p
+turn s at {p} b h g =
+    let r = step s at b h g in
+    let v : g .value ≡ r .value = ap (λ (x : Reading Record). x .value) (Option·some-injective _ _ (sym (g .got .reads) ∙ r .reads)) in
+    record { step = r; placed = g .placed ∙ ap (recordPlaces at) v }
+
+-- the identifier's texts lie within the bytes
+pub ids-within : (s : List ℕ) (at : ℕ) (p : RecordAt) → Turn s at p → IdsWithin s (p .ids)
+ids-within s at p t =
+    let w : p .end ≤ length s = t .step .within in
+    let e : p .end ≡ at + recordSize (t .step .value) = ap (λ (x : RecordAt). x .end) (t .placed) ∙ omega arith in
+    rw (t .placed) (omega (arith, w, e), omega (arith, w, e), omega (arith, w, e))
+
+-- the bytes compared are the texts
+pub compared : (s : List ℕ) (at : ℕ) (p : RecordAt) (t : Turn s at p) → Bytes s → (by-tags : Bool) (c l r : List ℕ) → namedAt s (p .ids) by-tags c l r ≡ named by-tags c l r (t .step .value)
+unfolding sameIdent
+compared s at p t b true c l r =
+    let k : Lie s (at + 2) (idsOf (t .step .value)) = record-lies s at (record { value = t .step .value; rest = drop (p .end) s }) (bytes-drop at s b) (t .step .reads) in
+    rw (t .placed, k .callId, k .localTag, k .remoteTag)
+compared s at p t b false c l r =
+    let k : Lie s (at + 2) (idsOf (t .step .value)) = record-lies s at (record { value = t .step .value; rest = drop (p .end) s }) (bytes-drop at s b) (t .step .reads) in
+    rw (t .placed, k .callId)
+
+-- ---- the comparison, text by text
+
+module _ (s : List ℕ) (i : IdsAt) where
+  pub other-call : (by-tags : Bool) (c l r : List ℕ) → equal (partIn s (i .«call_id»)) c ≡ false → false ≡ namedAt s i by-tags c l r
+  other-call true c l r e = rw e
+  other-call false c l r e = sym e
+
+  pub call-alone : (by-tags : Bool) (c l r : List ℕ) → by-tags ≡ false → equal (partIn s (i .«call_id»)) c ≡ true → true ≡ namedAt s i by-tags c l r
+  call-alone true c l r h e = absurd (true≢false h)
+  call-alone false c l r h e = sym e
+
+  pub other-local : (by-tags : Bool) (c l r : List ℕ) → by-tags ≡ true → equal (partIn s (i .«call_id»)) c ≡ true → equal (partIn s (i .«local_tag»)) l ≡ false
+      → false ≡ namedAt s i by-tags c l r
+  other-local true c l r h e f = rw (e, f)
+  other-local false c l r h e f = absurd (false≢true h)
+
+  pub by-remote : (by-tags : Bool) (c l r : List ℕ) → by-tags ≡ true → equal (partIn s (i .«call_id»)) c ≡ true → equal (partIn s (i .«local_tag»)) l ≡ true
+      → (x : Bool) → x ≡ equal (partIn s (i .«remote_tag»)) r → x ≡ namedAt s i by-tags c l r
+  by-remote true c l r h e f x g = rw (e, f) g
+  by-remote false c l r h e f x g = absurd (false≢true h)
+
+-- ---- the record that is found is what is read at its place
+
+pub record Reads (s : List ℕ) (x : Spot) : Type 0 where
+  pub rest : List ℕ
+  pub reads : image .read (drop (x .place) s) ≡ some (record { value = x .value; rest = rest })
+
+spot-of : (test : Record → Bool) (s : List ℕ) (at : ℕ) (b : Book) (x : Spot) → drop at s ≡ encodeAll b → EachFormed b → first test at b ≡ some x → Reads s x
+unfolding first writeAll
+spot-of test s at [] x d w e = absurd (let z : _≡_ {A = ℕ} 0 1 = cc in omega arith)
+spot-of test s at (r ∷ b) x d w e = by (test r) e (spot-of test s (at + length (image .write r)) b x past (w .1))
+  where
+    past : drop (at + length (image .write r)) s ≡ writeAll image b
+    past = sym (drop-drop (length (image .write r)) at s) ∙ ap (drop (length (image .write r))) d ∙ drop-append-seam (image .write r) (writeAll image b)
+
+    by : (t : Bool) → cond t (some (record { place = at; value = r })) (first test (at + length (image .write r)) b) ≡ some x
+        → (first test (at + length (image .write r)) b ≡ some x → Reads s x) → Reads s x
+    by true e more =
+        let k : record { place = at; value = r } ≡ x = Option·some-injective _ _ e in
+        subst (Reads s) k (record { rest = writeAll image b; reads = ap (image .read) d ∙ image-round r (w .0) (writeAll image b) })
+    by false e more = more e
+
+pub spot-reads : (test : Record → Bool) (s : List ℕ) (k : Stored s) (x : Spot) → Bytes s → first test 0 (k .records) ≡ some x → Reads s x
+spot-reads test s k x h e = let d = decoded s (k .records) h (k .are) in spot-of test s 0 (k .records) x (d .0) (d .1) e
