@@ -1,0 +1,8 @@
+// The calls that take records out of a lent store, or put one in. Each answers the new used length.
+mod puts;
+mod removal;
+mod sweeps;
+
+pub use puts::write_image;
+pub use removal::remove;
+pub use sweeps::sweep;

@@ -1,0 +1,8 @@
+// Calls that change one held record in its place in a dialog store, on lent bytes of which so many are used. Each answers the new used length.
+mod calls;
+mod finding;
+mod requests;
+
+pub use calls::response;
+pub use calls::set_session_expires;
+pub use calls::terminate;
