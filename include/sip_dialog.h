@@ -1,6 +1,6 @@
 /*
- * sip_dialog: readings of SIP dialogs (RFC 3261 section 12), reliable provisional responses (RFC 3262) and session timers
- * (RFC 4028). The functions are proved in Rattle; `rt staticlib sip_dialog` writes them to target/staticlib/libsip_dialog.a,
+ * sip_dialog: SIP dialogs (RFC 3261 section 12) as records in lent bytes, readings of reliable provisional responses (RFC 3262),
+ * and session timers (RFC 4028). The functions are proved in Rattle; `rt staticlib sip_dialog` writes them to target/staticlib/libsip_dialog.a,
  * for x86-64.
  *
  * For every call:
@@ -28,13 +28,12 @@
 extern "C" {
 #endif
 
-/* Why a call is turned back. None of the functions below returns 15 to 17 or 20 to 24: these belong to calls that look up or
-   change the records of a store, and to PRACK lists. */
+/* Why a call is turned back. None of the functions below returns 20 to 24: these belong to PRACK lists. */
 enum sip_dialog_refusal {
     SIP_DIALOG_ACCEPTED = 0,
     SIP_DIALOG_TEXT_TOO_LONG = 1,              /* a given text or block is over 8,192 bytes */
     SIP_DIALOG_MALFORMED = 2,                  /* a block, or a value given alone, isn't of its form */
-    SIP_DIALOG_BAD_STORE = 3,                  /* a store or record isn't whole images */
+    SIP_DIALOG_BAD_STORE = 3,                  /* a store or record isn't whole images; an identifier stands twice; used over the lent length */
     SIP_DIALOG_MISSING_HEADER = 4,             /* an identifier part, CSeq or RSeq is absent or unreadable */
     SIP_DIALOG_INVALID_STATUS = 5,             /* status outside 100 to 299 at creation */
     SIP_DIALOG_INVALID_URI = 6,                /* a given URI is unreadable */
@@ -324,15 +323,87 @@ uint8_t sip_dialog_image_update_from_request(const uint8_t *method, size_t metho
 uint8_t sip_dialog_image_update_from_response(uint16_t status, const uint8_t *block, size_t block_len,
                                               uint8_t *image, size_t image_len, size_t *used);
 
-/* ---- Stores of records: docs/LAYOUTS.md has their bytes. Neither function changes a byte of the store. */
+/* ---- Stores of records: docs/LAYOUTS.md has their bytes.
 
-/* How many records a store holds, of whose lent bytes the first `used` are used. Refuses with 3: used over store_len, used bytes
-   that aren't whole record images, or one identifier twice. */
+   A store is lent as `store`, and its first `used` bytes are its records; an empty store has used 0. Every function below reads
+   the whole store before it looks for a record, and refuses with 3 where used is over store_len, where the used bytes aren't whole
+   record images, or where one identifier stands twice. The lent length may differ from call to call.
+
+   A function that changes the store takes a pointer to used: accepted, it holds the new used length; refused, it keeps its value
+   and every byte of the store stays. Bytes past the new used length stay. A record keeps its place, whatever changes in it.
+
+   An identifier is three texts of any bytes: Call-ID, local tag, remote tag. One that names no record gives 15. */
+
+/* Puts the record image: in the place of the record of its identifier, or behind all others. Adds one to created, for a
+   replacement too; the largest number stays. The image must not lie in the lent store: one that was made in its free end is copied
+   out first. Refuses with 3 (the store, or image isn't exactly one record image), 16 (10,000 held,
+   even for a replacement), 17 (image is Early, and 100 other Early records have its Call-ID), 18. */
+uint8_t sip_dialog_put(const uint8_t *image, size_t image_len,
+                       uint8_t *store, size_t store_len, size_t *used, uint64_t *created);
+
+/* The request entry: finds the record that the block names (the tag of From is its remote tag) and changes it by the request, as
+   sip_dialog_image_update_from_request does. 0: the request is taken. No method changes the state: after a BYE that was taken,
+   sip_dialog_terminate ends the record. Refuses with 1, 2, 3, 15 (also where a part of the identifier
+   can't be read), 4 (CSeq), 9; method ACK: 11; others: 10, 11, 12; 18. */
+uint8_t sip_dialog_request(const uint8_t *method, size_t method_len, const uint8_t *block, size_t block_len,
+                           uint8_t *store, size_t store_len, size_t *used);
+
+/* Changes a record by a response that was received, as sip_dialog_image_update_from_response does. A uas that has sent a 2xx does
+   not give it here: it copies the record out (sip_dialog_get), calls sip_dialog_image_confirm and puts it again. Refuses with 1, 2,
+   3, 15, 18. */
+uint8_t sip_dialog_response(const uint8_t *call_id, size_t call_id_len, const uint8_t *local_tag, size_t local_tag_len,
+                            const uint8_t *remote_tag, size_t remote_tag_len, uint16_t status,
+                            const uint8_t *block, size_t block_len, uint8_t *store, size_t store_len, size_t *used);
+
+/* A record becomes Terminated, and stays in the store until it is removed or swept. Refuses with 1, 3, 15. */
+uint8_t sip_dialog_terminate(const uint8_t *call_id, size_t call_id_len, const uint8_t *local_tag, size_t local_tag_len,
+                             const uint8_t *remote_tag, size_t remote_tag_len,
+                             uint8_t *store, size_t store_len, size_t *used);
+
+/* Raises a record's local number by one, or leaves it at 4,294,967,295, and answers it in number. Refuses with 1, 3, 15, 18. */
+uint8_t sip_dialog_next_local_cseq(const uint8_t *call_id, size_t call_id_len, const uint8_t *local_tag, size_t local_tag_len,
+                                   const uint8_t *remote_tag, size_t remote_tag_len,
+                                   uint8_t *store, size_t store_len, size_t *used, uint32_t *number);
+
+/* Sets a record's session interval, in seconds; who refreshes stays. Refuses with 1, 3, 15; 13 below 90 and then answers 90 in
+   least, in seconds; 14 over 86,400; 18. But for 13, least keeps its value. */
+uint8_t sip_dialog_set_session_expires(const uint8_t *call_id, size_t call_id_len,
+                                       const uint8_t *local_tag, size_t local_tag_len,
+                                       const uint8_t *remote_tag, size_t remote_tag_len, uint64_t seconds,
+                                       uint8_t *store, size_t store_len, size_t *used, uint64_t *least);
+
+/* Takes a record out; those behind it move up. Adds one to terminated; the largest number stays. Refuses with 1, 3, 15. A caller
+   that wants the record copies it out before, at the place that sip_dialog_get answers. */
+uint8_t sip_dialog_remove(const uint8_t *call_id, size_t call_id_len, const uint8_t *local_tag, size_t local_tag_len,
+                          const uint8_t *remote_tag, size_t remote_tag_len,
+                          uint8_t *store, size_t store_len, size_t *used, uint64_t *terminated);
+
+/* Takes all Terminated records out; the others keep their order. No count moves, so that created less terminated need not be what
+   is held. Refuses with 3. */
+uint8_t sip_dialog_sweep(uint8_t *store, size_t store_len, size_t *used);
+
+/* Where the image of a record lies in the store: of an identifier; the first of a Call-ID; of the identifier that a request's block
+   names (the tag of From is its remote tag). Refuse with 1, 3, 15; find_by_request with 1, 2, 3, 15, the last also where a part of
+   the identifier can't be read. They change no byte of the store. */
+uint8_t sip_dialog_get(const uint8_t *call_id, size_t call_id_len, const uint8_t *local_tag, size_t local_tag_len,
+                       const uint8_t *remote_tag, size_t remote_tag_len,
+                       const uint8_t *store, size_t store_len, size_t used, size_t *place, size_t *length);
+uint8_t sip_dialog_find_by_call_id(const uint8_t *call_id, size_t call_id_len,
+                                   const uint8_t *store, size_t store_len, size_t used, size_t *place, size_t *length);
+uint8_t sip_dialog_find_by_request(const uint8_t *block, size_t block_len,
+                                   const uint8_t *store, size_t store_len, size_t used, size_t *place, size_t *length);
+
+/* How many records a store holds. Refuses with 3. */
 uint8_t sip_dialog_count(const uint8_t *store, size_t store_len, size_t used, size_t *count);
 
-/* Writes the handover listing of a store's used bytes to the front of out, without a zero byte, and answers its length: a line for
-   each record, then `total` and their number, each line ended by a line feed. Refuses with 1 (over 65,536 bytes), 3, 18. */
-uint8_t sip_dialog_listing(const uint8_t *store, size_t store_len, uint8_t *out, size_t out_len, size_t *length);
+/* Writes the identifiers of all records to the front of out, in store order, each as three texts with two length bytes (the higher
+   first), and answers how many bytes it wrote: never more than used. Refuses with 3, 18. */
+uint8_t sip_dialog_all_ids(const uint8_t *store, size_t store_len, size_t used, uint8_t *out, size_t out_len, size_t *length);
+
+/* Writes the handover listing of a store to the front of out, without a zero byte, and answers its length: a line for each record,
+   then `total` and their number, each line ended by a line feed. It is given the used bytes alone. Refuses with 1 (over 65,536
+   bytes), 3, 18. */
+uint8_t sip_dialog_listing(const uint8_t *store, size_t used, uint8_t *out, size_t out_len, size_t *length);
 
 /* ---- Counts of dialogs */
 

@@ -1,27 +1,15 @@
 /*
- * Calls every function of include/sip_dialog.h, accepted and refused: what it returns, what the lent numbers and bytes then
- * hold, and that the rest is kept. Expected values come from document 01, not from the code.
+ * With tests/c_face_store.c, calls every function of include/sip_dialog.h, accepted and refused: what it returns, what the lent
+ * numbers and bytes then hold, and that the rest is kept. Expected values come from document 01, not from the code.
  */
-#include "sip_dialog.h"
-
-#include <stdio.h>
-#include <stdlib.h>
-#include <string.h>
-
-enum {
-    KEPT = 0xA5,    /* what every lent number and byte holds before a call */
-    LONGEST = 8192, /* the longest text or block that is taken */
-    ROUTES = 50     /* the most routes of a block */
-};
+#include "c_face.h"
 
 #define SECOND UINT64_C(1000000000)
 
 static unsigned checks_run;
 static unsigned checks_failed;
 
-#define CHECK(expression) check((expression), __FILE__, __LINE__, #expression)
-
-static void check(bool holds, const char *file, int line, const char *expression)
+void check(bool holds, const char *file, int line, const char *expression)
 {
     checks_run++;
     if (holds) {
@@ -33,14 +21,7 @@ static void check(bool holds, const char *file, int line, const char *expression
 
 /* ---- Lent bytes */
 
-struct run {
-    const char *text;
-    uint8_t *bytes;
-    size_t length;
-};
-
-/* Memory that ends where its bytes end, so that valgrind sees any step past it. */
-static uint8_t *memory(size_t length)
+uint8_t *allocate(size_t length)
 {
     uint8_t *bytes = malloc(length);
     if (bytes == NULL && length > 0) {
@@ -50,26 +31,34 @@ static uint8_t *memory(size_t length)
     return bytes;
 }
 
-/* A text as a byte run; NULL is lent as a null pointer with length 0. */
-static struct run lend(const char *text)
+struct run lend(const char *text)
 {
     struct run r = {text, NULL, 0};
     if (text != NULL) {
         r.length = strlen(text);
-        r.bytes = memory(r.length);
+        r.bytes = allocate(r.length);
         memcpy(r.bytes, text, r.length);
     }
     return r;
 }
 
-static void take_back(struct run r)
+struct run lend_bytes(const uint8_t *bytes, size_t length)
+{
+    struct run r = {bytes, NULL, length};
+    if (length > 0) {
+        r.bytes = allocate(length);
+        memcpy(r.bytes, bytes, length);
+    }
+    return r;
+}
+
+void take_back(struct run r)
 {
     CHECK(r.length == 0 || memcmp(r.bytes, r.text, r.length) == 0);
     free(r.bytes);
 }
 
-/* A text of `total` bytes: head, then so many of one byte, then tail. The buffer has room for LONGEST + 1 bytes and a zero. */
-static const char *filled(char *buffer, const char *head, char byte, const char *tail, size_t total)
+const char *filled(char *buffer, const char *head, char byte, const char *tail, size_t total)
 {
     size_t first = strlen(head);
     size_t last = strlen(tail);
@@ -79,8 +68,7 @@ static const char *filled(char *buffer, const char *head, char byte, const char 
     return buffer;
 }
 
-/* A header block of `total` bytes that begins with these lines. */
-static const char *long_block(char *buffer, const char *lines, size_t total)
+const char *long_block(char *buffer, const char *lines, size_t total)
 {
     char head[256];
     snprintf(head, sizeof head, "%sX-1:", lines);
@@ -1084,7 +1072,7 @@ static struct written fresh_output(size_t room)
 {
     struct written w = {KEPT, KEPT, room, NULL};
     if (room > 0) {
-        w.out = memory(room);
+        w.out = allocate(room);
         memset(w.out, KEPT, room);
     }
     return w;
@@ -1376,12 +1364,11 @@ enum {
     MANY = 300      /* records of a store that is larger than 4,096 bytes */
 };
 
-/* Document 01's example: Call-ID "c1", tags "L" and "R", Confirmed, we are uas, remote number 7. */
 static const uint8_t sheet_record[] = {
     0x01, 0x7F, 0, 2, 'c', '1', 0, 1, 'L', 0, 1, 'R', 2, 0, 7, 's', 'i', 'p', ':', 'r', '@', 'h', 0, 7, 's', 'i', 'p', ':', 'l',
     '@', 'h', 0, 7, 's', 'i', 'p', ':', 'r', '@', 'h', 0, 0, 0, 7};
 
-enum { RECORD = sizeof sheet_record };
+enum { RECORD = SHEET_LENGTH };
 
 /* The example's record so many times, each with a Call-ID of its own, from place 0 on. */
 static void records(uint8_t *store, size_t count)
@@ -1397,7 +1384,7 @@ static void records(uint8_t *store, size_t count)
 /* count of a store that is lent with its used length; KEPT where it is refused. */
 static bool count_of_is(const uint8_t *store, size_t lent, size_t used, uint8_t number, size_t expected)
 {
-    uint8_t *bytes = memory(lent);
+    uint8_t *bytes = allocate(lent);
     size_t count = KEPT;
     bool holds;
     if (lent > 0) {
@@ -1437,8 +1424,8 @@ static void test_count(void)
 /* The listing of so many bytes into so much room: its text, or the number with every lent byte kept. */
 static bool listing_is(const uint8_t *store, size_t used, size_t room, uint8_t number, const char *text)
 {
-    uint8_t *bytes = memory(used);
-    uint8_t *out = memory(room);
+    uint8_t *bytes = allocate(used);
+    uint8_t *out = allocate(room);
     size_t length = KEPT;
     size_t written = number == 0 ? strlen(text) : 0;
     size_t i;
@@ -1487,14 +1474,7 @@ static void test_listing(void)
 
 /* ---- One record image */
 
-enum { LARGEST = 12000 }; /* the largest image here */
-
-struct image {
-    size_t length;
-    uint8_t bytes[LARGEST];
-};
-
-static struct image image_of(const uint8_t *bytes, size_t length)
+struct image image_of(const uint8_t *bytes, size_t length)
 {
     struct image i = {0, {0}};
     i.length = length;
@@ -1502,14 +1482,12 @@ static struct image image_of(const uint8_t *bytes, size_t length)
     return i;
 }
 
-static struct image sheet_image(void)
+struct image sheet_image(void)
 {
-    return image_of(sheet_record, RECORD);
+    return image_of(sheet_record, sizeof sheet_record);
 }
 
-/* Every field: Call-ID "id@x", tags "a" and "bc", Early, we are uac, secure by the local URI, local number 16,909,060,
-   remote 9, last ACK 8, 1,800 s, uas refreshes, two routes. */
-static struct image full_image(void)
+struct image full_image(void)
 {
     static const uint8_t bytes[] = {
         0x1F, 0xFF, 0, 4, 'i', 'd', '@', 'x', 0, 1, 'a', 0, 2, 'b', 'c', 13,
@@ -1519,20 +1497,7 @@ static struct image full_image(void)
     return image_of(bytes, sizeof bytes);
 }
 
-/* Where its fields begin. */
-enum {
-    FULL_STATE = 15,
-    FULL_LOCAL = 45,
-    FULL_REMOTE = 49,
-    FULL_ACK = 53,
-    FULL_SECONDS = 57,
-    FULL_REFRESHER = 61,
-    FULL_ROUTES = 65,
-    FULL_LENGTH = 88
-};
-
-/* No field but those that always stand: Early, we are uas. */
-static struct image least_image(void)
+struct image least_image(void)
 {
     static const uint8_t bytes[] = {
         0, 0x78, 1, 0, 7, 's', 'i', 'p', ':', 'r', '@', 'h', 0, 7, 's', 'i', 'p', ':', 'l', '@', 'h',
@@ -1540,13 +1505,13 @@ static struct image least_image(void)
     return image_of(bytes, sizeof bytes);
 }
 
-static struct image with_byte(struct image i, size_t at, uint8_t byte)
+struct image with_byte(struct image i, size_t at, uint8_t byte)
 {
     i.bytes[at] = byte;
     return i;
 }
 
-static struct image with_number(struct image i, size_t at, uint32_t number)
+struct image with_number(struct image i, size_t at, uint32_t number)
 {
     i.bytes[at] = (uint8_t)(number >> 24);
     i.bytes[at + 1] = (uint8_t)(number >> 16);
@@ -1555,8 +1520,7 @@ static struct image with_number(struct image i, size_t at, uint32_t number)
     return i;
 }
 
-/* A number that the image has not yet, before the bytes from a place on; the map is given whole. */
-static struct image with_more(struct image i, unsigned map, size_t at, uint32_t number)
+struct image with_more(struct image i, unsigned map, size_t at, uint32_t number)
 {
     memmove(i.bytes + at + 4, i.bytes + at, i.length - at);
     i.length += 4;
@@ -1565,7 +1529,7 @@ static struct image with_more(struct image i, unsigned map, size_t at, uint32_t 
     return with_number(i, at, number);
 }
 
-static struct image with_length(struct image i, size_t length)
+struct image with_length(struct image i, size_t length)
 {
     i.length = length;
     return i;
@@ -1590,7 +1554,7 @@ static struct image with_routes(uint8_t count)
 /* Lends just the bytes of an image. */
 static uint8_t *lend_image(const struct image *i)
 {
-    uint8_t *bytes = memory(i->length);
+    uint8_t *bytes = allocate(i->length);
     if (i->length > 0) {
         memcpy(bytes, i->bytes, i->length);
     }
@@ -1763,7 +1727,7 @@ static void test_image_parts(void)
     struct image full = full_image();
     struct image sheet = sheet_image();
     struct image least = least_image();
-    CHECK(full.length == FULL_LENGTH);
+    CHECK(sheet.length == SHEET_LENGTH && full.length == FULL_LENGTH && least.length == LEAST_LENGTH);
     CHECK(places_are(places_of(sip_dialog_image_id, full), 4, 4, 10, 1, 13, 2));
     CHECK(places_are(places_of(sip_dialog_image_id, sheet), 4, 2, 8, 1, 11, 1));
     CHECK(places_are(places_of(sip_dialog_image_id, least), 2, 0, 2, 0, 2, 0));
@@ -1926,8 +1890,8 @@ static struct change lend_room(struct image before, size_t room, size_t used)
     c.before = before;
     c.room = room;
     c.used = used;
-    c.bytes = memory(room);
-    c.expected = memory(room);
+    c.bytes = allocate(room);
+    c.expected = allocate(room);
     if (room > 0) {
         memset(c.bytes, KEPT, room);
         memcpy(c.bytes, before.bytes, whole);
@@ -2107,11 +2071,7 @@ static void test_image_set_session_expires(void)
 
 /* ---- Requests and responses taken by one record image */
 
-/* Bytes as a string, whose closing zero isn't one of them. */
-#define IMAGE(text) image_of((const uint8_t *)(text), sizeof(text) - 1)
-
-/* Another text at the place of a text's two length bytes. */
-static struct image with_text(struct image i, size_t at, const char *text)
+struct image with_text(struct image i, size_t at, const char *text)
 {
     size_t old_end = at + 2 + 256 * (size_t)i.bytes[at] + i.bytes[at + 1];
     size_t length = strlen(text);
@@ -2132,17 +2092,6 @@ static struct image ending(struct image i, unsigned map, size_t at, struct image
     i.bytes[1] = (uint8_t)map;
     return i;
 }
-
-/* Where the target, the state and the remote number of the three images are. */
-enum {
-    SHEET_STATE = 12,
-    SHEET_TARGET = 13,
-    SHEET_REMOTE = 40,
-    FULL_TARGET = 16,
-    LEAST_STATE = 2,
-    LEAST_TARGET = 3,
-    LEAST_LENGTH = 30
-};
 
 /* Another target: of a record that has it where the example has, of the one with every field, of the one with no other. */
 static struct image sheet_to(struct image i, const char *target)
@@ -3393,7 +3342,7 @@ int main(void)
         test_image_request_ack, test_image_request_methods, test_image_request_target, test_image_request_room,
         test_image_request_rest, test_image_request_order, test_image_response_state, test_image_response_routes,
         test_image_response_no_routes, test_image_response_interval, test_image_response_target, test_image_response_parts,
-        test_image_response_order, test_new_uac, test_new_uas, test_counts,
+        test_image_response_order, test_new_uac, test_new_uas, test_counts, test_stores,
     };
     size_t i;
     for (i = 0; i < sizeof tests / sizeof tests[0]; i++) {

@@ -6,10 +6,11 @@ use mathlib.Core.Path.{_≡_, refl, sym, ap, ap₂, subst, _∙_}
 use mathlib.Core.List.{List, [], _∷_, _++_, reverse, reverse-cons}
 use lib.ListN.{drop}
 use Rattle.limits.specs.Limits.{LimitSet, rustLimits}
-use Rattle.book.specs.Calls.{Call, update, request, lent, Answer}
+use Rattle.book.specs.Calls.{Call, update, request, lent}
 use Rattle.book.specs.Book.{storeRead}
 use Rattle.book.specs.Store.{Left}
-use Rattle.book.specs.History.{All, Entry, World, isTaken, book, lending, next, world, storeLog, remoteBy, moments, Story, Demand3, Sent, Permitted, Ran, start, called}
+use Rattle.book.specs.History.{All, World, isTaken, book, bookLog, lending, next, world, storeLog, remoteBy, moments, Story, Demand3, Sent, Permitted, Returned, returned, Ran, start, called}
+use Rattle.book.specs.Returned.{numberIn}
 use Rattle.book.proofs.BookLaws.{distinct-test}
 use Rattle.book.proofs.HeldLaws.{Good, good}
 use Rattle.book.proofs.StoreLaws.{Follows, read-back, same-answer, follows, same-answers}
@@ -68,26 +69,29 @@ all-reverse P (x ∷ xs) a = subst (All P) (sym (reverse-cons x xs)) (all-append
 pub at-every-point : (m : List ℕ) (earlier later : List Call) → All (Sent m) (earlier ++ later) → Demand3 rustLimits m (reverse earlier)
 at-every-point m earlier later s = demand3-holds m (reverse earlier) (all-reverse (Sent m) earlier (all-front (Sent m) earlier later s))
 
--- ---- the contracts alone fix the memory, the used length and the answers
+-- ---- the contracts alone fix the memory, the used length and the numbers returned
 
-pub ran-is : (L : LimitSet) (m : List ℕ) {cs : List Call} {w : World} {es : List Entry} → Ran L m cs w es → (w ≡ world L m cs) × (es ≡ storeLog L m cs)
+pub ran-is : (L : LimitSet) (m : List ℕ) {cs : List Call} {w : World} {rs : List Returned} → Ran L m cs w rs → (w ≡ world L m cs) × (rs ≡ returned (storeLog L m cs))
 unfolding world storeLog
 ran-is L m start = (refl, refl)
-ran-is L m (called {cs} {w} {es} r c bytes used answer l) = go (ran-is L m r)
+ran-is L m (called {cs} {w} {rs} r c bytes used number l) = go (ran-is L m r)
   where
     three : {A B C D : Type 0} (f : A → B → C → D) {x y : A} {u v : B} {s t : C} → x ≡ y → u ≡ v → s ≡ t → f x u s ≡ f y v t
     three f a b c = λ i. f (a i) (b i) (c i)
 
-    go : (w ≡ world L m cs) × (es ≡ storeLog L m cs)
+    go : (w ≡ world L m cs) × (rs ≡ returned (storeLog L m cs))
         → (_≡_ {A = World} (record { memory = bytes ++ drop (lent c) (w .memory); used = used }) (next L c (world L m cs)))
-        × (_≡_ {A = List Entry} (record { call = c; answer = answer } ∷ es) (record { call = c; answer = lending L c (world L m cs) .answer } ∷ storeLog L m cs))
+        × (_≡_ {A = List Returned} (record { call = c; number = number } ∷ rs) (record { call = c; number = numberIn (lending L c (world L m cs) .answer) } ∷ returned (storeLog L m cs)))
     go p =
         let q : lending L c w ≡ lending L c (world L m cs) = ap (lending L c) (p .0) in (
           three (λ x y (z : World). record { memory = x ++ drop (lent c) (z .memory); used = y }) (l .bytes-are ∙ ap (λ (y : Left). y .bytes) q) (l .used-is ∙ ap (λ (y : Left). y .used) q) (p .0),
-          ap₂ (λ (a : Answer) (y : List Entry). record { call = c; answer = a } ∷ y) (l .answer-is ∙ ap (λ (y : Left). y .answer) q) (p .1),
+          ap₂ (λ (n : ℕ) (y : List Returned). record { call = c; number = n } ∷ y) (l .number-is ∙ ap (λ (y : Left). numberIn (y .answer)) q) (p .1),
         )
 
--- real calls that keep the contracts have demand 3, and their memory, used length and answers are those that it speaks of
-pub demand3-kept : (m : List ℕ) {cs : List Call} {w : World} {es : List Entry} → Ran rustLimits m cs w es → All (Sent m) cs
-    → Demand3 rustLimits m cs × ((w ≡ world rustLimits m cs) × (es ≡ storeLog rustLimits m cs))
-demand3-kept m {cs} {w} {es} r s = (demand3-holds m cs s, ran-is rustLimits m r)
+-- real calls that keep the contracts have demand 3: their memory and used length are those that it speaks of, and the numbers that they returned are the book's
+pub demand3-kept : (m : List ℕ) {cs : List Call} {w : World} {rs : List Returned} → Ran rustLimits m cs w rs → All (Sent m) cs
+    → Demand3 rustLimits m cs × ((w ≡ world rustLimits m cs) × (rs ≡ returned (bookLog rustLimits cs)))
+demand3-kept m {cs} {w} {rs} r s =
+    let d = demand3-holds m cs s in
+    let q = ran-is rustLimits m r in
+    (d, (q .0, q .1 ∙ ap returned (d .answers)))

@@ -12,6 +12,10 @@ pub record Ident : Type 0 where
   pub localTag : List ℕ
   pub remoteTag : List ℕ
 
+-- of three texts
+abbrev pub ident : List ℕ → List ℕ → List ℕ → Ident
+ident callId localTag remoteTag = record { callId = callId; localTag = localTag; remoteTag = remoteTag }
+
 -- the same three texts
 unfoldable pub sameIdent : Ident → Ident → Bool
 sameIdent i j = equal (i .callId) (j .callId) && (equal (i .localTag) (j .localTag) && equal (i .remoteTag) (j .remoteTag))

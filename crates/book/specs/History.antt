@@ -22,7 +22,8 @@ use Rattle.dialog.specs.OneImage.{oneRecord}
 use Rattle.dialog.specs.Updates.{kindOf, retargeted}
 use Rattle.book.specs.Calls.{Ident, sameIdent, Update, request, response, terminate, localNumber, interval, Call, put, update, remove, sweep, read, lent, imageIn, Answer}
 use Rattle.book.specs.Book.{Book, storeImage, storeRead, emptyStore, size, identOf, isOf, namedIn, nameOf, find, findNamed, amend, earlyOf, decide, after, answerOf}
-use Rattle.book.specs.Store.{Left, Leaves, run}
+use Rattle.book.specs.Store.{Left, run}
+use Rattle.book.specs.Returned.{numberIn, Returns}
 
 abbrev pub All : {A : Type 0} → (A → Type 0) → List A → Type 0
 All P [] = Unit {0}
@@ -270,9 +271,20 @@ pub record Permitted (L : LimitSet) : Type 0 where
   pub routes : L .routes ≤ 50
   pub seconds : L .maxExpires < 2 ^ 32
 
--- Calls that were really made, of which nothing is known but what the contracts promise: each was lent the first bytes of the memory as the last left them.
-pub data Ran (L : LimitSet) (m : List ℕ) : List Call → World → List Entry → Type 0 where
+-- ---- calls that were really made
+
+-- a call and the number that it returned
+pub record Returned : Type 0 where
+  pub call : Call
+  pub number : ℕ
+
+abbrev pub returned : List Entry → List Returned
+returned [] = []
+returned (e ∷ es) = record { call = e .call; number = numberIn (e .answer) } ∷ returned es
+
+-- Calls of which nothing is known but what their contracts promise: each was lent the first bytes of the memory, as many as it says, and the used length, as the last left them.
+pub data Ran (L : LimitSet) (m : List ℕ) : List Call → World → List Returned → Type 0 where
   start : Ran L m [] (record { memory = over emptyStore m; used = length emptyStore }) []
-  called : {cs : List Call} {w : World} {es : List Entry} → Ran L m cs w es
-      → (c : Call) (bytes : List ℕ) (used : ℕ) (answer : Answer) → Leaves (lending L c w) bytes used answer
-      → Ran L m (c ∷ cs) (record { memory = bytes ++ drop (lent c) (w .memory); used = used }) (record { call = c; answer = answer } ∷ es)
+  called : {cs : List Call} {w : World} {rs : List Returned} → Ran L m cs w rs
+      → (c : Call) (bytes : List ℕ) (used number : ℕ) → Returns (lending L c w) bytes used number
+      → Ran L m (c ∷ cs) (record { memory = bytes ++ drop (lent c) (w .memory); used = used }) (record { call = c; number = number } ∷ rs)

@@ -17,7 +17,7 @@ use Rattle.text.specs.Answers.{tooLong}
 use Rattle.record.specs.Codec as codec
 use Rattle.record.specs.Record.{Record, image}
 use Rattle.record.specs.Store.{decodeAll}
-use Rattle.record.proofs.CodecLaws.{Bytes}
+use Rattle.record.proofs.CodecLaws.{Bytes, bytes-take}
 use Rattle.record.proofs.StoreLaws.{decoded}
 use Rattle.image.specs.declared.RecordAt.{RecordAt}
 use Rattle.image.proofs.AnswerLaws.{record-got}
@@ -28,11 +28,11 @@ use Rattle.headers.specs.DialogId.{identifierOf, fromName, toName}
 use Rattle.headers.specs.declared.dialog_id.DialogId.{DialogId}
 use Rattle.dialog.specs.Matching.{partIn}
 use Rattle.dialog.proofs.MatchLaws.{Asked}
-use Rattle.book.specs.Calls.{Ident, Reading, findByCallId, findByRequest, read, Value, imageAt}
+use Rattle.book.specs.Calls.{Ident, ident, Reading, findByCallId, findByRequest, read, Value, imageAt}
 use Rattle.book.specs.Book.{Book, storeImage, storeRead, isOf, find, namedIn, size, firstPlace, placeOf, reply, identCause, readingCause, argumentCause, judge, taking, unchanged, apply}
 use Rattle.book.specs.Store.{Result, resultOf, verdict, leave, run}
 use Rattle.dialog_manager.specs.Search.{named, Spot, first, foundOf, foundIn, Stored, Stands}
-use Rattle.dialog_manager.specs.Lookups.{ident, getting, placeIn}
+use Rattle.dialog_manager.specs.Lookups.{getting, placeIn}
 use Rattle.dialog_manager.specs.declared.finding.Found.the-variants as found
 use Rattle.dialog_manager.specs.declared.placing.Place.the-variants as place
 use Rattle.dialog_manager.proofs.SearchLaws.{Turn, turn, spot-reads}
@@ -136,11 +136,6 @@ not-kept bytes used {cause} e = by (ltb (length bytes) used) (decodeAll (take us
     by true o e = refl
     by false none e = refl
     by false (some b) e = absurd (let z : _≡_ {A = ℕ} 0 1 = cc in omega arith)
-
-bytes-take : (n : ℕ) (s : List ℕ) → Bytes s → Bytes (take n s)
-bytes-take zero s h = tt
-bytes-take (suc n) [] h = tt
-bytes-take (suc n) (x ∷ s) h = (h .0, bytes-take n s (h .1))
 
 module _ (L : LimitSet) (n : ℕ) (q : Reading) (bytes : List ℕ) (used : ℕ) (h : Bytes bytes) where
   -- a store that was read is no larger than its lent bytes

@@ -6,14 +6,10 @@ use mathlib.Core.Option.{Option, none, some}
 use Rattle.limits.specs.Outcome.{Outcome, refused, given, orRefuse}
 use Rattle.limits.specs.declared.Refusal.the-variants.{BadStore, NotFound}
 use Rattle.record.specs.Record.{Record}
-use Rattle.book.specs.Calls.{Ident, Reading, get, Value, imageAt, Answer}
+use Rattle.book.specs.Calls.{ident, Reading, get, Value, imageAt, Answer}
 use Rattle.book.specs.Book.{Book, firstPlace, placeOf}
 use Rattle.dialog_manager.specs.declared.placing.Place.{Place}
 use Rattle.dialog_manager.specs.declared.placing.Place.the-variants as place
-
--- the identifier of three texts
-abbrev pub ident : List ℕ → List ℕ → List ℕ → Ident
-ident callId localTag remoteTag = record { callId = callId; localTag = localTag; remoteTag = remoteTag }
 
 abbrev pub getting : List ℕ → List ℕ → List ℕ → Reading
 getting callId localTag remoteTag = get (ident callId localTag remoteTag)

@@ -68,7 +68,7 @@ fn is_named(
 }
 
 // The bytes that a span names are the text.
-fn is_part(bytes: &[u8], part: Span, t: &[u8]) -> bool
+pub fn is_part(bytes: &[u8], part: Span, t: &[u8]) -> bool
     requires { ⌜ part .start + part .length ≤ length (now bytes) ⌝ }
     ensures { λ r. ⌜ r ≡ equal (partIn (now (bytes .entry)) part) (now (t .entry)) ⌝ }
 {

@@ -4,6 +4,7 @@ mod lookups;
 mod placing;
 
 pub use finding::Found;
+pub use finding::is_part;
 pub use finding::search;
 pub use lookups::check_identifier;
 pub use lookups::find_by_call_id;

@@ -11,10 +11,10 @@ ghost use mathlib.Core.Path.{_≡_};
 ghost use lib.ListN.{length};
 ghost use Rattle.limits.specs.Limits.{rustLimits};
 ghost use Rattle.limits.specs.Outcome.{checkOf};
-ghost use Rattle.book.specs.Calls.{read, findByRequest, findByCallId};
+ghost use Rattle.book.specs.Calls.{ident, read, findByRequest, findByCallId};
 ghost use Rattle.book.specs.Book.{identCause};
 ghost use Rattle.book.specs.Store.{run};
-ghost use Rattle.dialog_manager.specs.Lookups.{ident, getting, answerIn};
+ghost use Rattle.dialog_manager.specs.Lookups.{getting, answerIn};
 
 // DialogManager::get: 1, 3, 15.
 pub fn get(call_id: &[u8], local_tag: &[u8], remote_tag: &[u8], bytes: &[u8], used: usize) -> Place

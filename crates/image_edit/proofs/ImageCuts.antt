@@ -7,7 +7,7 @@ use native.Mathlib.Omega.{arith}
 use lib.ListN.{length, take, drop, getD, take-append-drop}
 use lib.Seq.{length-take-le}
 use Rattle.record.specs.Record.{Record, Ids, isFilled, idText, image}
-use Rattle.record.proofs.CodecLaws.{Bytes, bytes-all}
+use Rattle.record.proofs.CodecLaws.{Bytes, bytes-take, bytes-drop, bytes-all}
 use Rattle.record.proofs.WellFormedLaws.{image-back}
 use Rattle.image.specs.Places.{lead, idsPlaces, recordPlaces, recordFrom}
 use Rattle.image.specs.declared.RecordAt.{RecordAt}
@@ -17,18 +17,6 @@ use Rattle.image_writer.specs.Parts.{idsBytes}
 use Rattle.image_writer.proofs.FieldLaws.{ids-size}
 use Rattle.image_edit.specs.Changes.{readAt, changedBy, changed}
 use Rattle.image_edit.proofs.CutLaws.{splice-cut}
-
--- ---- bytes
-
-bytes-take : (n : ℕ) (s : List ℕ) → Bytes s → Bytes (take n s)
-bytes-take zero s h = tt
-bytes-take (suc n) [] h = tt
-bytes-take (suc n) (b ∷ s) h = (h .0, bytes-take n s (h .1))
-
-bytes-drop : (n : ℕ) (s : List ℕ) → Bytes s → Bytes (drop n s)
-bytes-drop zero s h = h
-bytes-drop (suc n) [] h = tt
-bytes-drop (suc n) (b ∷ s) h = bytes-drop n s (h .1)
 
 -- ---- the record among the used bytes
 

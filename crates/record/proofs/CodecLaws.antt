@@ -21,6 +21,11 @@ pub bytes-after : (s t : List ℕ) → Bytes (s ++ t) → Bytes t
 bytes-after [] t h = h
 bytes-after (b ∷ s) t h = bytes-after s t (h .1)
 
+pub bytes-take : (n : ℕ) (s : List ℕ) → Bytes s → Bytes (take n s)
+bytes-take zero s h = tt
+bytes-take (suc n) [] h = tt
+bytes-take (suc n) (b ∷ s) h = (h .0, bytes-take n s (h .1))
+
 pub bytes-drop : (at : ℕ) (s : List ℕ) → Bytes s → Bytes (drop at s)
 bytes-drop zero s h = h
 bytes-drop (suc at) [] h = tt

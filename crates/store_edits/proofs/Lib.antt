@@ -1,3 +1,5 @@
+pub mod AheadLaws
+pub mod EarlyLaws
 pub mod PutLaws
 pub mod RemoveLaws
 pub mod SweepLaws

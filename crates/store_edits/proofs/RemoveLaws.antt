@@ -1,5 +1,5 @@
 -- A removal: refused where the look-up of the record is, and otherwise its image cut out of the used bytes. Assumes nothing.
-use Prim.Native.Nat.{ℕ, zero, suc, _+_, _-_, _≤_, _<_}
+use Prim.Native.Nat.{ℕ, _+_, _-_, _≤_}
 use native.Mathlib.Omega.{arith}
 use mathlib.Core.Path.{_≡_, refl, sym, ap, ap₂, subst, _∙_}
 use mathlib.Core.Bool.{Bool, true, false, cond, not, _&&_}
@@ -19,28 +19,24 @@ use Rattle.distinct.proofs.Sames.{both}
 use Rattle.record.specs.Codec.{writeAll}
 use Rattle.record.specs.Record.{Record, image}
 use Rattle.record.specs.Store.{sameId, lacks, distinct, decodeAll}
-use Rattle.record.proofs.CodecLaws.{Bytes}
+use Rattle.record.proofs.CodecLaws.{Bytes, bytes-take}
 use Rattle.record.proofs.StoreLaws.{EachFormed, decoded}
 use Rattle.store.specs.Counting.{recordsHeld, countAnswer}
 use Rattle.store.specs.declared.Held.{Held}
 use Rattle.store.specs.declared.Held.the-variants as held
-use Rattle.book.specs.Calls.{Ident, sameIdent, Call, read, remove, Value, noValue, imageAt}
-use Rattle.book.specs.Book.{Book, storeImage, storeRead, size, identOf, isOf, find, keep, others, only, Taken, apply, firstPlace, placeOf, reply, identCause, readingCause, argumentCause, judge}
+use Rattle.book.specs.Calls.{Ident, ident, sameIdent, Call, read, remove, Value, noValue, imageAt}
+use Rattle.book.specs.Book.{Book, storeImage, size, identOf, isOf, find, keep, others, only, Taken, firstPlace, placeOf, reply, identCause, argumentCause, judge}
 use Rattle.book.specs.Store.{Left, run}
 use Rattle.book.proofs.SentenceLaws.{kept-size}
 use Rattle.book.proofs.SpliceLaws.{Stands, images-append, removed-bytes}
 use Rattle.book.proofs.IdentLaws.{ident-is}
 use Rattle.book.proofs.WayLaws.{keptWith, way-arguments, way-over, way-unread, way-judged, way-taken}
-use Rattle.dialog_manager.specs.Lookups.{ident, getting}
+use Rattle.dialog_manager.specs.Lookups.{getting}
 use Rattle.dialog_manager.proofs.LookupLaws.{Kept, kept, arguments-refuse, store-refuses, replies, get-cause}
-use Rattle.store_edits.specs.Edits.{removing, answered, writtenIn}
+use Rattle.book.specs.Returned.{writtenIn}
+use Rattle.store_edits.specs.Edits.{removing}
 
 -- ---- the store as it was read
-
-pub bytes-take : (n : ℕ) (s : List ℕ) → Bytes s → Bytes (take n s)
-bytes-take zero s h = tt
-bytes-take (suc n) [] h = tt
-bytes-take (suc n) (x ∷ s) h = (h .0, bytes-take n s (h .1))
 
 -- the used bytes are the images of the records, one for each identifier
 pub record Images (s : List ℕ) (used : ℕ) (b : Book) : Type 0 where
@@ -65,6 +61,10 @@ unheld L c s used {cause} a e = by (ltb (length s) used) refl (decodeAll (take u
     by true q o p e = way-over L c s used a (ltb-true (length s) used q)
     by false q none p e = way-unread L c s used a (ltb-false (length s) used q) p
     by false q (some b) p e = absurd (let z : _≡_ {A = ℕ} 0 1 = cc in omega arith)
+
+-- what a refused call answers and leaves
+pub turned-back : {now : Left} {s : List ℕ} {used : ℕ} {cause : Refusal} → now ≡ record { bytes = s; used = used; answer = refused cause } → (written.Refused cause ≡ writtenIn now) × (s ≡ now .bytes)
+turned-back e = (sym (ap writtenIn e), sym (ap (λ (l : Left). l .bytes) e))
 
 -- ---- one record of an identifier
 
@@ -142,8 +142,9 @@ unfolding writeAll
 whole-size b front r back e =
     ap size e ∙ (ap length (images-append front (r ∷ back)) ∙ (length-append (storeImage front) (image .write r ++ storeImage back) ∙ ap (λ (k : ℕ). size front + k) (length-append (image .write r) (storeImage back))))
 
-cut-length : (at n : ℕ) (t : List ℕ) → at + n ≤ length t → length (spliced at n [] t) ≡ length t - n
-cut-length at n t h = omega (arith, h, length-append (take at t) (drop (at + n) t), length-take-le at t (omega (arith, h)), length-drop (at + n) t)
+-- with n elements at a place replaced
+pub spliced-length : (at n : ℕ) (new t : List ℕ) → at + n ≤ length t → length (spliced at n new t) ≡ length t - n + length new
+spliced-length at n new t h = omega (arith, h, length-append (take at t) (new ++ drop (at + n) t), length-append new (drop (at + n) t), length-take-le at t (omega (arith, h)), length-drop (at + n) t)
 
 -- ---- the removal
 
@@ -220,7 +221,7 @@ module _ (L : LimitSet) (m : ℕ) (c l r : List ℕ) (s : List ℕ) (used : ℕ)
         ap (spliced at n []) (g .are) ∙ (ap₂ (λ (j w : ℕ). spliced j w [] (storeImage b)) at-is (d .size-is) ∙ sym x) in
         let w : size b ≡ size (d .there .front) + (length (image .write (d .was)) + size (d .there .back)) = whole-size b (d .there .front) (d .was) (d .there .back) (d .there .split) in
         let ends : at + n ≤ used = omega (arith, w, g .long, d .place-is, d .size-is) in
-        let len : used - n + 0 ≡ size (keep (others i) b) = omega (arith, sym (ap length y), cut-length at n (take used s) (omega (arith, ends, length-take-le used s (k .within))), length-take-le used s (k .within)) in
+        let len : used - n + 0 ≡ size (keep (others i) b) = omega (arith, sym (ap length y), spliced-length at n [] (take used s) (omega (arith, ends, length-take-le used s (k .within))), length-take-le used s (k .within)) in
         record {
           within = k .within;
           inside = ends;

@@ -1,14 +1,21 @@
--- The calls that change which records a store holds. What they leave is `run` (book/specs/Store.antt); here the call of each entry and its answer are set out.
-use Prim.Native.Nat.{ℕ}
+-- The calls that change which records a store holds. What they leave is `run` (book/specs/Store.antt); here the call of each is set out, and the steps of the code.
+use Prim.Native.Nat.{ℕ, _≤_}
+use mathlib.Core.Path.{_≡_}
+use mathlib.Core.Bool.{Bool, true, false, cond, not, _&&_}
 use mathlib.Core.List.{List, []}
 use mathlib.Core.Option.{Option, none, some}
-use Rattle.limits.specs.Outcome.{refused, given}
-use Rattle.output.specs.declared.Written.{Written}
-use Rattle.output.specs.declared.Written.the-variants as written
-use Rattle.book.specs.Calls.{Call, put, remove, sweep, Answer}
-use Rattle.book.specs.Book.{Book, storeImage, living, keep}
-use Rattle.book.specs.Store.{Left}
-use Rattle.dialog_manager.specs.Lookups.{ident}
+use lib.ListN.{length, take}
+use lib.Dec.{leb}
+use Rattle.limits.specs.Limits.{LimitSet}
+use Rattle.limits.specs.Outcome.{given}
+use Rattle.record.specs.Record.{State, Record, image}
+use Rattle.record.specs.NumbersForm.{stateIn}
+use Rattle.record.specs.declared.numbers.State.{State as CodeState}
+use Rattle.image.specs.declared.sections.IdsAt.{IdsAt}
+use Rattle.dialog.specs.OneImage.{oneRecord}
+use Rattle.book.specs.Calls.{Ident, ident, Call, put, remove, sweep}
+use Rattle.book.specs.Book.{Book, storeImage, storeRead, identOf, others, living, keep, isEarly, earlyOf, isFull}
+use Rattle.dialog_manager.specs.Search.{namedAt}
 
 -- the calls, of a store of n lent bytes
 abbrev pub removing : ℕ → List ℕ → List ℕ → List ℕ → Call
@@ -18,17 +25,39 @@ abbrev pub sweeping : ℕ → Call
 sweeping n = sweep n
 
 abbrev pub putting : ℕ → List ℕ → Call
-putting n image = put n image
+putting n img = put n img
 
--- the answer: the used length of an accepted call, or the cause
-abbrev pub answered : Answer → ℕ → Written
-answered (refused cause) used = written.Refused cause
-answered (given value) used = written.Length used
+-- ---- steps of the code
 
-abbrev pub writtenIn : Left → Written
-writtenIn l = answered (l .answer) (l .used)
-
--- a step of the code: the images of the records that aren't Terminated
+-- the images of the records that aren't Terminated
 abbrev pub livingIn : Option Book → List ℕ
 livingIn none = []
 livingIn (some b) = storeImage (keep living b)
+
+-- the bytes are the image of a record with this state and identifier
+pub record Named (img : List ℕ) (state : CodeState) (callId localTag remoteTag : List ℕ) : Type 0 where
+  pub value : Record
+  pub one : oneRecord img ≡ given value
+  pub is : image .write value ≡ img
+  pub state-is : stateIn state ≡ value .numbers .state
+  pub ident-is : ident callId localTag remoteTag ≡ identOf value
+
+-- the used bytes are read as a store, which isn't full
+pub record Open (L : LimitSet) (bytes : List ℕ) (used : ℕ) : Type 0 where
+  pub records : Book
+  pub within : used ≤ length bytes
+  pub are : storeRead (take used bytes) ≡ some records
+  pub free : isFull L records ≡ false
+
+-- how many Early records have the Call-ID of an identifier, but not the identifier
+abbrev pub earlyOthers : Ident → Option Book → ℕ
+earlyOthers i none = 0
+earlyOthers i (some b) = earlyOf (i .callId) (keep (others i) b)
+
+-- 17, of a state and an identifier
+abbrev pub crowdedIn : LimitSet → State → Ident → Option Book → Bool
+crowdedIn L state i o = isEarly state && leb (L .earlyPerCallId) (earlyOthers i o)
+
+-- what one record counts, by the texts at the places of its identifier
+abbrev pub earlyAt : List ℕ → IdsAt → State → List ℕ → List ℕ → List ℕ → ℕ
+earlyAt s i state c l r = cond (isEarly state && (namedAt s i false c l r && not (namedAt s i true c l r))) 1 0

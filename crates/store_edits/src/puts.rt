@@ -1,20 +1,84 @@
-// One record's image put into a store: the last step of `put`, which comes next.
+// One record's image put into a store.
+use crate::early::is_crowded;
+use dialog::ImageAnswer;
+use dialog_manager::Found;
+use dialog_manager::search;
+use limits::Limits;
 use limits::Refusal;
 use output::Written;
+use record::State;
+use store::Held;
 ghost use mathlib.Core.Path.{_≡_};
+ghost use mathlib.Core.List.{_++_};
 ghost use Prim.Native.Nat.{_+_, _≤_};
 ghost use lib.ListN.{length, take};
+ghost use Rattle.limits.specs.Limits.{rustLimits};
 ghost use Rattle.edit.specs.Edit.{spliced};
 ghost use Rattle.output.specs.Output.{fitted, leaves, writtenFrom};
+ghost use Rattle.book.specs.Store.{run};
+ghost use Rattle.book.specs.Returned.{writtenIn};
+ghost use Rattle.store_edits.specs.Edits.{putting, Named, Open};
 
-// The image for the old_length used bytes at a place: 18.
-pub fn write_image(
+// DialogManager::insert of one record image: 3, 16, 17, 18. A replacement keeps its place; a new record is written into the free end of the store.
+pub fn put(image: &[u8], bytes: &mut [u8], used: usize) -> Written
+    ensures { λ r. ⌜ r ≡ writtenIn (run rustLimits (putting (length (now (bytes .entry))) (now (image .entry))) (now (bytes .entry)) used) ⌝ }
+    ensures { λ _. ⌜ now (bytes .exit) ≡ run rustLimits (putting (length (now (bytes .entry))) (now (image .entry))) (now (bytes .entry)) used .bytes ⌝ }
+{
+    let Held::Records(n) = store::count(bytes, used) else {
+        return Written::Refused(Refusal::BadStore);
+    };
+    let ImageAnswer::Of(r) = dialog::read_image(image) else {
+        return Written::Refused(Refusal::BadStore);
+    };
+    if Limits::MAX_CONFIRMED_DIALOGS <= n {
+        return Written::Refused(Refusal::TooManyDialogs);
+    }
+    let ids = r.ids;
+    let numbers = r.numbers;
+    let state = numbers.state;
+    let call_id = ids.call_id;
+    let local = ids.local_tag;
+    let remote = ids.remote_tag;
+    let a = call_id.start;
+    let b = local.start;
+    let c = remote.start;
+    put_named(
+        image,
+        state,
+        &image[a..a + call_id.length],
+        &image[b..b + local.length],
+        &image[c..c + remote.length],
+        bytes,
+        used,
+    )
+}
+
+// The image of a record of this state and identifier: 17, 18. The store was read, and isn't full.
+fn put_named(
     image: &[u8],
+    state: State,
+    call_id: &[u8],
+    local_tag: &[u8],
+    remote_tag: &[u8],
     bytes: &mut [u8],
     used: usize,
-    at: usize,
-    old_length: usize,
 ) -> Written
+    requires { ⌜ Named (now image) state (now «call_id») (now «local_tag») (now «remote_tag») ⌝ }
+    requires { ⌜ Open rustLimits (now bytes) used ⌝ }
+    ensures { λ r. ⌜ r ≡ writtenIn (run rustLimits (putting (length (now (bytes .entry))) (now (image .entry))) (now (bytes .entry)) used) ⌝ }
+    ensures { λ _. ⌜ now (bytes .exit) ≡ run rustLimits (putting (length (now (bytes .entry))) (now (image .entry))) (now (bytes .entry)) used .bytes ⌝ }
+{
+    if is_crowded(state, &bytes[..used], call_id, local_tag, remote_tag) {
+        return Written::Refused(Refusal::TooManyEarlyDialogs);
+    }
+    let Found::At(at, r) = search(&bytes[..used], true, call_id, local_tag, remote_tag) else {
+        return add(image, bytes, used);
+    };
+    write_image(image, bytes, used, at, r.end - at)
+}
+
+// The image for the old_length used bytes at a place: 18.
+fn write_image(image: &[u8], bytes: &mut [u8], used: usize, at: usize, old_length: usize) -> Written
     requires { ⌜ (at + «old_length» ≤ used) × (used ≤ length (now bytes)) ⌝ }
     ensures { λ r. ⌜ r ≡ writtenFrom (fitted (length (now (bytes .entry))) (spliced at «old_length» (now (image .entry)) (take used (now (bytes .entry))))) ⌝ }
     ensures { λ _. ⌜ now (bytes .exit) ≡ leaves (fitted (length (now (bytes .entry))) (spliced at «old_length» (now (image .entry)) (take used (now (bytes .entry))))) (now (bytes .entry)) ⌝ }
@@ -23,4 +87,28 @@ pub fn write_image(
         return Written::Refused(Refusal::NoRoom);
     }
     Written::Length(edit::replace(bytes, used, at, old_length, image))
+}
+
+// The image after the used bytes: 18. The writer is lent the free end of the store.
+fn add(image: &[u8], bytes: &mut [u8], used: usize) -> Written
+    requires { ⌜ used ≤ length (now bytes) ⌝ }
+    ensures { λ r. ⌜ r ≡ writtenFrom (fitted (length (now (bytes .entry))) (take used (now (bytes .entry)) ++ now (image .entry))) ⌝ }
+    ensures { λ _. ⌜ now (bytes .exit) ≡ leaves (fitted (length (now (bytes .entry))) (take used (now (bytes .entry)) ++ now (image .entry))) (now (bytes .entry)) ⌝ }
+{
+    match write_new(image, &mut bytes[used..]) {
+        Written::Length(n) => Written::Length(used + n),
+        Written::Refused(cause) => Written::Refused(cause),
+    }
+}
+
+// The image at the front of free bytes: 18.
+fn write_new(image: &[u8], free: &mut [u8]) -> Written
+    ensures { λ r. ⌜ r ≡ writtenFrom (fitted (length (now (free .entry))) (now (image .entry))) ⌝ }
+    ensures { λ _. ⌜ now (free .exit) ≡ leaves (fitted (length (now (free .entry))) (now (image .entry))) (now (free .entry)) ⌝ }
+{
+    if free.len() < image.len() {
+        return Written::Refused(Refusal::NoRoom);
+    }
+    edit::put(free, 0, image);
+    Written::Length(image.len())
 }

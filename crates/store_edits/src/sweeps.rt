@@ -13,8 +13,9 @@ ghost use Rattle.edit.specs.Edit.{over};
 ghost use Rattle.record.specs.NumbersForm.{stateIn};
 ghost use Rattle.book.specs.Book.{storeRead, isTerminated};
 ghost use Rattle.book.specs.Store.{run};
+ghost use Rattle.book.specs.Returned.{writtenIn};
 ghost use Rattle.dialog_manager.specs.Search.{Stored};
-ghost use Rattle.store_edits.specs.Edits.{sweeping, livingIn, writtenIn};
+ghost use Rattle.store_edits.specs.Edits.{sweeping, livingIn};
 
 // DialogManager::sweep: 3. The records that stay keep their order.
 pub fn sweep(bytes: &mut [u8], used: usize) -> Written

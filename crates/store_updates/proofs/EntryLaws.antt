@@ -1,41 +1,42 @@
 -- An update of one held record in its place: the step on the record that stands at its place is what `run` makes of the store. Assumes nothing.
-use Prim.Native.Nat.{ℕ, zero, suc, _+_, _≤_, _<_}
+use Prim.Native.Nat.{ℕ, _+_, _≤_}
 use native.Mathlib.Omega.{arith}
 use mathlib.Core.Path.{_≡_, refl, sym, ap, subst, _∙_}
 use mathlib.Core.Logic.{_≢_}
 use mathlib.Core.Bool.{Bool, true, false, cond}
-use mathlib.Core.List.{List, [], _∷_, _++_}
+use mathlib.Core.List.{List, [], _∷_}
 use mathlib.Core.Option.{Option, none, some, Option·some-injective}
-use lib.ListN.{length, take, drop, length-append}
+use lib.ListN.{length, take, length-append}
 use lib.Dec.{ltb}
-use lib.Seq.{length-take-le}
-use borrow.Author.Tests.{le-ltb, ltb-false, ltb-true}
-use Rattle.limits.specs.Limits.{LimitSet, rustLimits}
+use borrow.Author.Tests.{ltb-false, ltb-true}
+use Rattle.limits.specs.Limits.{LimitSet}
 use Rattle.limits.specs.Outcome.{Outcome, refused, given, causeIf, refuseBy, refuseIf, andThen, orRefuse}
 use Rattle.limits.specs.declared.Refusal.{Refusal}
 use Rattle.limits.specs.declared.Refusal.the-variants.{BadStore, NotFound, NoRoom}
-use Rattle.edit.specs.Edit.{spliced}
+use Rattle.edit.specs.Edit.{over, spliced}
 use Rattle.output.specs.Output.{fitted, leaves, writtenFrom}
 use Rattle.output.specs.declared.Written.{Written}
 use Rattle.output.specs.declared.Written.the-variants as written
 use Rattle.record.specs.Codec.{writeAll}
 use Rattle.record.specs.Record.{Record, image}
-use Rattle.record.proofs.CodecLaws.{Bytes}
+use Rattle.record.proofs.CodecLaws.{Bytes, bytes-take}
 use Rattle.record.proofs.StoreLaws.{decoded}
+use Rattle.image.specs.Places.{recordPlaces}
 use Rattle.image.specs.declared.RecordAt.{RecordAt}
 use Rattle.dialog_updates.specs.AtPlace.{steppedBy, stepped}
-use Rattle.book.specs.Calls.{Ident, Update, update, Call, Value}
-use Rattle.book.specs.Book.{Book, storeImage, storeRead, size, identOf, isOf, nameOf, find, findNamed, firstPlace, amend, alter, apply, Taken, updateCause, argumentCause, revised, toldBy, judge}
-use Rattle.book.specs.Store.{Left, run}
+use Rattle.book.specs.Calls.{Ident, Update, update, Call, Value, noValue}
+use Rattle.book.specs.Book.{Book, storeImage, storeRead, size, identOf, isOf, nameOf, find, findNamed, firstPlace, amend, alter, updateCause, argumentCause, revised, toldBy, judge}
+use Rattle.book.specs.Store.{Left}
 use Rattle.book.specs.History.{Permitted}
 use Rattle.book.proofs.IdentLaws.{id-cases, same-ident, other-ident}
 use Rattle.book.proofs.BookLaws.{find-here, find-there}
 use Rattle.book.proofs.UpdateLaws.{revises}
 use Rattle.book.proofs.SpliceLaws.{Stands, amend-bytes}
 use Rattle.book.proofs.WayLaws.{keptWith, way-arguments, way-over, way-unread, way-judged, way-full, way-taken}
-use Rattle.dialog_manager.specs.Search.{Spot, first, Stored}
+use Rattle.dialog_manager.specs.Search.{Spot, first}
 use Rattle.dialog_manager.proofs.SearchLaws.{Reads, spot-reads}
-use Rattle.store_updates.specs.Entries.{updating, writtenIn, usedAfter, spotIn, spotNamed, standingOf}
+use Rattle.book.specs.Returned.{writtenIn}
+use Rattle.store_updates.specs.Entries.{updating, usedAfter, spotIn, spotNamed, standingOf}
 use Rattle.store_updates.specs.declared.finding.Standing.the-variants as standing
 
 -- ---- the first record of an identifier is the one that the book finds
@@ -86,11 +87,6 @@ placed i at (r ∷ b) x h =
           place-is = omega (arith, p .place-is, length-append (image .write r) (storeImage (s .front)));
         }
 
-bytes-take : (n : ℕ) (s : List ℕ) → Bytes s → Bytes (take n s)
-bytes-take zero s h = tt
-bytes-take (suc n) [] h = tt
-bytes-take (suc n) (x ∷ s) h = (h .0, bytes-take n s (h .1))
-
 -- ---- what the reading of a lent store says
 
 pub record Met (i : Ident) (bytes : List ℕ) (used : ℕ) (x : Spot) : Type 0 where
@@ -126,8 +122,32 @@ module _ (L : LimitSet) (p : Permitted L) (u : Update) (bytes : List ℕ) (used 
   abbrev the-call : Call
   the-call = update (length bytes) u
 
+  -- what is left where the used bytes became others, or the step was refused; the value is told beside them
+  abbrev pub leftBy : Outcome (List ℕ) → Value → Left
+  leftBy (refused cause) v = keptWith L the-call bytes used cause
+  leftBy (given s) v = record { bytes = over s bytes; used = length s; answer = given v }
+
+  -- the value that a step tells
+  abbrev pub told : Outcome Record → Value
+  told (refused cause) = noValue
+  told (given now) = toldBy u now
+
+  -- the record that stood at its place, and what its step leaves
+  pub record Changed (at : ℕ) (q : RecordAt) : Type 0 where
+    pub value : Record
+    pub placed : q ≡ recordPlaces at value
+    pub left : updating L u bytes used ≡ leftBy (stepped (revised L u) (length bytes) at (take used bytes)) (told (revised L u value))
+
+  -- what is left, read as the answer of a call that tells no value
+  left-done : (o : Outcome (List ℕ)) (v : Value) → updating L u bytes used ≡ leftBy o v → Done (writtenFrom o) (leaves o bytes)
+  left-done o v e = subst (DoneBy (writtenFrom o) (leaves o bytes)) (sym e) (by o)
+    where
+      by : (o : Outcome (List ℕ)) → DoneBy (writtenFrom o) (leaves o bytes) (leftBy o v)
+      by (refused cause) = (refl, (refl, refl))
+      by (given s) = (refl, (refl, refl))
+
   refused-done : (cause : Refusal) → updating L u bytes used ≡ keptWith L the-call bytes used cause → Done (written.Refused cause) bytes
-  refused-done cause e = subst (DoneBy (written.Refused cause) bytes) (sym e) (refl, (refl, refl))
+  refused-done cause e = left-done (refused cause) noValue e
 
   pub arguments-done : {cause : Refusal} → updateCause L u ≡ some cause → Done (written.Refused cause) bytes
   unfolding argumentCause
@@ -182,9 +202,6 @@ module _ (L : LimitSet) (p : Permitted L) (u : Update) (bytes : List ℕ) (used 
           by false q (some b) r e = last b q r (first (isOf i) firstPlace b) refl e
 
       module _ (h : Bytes bytes) (x : Spot) (m : Met i bytes used x) where
-        s : List ℕ
-        s = take used bytes
-
         pl : Placed i 0 (m .records) x
         pl = placed i 0 (m .records) x (m .is)
 
@@ -211,45 +228,50 @@ module _ (L : LimitSet) (p : Permitted L) (u : Update) (bytes : List ℕ) (used 
             ∙ ap (λ (t : List ℕ). spliced (size (pl .stands .front)) (length (image .write (x .value))) (image .write now) t) image-is
             ∙ sym (amend-bytes i (x .value) (m .records) (pl .stands) now k)
 
-        abbrev After : Outcome (List ℕ) → Type 0
-        After o = Done (writtenFrom o) (leaves o bytes)
-
-        taken : (now : Record) → revised L u (x .value) ≡ given now → After (fitted (length bytes) (storeImage (amend now (m .records))))
+        -- an accepted step: 18, or the store with the changed record
+        taken : (now : Record) → revised L u (x .value) ≡ given now → updating L u bytes used ≡ leftBy (fitted (length bytes) (storeImage (amend now (m .records)))) (toldBy u now)
         taken now e = by (ltb (length bytes) (size (amend now (m .records)))) refl
           where
-            t : Taken
-            t = record { change = alter now; value = toldBy u now }
-
             j : judge L the-call (m .records) ≡ given (record { change = alter now; value = toldBy u now })
             j = judged (m .records) (x .value) found ∙ ap (λ (o : Outcome Record). andThen o (λ y. given (record { change = alter y; value = toldBy u y }))) e
 
-            by : (f : Bool) → ltb (length bytes) (size (amend now (m .records))) ≡ f → After (refuseBy (causeIf f NoRoom) (given (storeImage (amend now (m .records)))))
-            by true f = refused-done NoRoom (way-full L the-call bytes used clear (m .within) (m .records) (m .are) (record { change = alter now; value = toldBy u now }) j (ltb-true (length bytes) (size (amend now (m .records))) f))
-            by false f =
-                subst (DoneBy (written.Length (size (amend now (m .records)))) (leaves (given (storeImage (amend now (m .records)))) bytes))
-                (sym (way-taken L the-call bytes used clear (m .within) (m .records) (m .are) (record { change = alter now; value = toldBy u now }) j (ltb-false (length bytes) (size (amend now (m .records))) f)))
-                (refl, (refl, refl))
+            by : (f : Bool) → ltb (length bytes) (size (amend now (m .records))) ≡ f → updating L u bytes used ≡ leftBy (refuseBy (causeIf f NoRoom) (given (storeImage (amend now (m .records))))) (toldBy u now)
+            by true f = way-full L the-call bytes used clear (m .within) (m .records) (m .are) (record { change = alter now; value = toldBy u now }) j (ltb-true (length bytes) (size (amend now (m .records))) f)
+            by false f = way-taken L the-call bytes used clear (m .within) (m .records) (m .are) (record { change = alter now; value = toldBy u now }) j (ltb-false (length bytes) (size (amend now (m .records))) f)
 
-        after-step : After (stepped (revised L u) (length bytes) (x .place) (take used bytes))
-        after-step = subst After (sym stepped-is) (by (revised L u (x .value)) refl)
+        -- the step at its place leaves what `run` leaves, and answers the changed record's value
+        after-step : updating L u bytes used ≡ leftBy (stepped (revised L u) (length bytes) (x .place) (take used bytes)) (told (revised L u (x .value)))
+        after-step = subst (λ (o : Outcome (List ℕ)). updating L u bytes used ≡ leftBy o (told (revised L u (x .value)))) (sym stepped-is) (by (revised L u (x .value)) refl)
           where
-            by : (o : Outcome Record) → revised L u (x .value) ≡ o → After (andThen o (λ v. fitted (length bytes) (spliced (x .place) (length (image .write (x .value))) (image .write v) (take used bytes))))
+            by : (o : Outcome Record) → revised L u (x .value) ≡ o
+                → updating L u bytes used ≡ leftBy (andThen o (λ v. fitted (length bytes) (spliced (x .place) (length (image .write (x .value))) (image .write v) (take used bytes)))) (told o)
             by (refused cause) e =
-                refused-done cause (way-judged L the-call bytes used clear (m .within) (m .records) (m .are) cause
-                (judged (m .records) (x .value) found ∙ ap (λ (o : Outcome Record). andThen o (λ y. given (record { change = alter y; value = toldBy u y }))) e))
-            by (given now) e = subst (λ (l : List ℕ). After (fitted (length bytes) l)) (sym (amended now e)) (taken now e)
+                way-judged L the-call bytes used clear (m .within) (m .records) (m .are) cause
+                (judged (m .records) (x .value) found ∙ ap (λ (o : Outcome Record). andThen o (λ y. given (record { change = alter y; value = toldBy u y }))) e)
+            by (given now) e = subst (λ (l : List ℕ). updating L u bytes used ≡ leftBy (fitted (length bytes) l) (toldBy u now)) (sym (amended now e)) (taken now e)
+
+      -- what is left where a record was found
+      pub step-left : Bytes bytes → (at : ℕ) (q : RecordAt) → standing.At at q ≡ standingOf (spotIn i bytes used) → Changed at q
+      step-left h at q e = by (spotIn i bytes used) refl e
+        where
+          by : (o : Outcome Spot) → spotIn i bytes used ≡ o → standing.At at q ≡ standingOf o → Changed at q
+          by (refused cause) f e = absurd (let y : _≡_ {A = ℕ} 0 1 = cc in omega arith)
+          by (given x) f e =
+              let k : x .place ≡ at = cc in
+              let n : recordPlaces (x .place) (x .value) ≡ q = cc in
+              record {
+                value = x .value;
+                placed = sym n ∙ ap (λ (y : ℕ). recordPlaces y (x .value)) k;
+                left = subst (λ (y : ℕ). updating L u bytes used ≡ leftBy (stepped (revised L u) (length bytes) y (take used bytes)) (told (revised L u (x .value)))) k (after-step h x (met i bytes used x f));
+              }
 
       -- the step on the record that was found
       pub step-done : Bytes bytes → (at : ℕ) (q : RecordAt) → standing.At at q ≡ standingOf (spotIn i bytes used) → (r : Written) (after : List ℕ)
           → (r ≡ writtenFrom (stepped (revised L u) (length bytes) at (take used bytes))) × (after ≡ leaves (stepped (revised L u) (length bytes) at (take used bytes)) bytes) → Done r after
-      step-done h at q e r after w = by (spotIn i bytes used) refl e
-        where
-          by : (o : Outcome Spot) → spotIn i bytes used ≡ o → standing.At at q ≡ standingOf o → Done r after
-          by (refused cause) f e = absurd (let y : _≡_ {A = ℕ} 0 1 = cc in omega arith)
-          by (given x) f e =
-              let k : x .place ≡ at = cc in
-              let d = subst (λ (n : ℕ). Done (writtenFrom (stepped (revised L u) (length bytes) n (take used bytes))) (leaves (stepped (revised L u) (length bytes) n (take used bytes)) bytes)) k (after-step h x (met i bytes used x f)) in
-              (w .0 ∙ d .0, (w .1 ∙ d .1 .0, ap (λ (y : Written). usedAfter y used) (w .0) ∙ d .1 .1))
+      step-done h at q e r after w =
+          let l = step-left h at q e in
+          let d = left-done (stepped (revised L u) (length bytes) at (take used bytes)) (told (revised L u (l .value))) (l .left) in
+          (w .0 ∙ d .0, (w .1 ∙ d .1 .0, ap (λ (y : Written). usedAfter y used) (w .0) ∙ d .1 .1))
 
 -- nothing was found
 pub not-standing : (i : Ident) (bytes : List ℕ) (used : ℕ) {cause : Refusal} → standing.Refused cause ≡ standingOf (spotIn i bytes used) → spotIn i bytes used ≡ refused cause

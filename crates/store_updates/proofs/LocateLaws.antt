@@ -1,5 +1,5 @@
 -- The record of an identifier in a lent store: 3, 15, or where it stands. Assumes nothing.
-use Prim.Native.Nat.{ℕ, _≤_}
+use Prim.Native.Nat.{ℕ}
 use native.Mathlib.Omega.{arith}
 use mathlib.Core.Path.{_≡_, refl, sym, ap, _∙_}
 use mathlib.Core.Bool.{Bool, true, false}
@@ -8,8 +8,8 @@ use mathlib.Core.Option.{Option, none, some}
 use lib.ListN.{length, take}
 use lib.Dec.{ltb}
 use lib.Seq.{length-take-le}
-use borrow.Author.Tests.{le-ltb, ltb-false}
-use Rattle.limits.specs.Outcome.{Outcome, refused, refuseIf, andThen, orRefuse}
+use borrow.Author.Tests.{le-ltb}
+use Rattle.limits.specs.Outcome.{refused, refuseIf, andThen, orRefuse}
 use Rattle.limits.specs.declared.Refusal.{Refusal}
 use Rattle.limits.specs.declared.Refusal.the-variants.{BadStore, NotFound}
 use Rattle.record.specs.Record.{Record}
@@ -19,31 +19,13 @@ use Rattle.store.specs.Counting.{recordsHeld, countAnswer}
 use Rattle.store.specs.declared.Held.the-variants as held
 use Rattle.book.specs.Calls.{Ident}
 use Rattle.book.specs.Book.{Book, storeRead, isOf, firstPlace}
-use Rattle.dialog_manager.specs.Search.{Spot, first, foundOf, foundIn, Stored, Stands}
+use Rattle.dialog_manager.specs.Search.{Spot, first, foundOf, foundIn, Stands}
 use Rattle.dialog_manager.specs.declared.finding.Found.the-variants as found
+use Rattle.dialog_manager.proofs.LookupLaws.{Kept}
 use Rattle.store_updates.specs.Entries.{spotIn, spotNamed, standingOf, Ready}
 use Rattle.store_updates.specs.declared.finding.Standing.the-variants as standing
 
--- the records of a lent store
-pub record Kept (bytes : List ℕ) (used : ℕ) : Type 0 where
-  pub records : Book
-  pub within : used ≤ length bytes
-  pub are : storeRead (take used bytes) ≡ some records
-
 module _ (bytes : List ℕ) (used : ℕ) where
-  pub kept : {n : ℕ} → countAnswer (recordsHeld bytes used) ≡ held.Records n → Kept bytes used
-  unfolding recordsHeld
-  kept {n} e = by (ltb (length bytes) used) refl (decodeAll (take used bytes)) refl e
-    where
-      by : (t : Bool) → ltb (length bytes) used ≡ t → (o : Option (List Record)) → decodeAll (take used bytes) ≡ o → countAnswer (refuseIf t BadStore (orRefuse BadStore o)) ≡ held.Records n
-          → Kept bytes used
-      by true q o p e = absurd (let z : _≡_ {A = ℕ} 0 1 = cc in omega arith)
-      by false q none p e = absurd (let z : _≡_ {A = ℕ} 0 1 = cc in omega arith)
-      by false q (some b) p e = record { records = b; within = ltb-false (length bytes) used q; are = p }
-
-  pub stored : Kept bytes used → Stored (take used bytes)
-  stored k = record { records = k .records; are = k .are }
-
   -- the record that was found is read at its place
   pub ready : Kept bytes used → (at : ℕ) (r : RecordAt) → Stands (take used bytes) (found.At at r) → Ready bytes used (standing.At at r)
   ready k at r w = ((k .within, omega (arith, w .0, length-take-le used bytes (k .within))), w .1)

@@ -1,5 +1,5 @@
--- What the calls that change one held record leave and answer: `run` (book/specs/Store.antt) of the call as data. Here the cases of the answer are set
--- out, and a step of the code.
+-- What the calls that change one held record leave and answer: `run` (book/specs/Store.antt) of the call as data. Here the
+-- call of each is set out, and the steps of the code.
 use Prim.Native.Nat.{ℕ, _≤_}
 use mathlib.Core.Path.{_≡_}
 use mathlib.Core.List.{List}
@@ -14,16 +14,14 @@ use Rattle.output.specs.declared.Written.{Written}
 use Rattle.image.specs.Places.{recordPlaces, recordFrom}
 use Rattle.image.specs.declared.RecordReading.the-variants.{Whole}
 use Rattle.image_edit.specs.Changes.{readAt}
-use Rattle.book.specs.Calls.{Ident, Update, request, response, terminate, interval, update, Answer}
+use Rattle.dialog.specs.declared.updates.Raised.{Raised}
+use Rattle.dialog.specs.declared.updates.Raised.the-variants as raised
+use Rattle.book.specs.Calls.{Ident, ident, Update, request, response, terminate, localNumber, interval, update}
 use Rattle.book.specs.Book.{storeRead, isOf, firstPlace}
 use Rattle.book.specs.Store.{Left, run}
 use Rattle.dialog_manager.specs.Search.{Spot, first}
 use Rattle.store_updates.specs.declared.finding.Standing.{Standing}
 use Rattle.store_updates.specs.declared.finding.Standing.the-variants as standing
-
--- the identifier of three texts
-abbrev pub ident : List ℕ → List ℕ → List ℕ → Ident
-ident callId localTag remoteTag = record { callId = callId; localTag = localTag; remoteTag = remoteTag }
 
 -- what an update of a lent store leaves
 abbrev pub updating : LimitSet → Update → List ℕ → ℕ → Left
@@ -38,21 +36,20 @@ responding L callId localTag remoteTag status block bytes used = updating L (res
 abbrev pub setting : LimitSet → List ℕ → List ℕ → List ℕ → ℕ → List ℕ → ℕ → Left
 setting L callId localTag remoteTag seconds bytes used = updating L (interval (ident callId localTag remoteTag) seconds) bytes used
 
+abbrev pub raising : LimitSet → List ℕ → List ℕ → List ℕ → List ℕ → ℕ → Left
+raising L callId localTag remoteTag bytes used = updating L (localNumber (ident callId localTag remoteTag)) bytes used
+
 abbrev pub requesting : LimitSet → List ℕ → List ℕ → List ℕ → ℕ → Left
 requesting L method block bytes used = updating L (request method block) bytes used
-
--- the answer, case by case: an accepted call's is the used length
-abbrev pub writtenBy : ℕ → Answer → Written
-writtenBy n (refused cause) = written.Refused cause
-writtenBy n (given v) = written.Length n
-
-abbrev pub writtenIn : Left → Written
-writtenIn l = writtenBy (l .used) (l .answer)
 
 -- the used length after the call
 abbrev pub usedAfter : Written → ℕ → ℕ
 usedAfter (written.Refused cause) used = used
 usedAfter (written.Length n) used = n
+
+abbrev pub usedRaised : Raised → ℕ → ℕ
+usedRaised (raised.Refused cause) used = used
+usedRaised (raised.To number n) used = n
 
 -- ---- steps of the code
 
@@ -75,3 +72,8 @@ standingOf (given x) = standing.At (x .place) (recordPlaces (x .place) (x .value
 abbrev pub Ready : List ℕ → ℕ → Standing → Type 0
 Ready bytes used (standing.At at r) = ((used ≤ length bytes) × (at ≤ used)) × (recordFrom at (readAt at (take used bytes)) ≡ Whole r)
 Ready bytes used (standing.Refused cause) = Unit {0}
+
+-- the number of the changed record beside the used length that was answered
+abbrev pub raisedWith : ℕ → Written → Raised
+raisedWith number (written.Refused cause) = raised.Refused cause
+raisedWith number (written.Length n) = raised.To number n

@@ -1,7 +1,8 @@
 // The calls that name their record by its identifier.
 use crate::finding::Standing;
-use crate::finding::check_identifier;
 use crate::finding::locate;
+use dialog::Raised;
+use dialog_manager::check_identifier;
 use dialog_updates::response_at;
 use image::RecordAt;
 use limits::Check;
@@ -14,12 +15,15 @@ ghost use lib.ListN.{length, take};
 ghost use Rattle.limits.specs.Limits.{rustLimits};
 ghost use Rattle.limits.specs.Outcome.{given};
 ghost use Rattle.output.specs.Output.{leaves, writtenFrom};
+ghost use Rattle.record.specs.NumbersForm.{meaning};
+ghost use Rattle.record.specs.Rules.{localStep};
 ghost use Rattle.image.specs.Places.{recordFrom};
 ghost use Rattle.image.specs.declared.RecordReading.the-variants.{Whole};
 ghost use Rattle.image_edit.specs.Changes.{readAt};
-ghost use Rattle.dialog.specs.Updates.{terminateUpdate, intervalUpdate};
+ghost use Rattle.dialog.specs.Updates.{terminateUpdate, localUpdate, intervalUpdate};
 ghost use Rattle.dialog_updates.specs.AtPlace.{stepped};
-ghost use Rattle.store_updates.specs.Entries.{writtenIn, usedAfter, terminating, responding, setting};
+ghost use Rattle.book.specs.Returned.{writtenIn, raisedIn};
+ghost use Rattle.store_updates.specs.Entries.{usedAfter, usedRaised, terminating, responding, setting, raising, raisedWith};
 
 // DialogManager::terminate: 1, 3, 15, 18.
 pub fn terminate(
@@ -112,5 +116,41 @@ fn interval_at(bytes: &mut [u8], used: usize, at: usize, r: RecordAt, seconds: u
     match numbers.set_session_expires(seconds) {
         Step::Taken(x) => revise_numbers(bytes, used, at, r, x),
         Step::Refused(cause) => Written::Refused(cause),
+    }
+}
+
+// DialogManager::next_local_cseq: 1, 3, 15, 18. Answers the new number, or the largest again.
+pub fn next_local_cseq(
+    call_id: &[u8],
+    local_tag: &[u8],
+    remote_tag: &[u8],
+    bytes: &mut [u8],
+    used: usize,
+) -> Raised
+    ensures { λ r. ⌜ r ≡ raisedIn (raising rustLimits (now («call_id» .entry)) (now («local_tag» .entry)) (now («remote_tag» .entry)) (now (bytes .entry)) used) ⌝ }
+    ensures { λ _. ⌜ now (bytes .exit) ≡ raising rustLimits (now («call_id» .entry)) (now («local_tag» .entry)) (now («remote_tag» .entry)) (now (bytes .entry)) used .bytes ⌝ }
+    ensures { λ r. ⌜ usedRaised r used ≡ raising rustLimits (now («call_id» .entry)) (now («local_tag» .entry)) (now («remote_tag» .entry)) (now (bytes .entry)) used .used ⌝ }
+{
+    if let Check::Refused(x) = check_identifier(call_id, local_tag, remote_tag) {
+        return Raised::Refused(x);
+    }
+    match locate(bytes, used, call_id, local_tag, remote_tag) {
+        Standing::At(at, r) => local_at(bytes, used, at, r),
+        Standing::Refused(cause) => Raised::Refused(cause),
+    }
+}
+
+// On the record that was read at a place of a store's used bytes: 18. Answers its new local number, and the new used length.
+fn local_at(bytes: &mut [u8], used: usize, at: usize, r: RecordAt) -> Raised
+    requires { ⌜ (used ≤ length (now bytes)) × (at ≤ used) ⌝ }
+    requires { ⌜ recordFrom at (readAt at (take used (now bytes))) ≡ Whole r ⌝ }
+    ensures { λ n. ⌜ n ≡ raisedWith (localStep (meaning (r .numbers)) .local) (writtenFrom (stepped (λ v. given (localUpdate v)) (length (now (bytes .entry))) at (take used (now (bytes .entry))))) ⌝ }
+    ensures { λ _. ⌜ now (bytes .exit) ≡ leaves (stepped (λ v. given (localUpdate v)) (length (now (bytes .entry))) at (take used (now (bytes .entry)))) (now (bytes .entry)) ⌝ }
+{
+    let numbers = r.numbers;
+    let next = numbers.next_local_cseq();
+    match revise_numbers(bytes, used, at, r, next) {
+        Written::Length(n) => Raised::To(next.local, n),
+        Written::Refused(cause) => Raised::Refused(cause),
     }
 }

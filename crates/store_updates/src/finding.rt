@@ -2,35 +2,16 @@
 use dialog_manager::Found;
 use dialog_manager::search;
 use image::RecordAt;
-use limits::Check;
 use limits::Refusal;
 use store::Held;
 ghost use mathlib.Core.Path.{_≡_};
-ghost use Rattle.limits.specs.Limits.{rustLimits};
-ghost use Rattle.limits.specs.Outcome.{checkOf};
-ghost use Rattle.book.specs.Book.{identCause};
-ghost use Rattle.store_updates.specs.Entries.{ident, spotIn, standingOf, Ready};
+ghost use Rattle.book.specs.Calls.{ident};
+ghost use Rattle.store_updates.specs.Entries.{spotIn, standingOf, Ready};
 
 // Where its image begins, and its parts.
 pub enum Standing {
     At(usize, RecordAt),
     Refused(Refusal),
-}
-
-// 1, of the three texts of an identifier.
-pub fn check_identifier(call_id: &[u8], local_tag: &[u8], remote_tag: &[u8]) -> Check
-    ensures { λ r. ⌜ r ≡ checkOf (identCause rustLimits (ident (now («call_id» .entry)) (now («local_tag» .entry)) (now («remote_tag» .entry)))) ⌝ }
-{
-    if text::too_long(call_id) {
-        return Check::Refused(Refusal::TextTooLong);
-    }
-    if text::too_long(local_tag) {
-        return Check::Refused(Refusal::TextTooLong);
-    }
-    if text::too_long(remote_tag) {
-        return Check::Refused(Refusal::TextTooLong);
-    }
-    Check::Passed
 }
 
 // 3, 15.

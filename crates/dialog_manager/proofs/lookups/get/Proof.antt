@@ -8,9 +8,9 @@ use lib.Seq.{length-take-le}
 use Rattle.limits.specs.Limits.{rustLimits}
 use Rattle.limits.proofs.Laws.{passed, stopped}
 use Rattle.record.proofs.CodecLaws.{Bytes, bytes-all}
-use Rattle.book.specs.Calls.{Reading}
+use Rattle.book.specs.Calls.{ident, Reading}
 use Rattle.book.specs.Book.{identCause, readingCause}
-use Rattle.dialog_manager.specs.Lookups.{ident, getting, answerIn}
+use Rattle.dialog_manager.specs.Lookups.{getting, answerIn}
 use Rattle.dialog_manager.proofs.LookupLaws.{Kept, kept, stored, arguments-refuse, store-refuses, replies, get-cause, get-reply}
 use native.Mathlib.Omega.{arith}
 use borrow.Author.Needs.{needs}

@@ -3,14 +3,15 @@ use Prim.Native.Nat.{ℕ, _+_, _-_, _≤_, _<_}
 use mathlib.Core.Path.{_≡_, sym, ap, subst, _∙_}
 use mathlib.Core.Bool.{cond}
 use mathlib.Core.List.{List}
-use lib.ListN.{length, take}
+use lib.ListN.{length}
 use Rattle.edit.specs.Edit.{over}
 use Rattle.record.specs.Record.{image}
 use Rattle.record.proofs.CodecLaws.{bytes-all}
 use Rattle.image.specs.Places.{recordPlaces}
 use Rattle.image.specs.declared.RecordAt.{RecordAt}
 use Rattle.book.specs.Book.{isTerminated}
-use Rattle.store_edits.proofs.SweepLaws.{Closing, start, Next, next, done, same-long, so-many, piece-small, whole-is, not-whole}
+use Rattle.store_edits.proofs.AheadLaws.{whole-is, not-whole}
+use Rattle.store_edits.proofs.SweepLaws.{Closing, start, Next, next, done, same-long, so-many, piece-small}
 use native.Mathlib.Omega.{arith}
 use borrow.Author.Needs.{needs}
 use Rattle.store_edits.proofs.sweeps.close_up.Statement.{statement}
@@ -61,30 +62,24 @@ count c = c .staying .ensures ∙ so-many (c .before .before .before .before .be
 few : (c : tie.After-staying Inv-loop μ-loop) → c .before .before .before .before .before .before .before .before .before .loop .at + c .staying .result ≤ used (c .before)
 few c = omega (arith, count c, piece-small (isTerminated (turn (c .before) .value .numbers .state)) (length (image .write (turn (c .before) .value))), ends (c .before), fits (c .before))
 
--- src/sweeps.rt:39:5
 loop-holds : tie.Need-loop-holds Inv-loop μ-loop
 loop-holds c = let a = c .before .args in start (a .bytes .now) (a .used) (bytes-all (a .bytes .now) (λ i. c .slice-known .given i .fits)) (c .before .pre .0) (c .before .pre .1)
 
--- src/sweeps.rt:40:39
 read-record-requires : tie.Need-read-record-requires Inv-loop μ-loop
 read-record-requires c κs =
     let g = c .before .before .loop in
     let a = c .before .before .before .before .args in
-    let z : g .at ≤ length (g .bytes) = omega (arith, g .inv .left, g .inv .within, same-long (a .bytes .now) (a .used) (g .bytes) (g .at) (g .to) (g .inv)) in z
+    let z : g .at ≤ length (g .bytes) = omega (arith, g .inv .ahead .left, g .inv .within, same-long (a .bytes .now) (a .used) (g .bytes) (g .at) (g .to) (g .inv)) in z
 
--- src/sweeps.rt:40:34
 enum-known-r : tie.Need-enum-known-r Inv-loop μ-loop
 enum-known-r c = search needs
 
--- src/sweeps.rt:41:13
 enum-told : tie.Need-enum-told Inv-loop μ-loop
 enum-told c = search needs
 
--- src/sweeps.rt:41:13
 same-length : tie.Need-same-length Inv-loop μ-loop
 same-length c = let g = c .before .before .before .before .before .loop in let a = c .before .before .before .before .before .before .before .args in same-long (a .bytes .now) (a .used) (g .bytes) (g .at) (g .to) (g .inv)
 
--- src/sweeps.rt:41:13
 returns : tie.Need-returns Inv-loop μ-loop
 returns c =
     let g = c .before .before .before .before .before .loop in
@@ -92,15 +87,12 @@ returns c =
     let t = next (a .bytes .now) (a .used) (g .bytes) (g .at) (g .to) (g .inv) (c .before .before .before .before .loop-test .taken) in
     absurd (not-whole (sym (c .enum-told .given .1) ∙ c .before .before .read-record .ensures ∙ t .reads))
 
--- src/sweeps.rt:45:25
 sub-staying : tie.Need-sub-staying Inv-loop μ-loop
 sub-staying c = omega (arith, ends c)
 
--- src/sweeps.rt:45:13
 staying-requires : tie.Need-staying-requires Inv-loop μ-loop
 staying-requires c κs = tt
 
--- src/sweeps.rt:46:9
 move-left-requires : tie.Need-move-left-requires Inv-loop μ-loop
 move-left-requires c κs =
     let k = c .before in
@@ -108,14 +100,12 @@ move-left-requires c κs =
     let z : g .at + k .staying .result ≤ length (g .bytes) = omega (arith, few k, g .inv .within, same-long (s (k .before)) (used (k .before)) (g .bytes) (g .at) (g .to) (g .inv)) in
     (g .inv .below, z)
 
--- src/sweeps.rt:47:9
 add-to : tie.Need-add-to Inv-loop μ-loop
 add-to c =
     let k = c .before .before .before .before in
     let g = c .before .before .before .before .before .before .before .before .before .before .before .before .before .loop in
     omega (arith, few k, g .inv .below, bound (c .before .before .before .before .before .before .before .before .before .before .before .before .before .before))
 
--- src/sweeps.rt:39:5
 loop-less : tie.Need-loop-less Inv-loop μ-loop
 loop-less c =
     let k = c .before .before .before .before .before in
@@ -123,7 +113,6 @@ loop-less c =
     let e : R k .end ≡ recordPlaces (k .before .before .before .before .before .before .before .before .loop .at) (t .value) .end = ap (λ (q : RecordAt). q .end) (placed k) in
     omega (arith, e, t .moves, t .fits)
 
--- src/sweeps.rt:39:5
 loop-again : tie.Need-loop-again Inv-loop μ-loop
 loop-again c =
     let k = c .before .before .before .before .before in
@@ -133,11 +122,9 @@ loop-again c =
     let e : R k .end ≡ recordPlaces (g .at) (t .value) .end = ap (λ (q : RecordAt). q .end) (placed k) in
     subst (λ (m : ℕ). Closing (s k) (used k) (c .before .before .move-left .last .0) m (g .to + n)) (sym e) (t .again n (c .before .before .move-left .last .0) (count (c .before .before .before .before)) (c .before .before .move-left .ensures))
 
--- src/sweeps.rt:31:1
 same-length-2 : tie.Need-same-length-2 Inv-loop μ-loop
 same-length-2 c = let g = c .before .loop in let a = c .before .before .before .args in same-long (a .bytes .now) (a .used) (g .bytes) (g .at) (g .to) (g .inv)
 
--- src/sweeps.rt:31:1
 returns-2 : tie.Need-returns-2 Inv-loop μ-loop
 returns-2 c =
     let g = c .before .loop in

@@ -1,16 +1,14 @@
 -- `sweeps::sweep` meets its contract: 3, then the records that stay. Assumes nothing.
-use Prim.Native.Nat.{ℕ}
-use mathlib.Core.Path.{_≡_, sym, ap, _∙_}
-use mathlib.Core.List.{List}
+use mathlib.Core.Path.{sym, ap, _∙_}
 use lib.ListN.{length}
 use Rattle.limits.specs.Limits.{rustLimits}
 use Rattle.output.specs.declared.Written.the-variants as written
-use Rattle.record.proofs.CodecLaws.{Bytes, bytes-all}
+use Rattle.record.proofs.CodecLaws.{bytes-all}
 use Rattle.book.specs.Store.{Left}
 use Rattle.dialog_manager.proofs.LookupLaws.{Kept, kept, stored}
-use Rattle.store_edits.specs.Edits.{writtenIn}
+use Rattle.book.specs.Returned.{writtenIn}
+use Rattle.store_edits.proofs.RemoveLaws.{turned-back}
 use Rattle.store_edits.proofs.SweepLaws.{unswept, swept}
-use native.Mathlib.Omega.{arith}
 use borrow.Author.Needs.{needs}
 use Rattle.store_edits.proofs.sweeps.sweep.Statement.{statement}
 use Rattle.store_edits.proofs.sweeps.sweep.Tie as tie
@@ -19,44 +17,36 @@ use Rattle.store_edits.proofs.sweeps.sweep.Lts as lts
 use Rattle.store.proofs.count.Reads as count-reads
 use Rattle.store_edits.proofs.sweeps.close_up.Reads as close-up-reads
 
--- src/sweeps.rt:24:28
 count-requires : tie.Need-count-requires
 count-requires c κs = search needs
 
 enum-told : tie.Need-enum-told
 enum-told c = search needs
 
--- src/sweeps.rt:25:33
 enum-told-2 : tie.Need-enum-told-2
 enum-told-2 c = search needs
 
--- src/sweeps.rt:25:9
 same-length : tie.Need-same-length
 same-length c = search needs
 
--- src/sweeps.rt:25:9
 returns : tie.Need-returns
 returns c =
     let a = c .before .before .before .before .before .args in
-    let q = unswept rustLimits (length (a .bytes .now)) (a .bytes .now) (a .used) (sym (c .before .before .count .ensures) ∙ c .enum-told2 .given .1) in
-    (sym (ap writtenIn q), sym (ap (λ (l : Left). l .bytes) q))
+    turned-back (unswept rustLimits (length (a .bytes .now)) (a .bytes .now) (a .used) (sym (c .before .before .count .ensures) ∙ c .enum-told2 .given .1))
 
 -- the store was read
 store : (c : tie.After-enum-told) → Kept (c .before .before .before .before .before .args .bytes .now) (c .before .before .before .before .before .args .used)
 store c = let a = c .before .before .before .before .before .args in kept (a .bytes .now) (a .used) (sym (c .before .before .count .ensures) ∙ c .enum-told .given .1)
 
--- src/sweeps.rt:27:21
 close-up-requires : tie.Need-close-up-requires
 close-up-requires c κs =
     let k = store (c .before) in
     let a = c .before .before .before .before .before .before .args in
     (k .within, stored (a .bytes .now) (a .used) k)
 
--- src/sweeps.rt:20:1
 same-length-2 : tie.Need-same-length-2
 same-length-2 c = search needs
 
--- src/sweeps.rt:20:1
 returns-2 : tie.Need-returns-2
 returns-2 c =
     let t = c .before .before .before .before in

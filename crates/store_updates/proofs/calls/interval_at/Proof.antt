@@ -1,5 +1,4 @@
 -- `calls::interval_at` meets its contract: the record's numbers changed in its place. Assumes nothing.
-use native.Mathlib.Omega.{arith}
 use mathlib.Core.Path.{_≡_, sym, ap, _∙_}
 use lib.ListN.{length, take}
 use Rattle.limits.specs.Limits.{rustLimits}
@@ -17,10 +16,6 @@ use Rattle.dialog_updates.proofs.PlaceLaws.{numbers-read, stepped-refused, step
 use borrow.Author.Needs.{needs}
 use Rattle.store_updates.proofs.calls.interval_at.Statement.{statement}
 use Rattle.store_updates.proofs.calls.interval_at.Tie as tie
-use Rattle.store_updates.proofs.calls.interval_at.Reads as reads
-use Rattle.store_updates.proofs.calls.interval_at.Lts as lts
-use Rattle.record.proofs.numbers.Numbers.set_session_expires.Reads as set-session-expires-reads
-use Rattle.record_edit.proofs.revise_numbers.Reads as revise-numbers-reads
 
 -- the record among the used bytes
 stood : (c : tie.After-slice-known) → Held (take (c .before .args .used) (c .before .args .bytes .now)) (c .before .args .at) (c .before .args .r)

@@ -1,21 +1,14 @@
 -- `calls::response` meets its contract: 1, 2, 3, 15, then the step on the record in its place. Assumes nothing.
-use mathlib.Core.Path.{_≡_, sym, subst, _∙_}
-use lib.ListN.{length, take}
+use mathlib.Core.Path.{sym, subst, _∙_}
 use Rattle.limits.specs.Limits.{rustLimits}
 use Rattle.record.proofs.CodecLaws.{bytes-all}
 use Rattle.dialog_updates.proofs.RequestLaws.{short-block}
-use Rattle.book.specs.Calls.{Ident}
-use Rattle.store_updates.specs.Entries.{ident, Ready}
+use Rattle.book.specs.Calls.{Ident, ident}
+use Rattle.store_updates.specs.Entries.{Ready}
 use Rattle.store_updates.proofs.CallLaws.{response-refused, response-bad, response-turned, response-done}
 use borrow.Author.Needs.{needs}
 use Rattle.store_updates.proofs.calls.response.Statement.{statement}
 use Rattle.store_updates.proofs.calls.response.Tie as tie
-use Rattle.store_updates.proofs.calls.response.Reads as reads
-use Rattle.store_updates.proofs.calls.response.Lts as lts
-use Rattle.dialog_updates.proofs.response_at.Reads as response-at-reads
-use Rattle.msg.proofs.check_block.Reads as check-block-reads
-use Rattle.store_updates.proofs.finding.check_identifier.Reads as check-identifier-reads
-use Rattle.store_updates.proofs.finding.locate.Reads as locate-reads
 
 abbrev name : tie.Start → Ident
 name c = ident (c .args .call-id .now) (c .args .local-tag .now) (c .args .remote-tag .now)

@@ -1,18 +1,12 @@
 -- `calls::terminate` meets its contract: 1, 3, 15, then the step on the record in its place. Assumes nothing.
-use mathlib.Core.Path.{_≡_, sym, subst, _∙_}
-use lib.ListN.{length, take}
+use mathlib.Core.Path.{sym, subst, _∙_}
 use Rattle.record.proofs.CodecLaws.{bytes-all}
-use Rattle.book.specs.Calls.{Ident}
-use Rattle.store_updates.specs.Entries.{ident, Ready}
+use Rattle.book.specs.Calls.{Ident, ident}
+use Rattle.store_updates.specs.Entries.{Ready}
 use Rattle.store_updates.proofs.CallLaws.{terminate-refused, terminate-turned, terminate-done}
 use borrow.Author.Needs.{needs}
 use Rattle.store_updates.proofs.calls.terminate.Statement.{statement}
 use Rattle.store_updates.proofs.calls.terminate.Tie as tie
-use Rattle.store_updates.proofs.calls.terminate.Reads as reads
-use Rattle.store_updates.proofs.calls.terminate.Lts as lts
-use Rattle.store_updates.proofs.calls.terminate_at.Reads as terminate-at-reads
-use Rattle.store_updates.proofs.finding.check_identifier.Reads as check-identifier-reads
-use Rattle.store_updates.proofs.finding.locate.Reads as locate-reads
 
 abbrev name : tie.Start → Ident
 name c = ident (c .args .call-id .now) (c .args .local-tag .now) (c .args .remote-tag .now)

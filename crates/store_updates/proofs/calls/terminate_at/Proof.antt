@@ -1,6 +1,5 @@
 -- `calls::terminate_at` meets its contract: the record's numbers changed in its place. Assumes nothing.
-use native.Mathlib.Omega.{arith}
-use mathlib.Core.Path.{_≡_, sym, ap, _∙_}
+use mathlib.Core.Path.{sym, ap, _∙_}
 use lib.ListN.{length, take}
 use Rattle.limits.specs.Outcome.{given}
 use Rattle.output.specs.Output.{fitted}
@@ -16,10 +15,6 @@ use Rattle.dialog_updates.proofs.PlaceLaws.{numbers-read, stepped-given, result
 use borrow.Author.Needs.{needs}
 use Rattle.store_updates.proofs.calls.terminate_at.Statement.{statement}
 use Rattle.store_updates.proofs.calls.terminate_at.Tie as tie
-use Rattle.store_updates.proofs.calls.terminate_at.Reads as reads
-use Rattle.store_updates.proofs.calls.terminate_at.Lts as lts
-use Rattle.record.proofs.numbers.Numbers.terminate.Reads as terminate-reads
-use Rattle.record_edit.proofs.revise_numbers.Reads as revise-numbers-reads
 
 -- the record among the used bytes
 stood : (c : tie.After-slice-known) → Held (take (c .before .args .used) (c .before .args .bytes .now)) (c .before .args .at) (c .before .args .r)

@@ -1,18 +1,14 @@
 -- `finding::locate` meets its contract: 3, then what the search found. Assumes nothing.
-use mathlib.Core.Path.{_≡_, sym, subst, _∙_}
-use lib.ListN.{length, take}
+use mathlib.Core.Path.{sym, subst, _∙_}
+use lib.ListN.{take}
 use lib.Seq.{length-take-le}
-use Rattle.book.specs.Calls.{Ident}
+use Rattle.book.specs.Calls.{Ident, ident}
 use Rattle.dialog_manager.specs.Search.{Stands}
-use Rattle.store_updates.specs.Entries.{ident}
-use Rattle.store_updates.proofs.LocateLaws.{Kept, kept, stored, ready, unread, nothing, one}
+use Rattle.dialog_manager.proofs.LookupLaws.{Kept, kept, stored}
+use Rattle.store_updates.proofs.LocateLaws.{ready, unread, nothing, one}
 use borrow.Author.Needs.{needs}
 use Rattle.store_updates.proofs.finding.locate.Statement.{statement}
 use Rattle.store_updates.proofs.finding.locate.Tie as tie
-use Rattle.store_updates.proofs.finding.locate.Reads as reads
-use Rattle.store_updates.proofs.finding.locate.Lts as lts
-use Rattle.dialog_manager.proofs.search.Reads as search-reads
-use Rattle.store.proofs.count.Reads as count-reads
 
 abbrev name : tie.Start → Ident
 name c = ident (c .args .call-id .now) (c .args .local-tag .now) (c .args .remote-tag .now)

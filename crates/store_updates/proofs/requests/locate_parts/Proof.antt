@@ -3,63 +3,46 @@ use native.Mathlib.Nat.{add-sub-cancel-left}
 use borrow.Author.Needs.{needs}
 use Rattle.store_updates.proofs.requests.locate_parts.Statement.{statement}
 use Rattle.store_updates.proofs.requests.locate_parts.Tie as tie
-use Rattle.store_updates.proofs.requests.locate_parts.Reads as reads
-use Rattle.store_updates.proofs.requests.locate_parts.Lts as lts
-use Rattle.store_updates.proofs.finding.locate.Reads as locate-reads
 
--- src/requests.rt:34:35
 add-locate : tie.Need-add-locate
 add-locate c = search needs
 
--- src/requests.rt:34:25
 sub-locate : tie.Need-sub-locate
 sub-locate c = search needs
 
--- src/requests.rt:34:25
 part-locate-start : tie.Need-part-locate-start
 part-locate-start c = search needs
 
--- src/requests.rt:34:25
 part-locate-end : tie.Need-part-locate-end
 part-locate-end c = search needs
 
--- src/requests.rt:34:60
 add-locate-2 : tie.Need-add-locate-2
 add-locate-2 c = search needs
 
--- src/requests.rt:34:50
 sub-locate-2 : tie.Need-sub-locate-2
 sub-locate-2 c = search needs
 
--- src/requests.rt:34:50
 part-locate-start-2 : tie.Need-part-locate-start-2
 part-locate-start-2 c = search needs
 
--- src/requests.rt:34:50
 part-locate-end-2 : tie.Need-part-locate-end-2
 part-locate-end-2 c = search needs
 
--- src/requests.rt:34:85
 add-locate-3 : tie.Need-add-locate-3
 add-locate-3 c = search needs
 
--- src/requests.rt:34:75
 sub-locate-3 : tie.Need-sub-locate-3
 sub-locate-3 c = search needs
 
--- src/requests.rt:34:75
 part-locate-start-3 : tie.Need-part-locate-start-3
 part-locate-start-3 c = search needs
 
--- src/requests.rt:34:75
 part-locate-end-3 : tie.Need-part-locate-end-3
 part-locate-end-3 c = search needs
 
--- src/requests.rt:34:5
 locate-requires : tie.Need-locate-requires
 locate-requires c κs = search needs
 
--- src/requests.rt:26:1
 returns : tie.Need-returns
 returns c =
     let a = c .before .before .before .before .before .before .before .before .before .args in

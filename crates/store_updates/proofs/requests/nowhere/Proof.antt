@@ -1,31 +1,25 @@
 -- `requests::nowhere` meets its contract: 3, 15. Assumes nothing.
-use mathlib.Core.Path.{_≡_, sym, _∙_}
-use Rattle.store_updates.proofs.LocateLaws.{kept, nowhere-unread, nowhere-read}
+use mathlib.Core.Path.{sym, _∙_}
+use Rattle.dialog_manager.proofs.LookupLaws.{kept}
+use Rattle.store_updates.proofs.LocateLaws.{nowhere-unread, nowhere-read}
 use borrow.Author.Needs.{needs}
 use Rattle.store_updates.proofs.requests.nowhere.Statement.{statement}
 use Rattle.store_updates.proofs.requests.nowhere.Tie as tie
-use Rattle.store_updates.proofs.requests.nowhere.Reads as reads
-use Rattle.store_updates.proofs.requests.nowhere.Lts as lts
-use Rattle.store.proofs.count.Reads as count-reads
 
--- src/requests.rt:19:28
 count-requires : tie.Need-count-requires
 count-requires c κs = search needs
 
 enum-told : tie.Need-enum-told
 enum-told c = search needs
 
--- src/requests.rt:20:34
 enum-told-2 : tie.Need-enum-told-2
 enum-told-2 c = search needs
 
--- src/requests.rt:20:9
 returns : tie.Need-returns
 returns c =
     let a = c .before .before .before .before .args in
     (nowhere-unread (a .bytes .now) (a .used) (sym (c .before .before .count .ensures) ∙ c .enum-told2 .given .1), tt)
 
--- src/requests.rt:15:1
 returns-2 : tie.Need-returns-2
 returns-2 c =
     let a = c .before .before .before .before .args in

@@ -1,7 +1,7 @@
 -- `sip_dialog_listing` meets its contract: what is handed over is the answer of the call. Assumes nothing.
 use borrow.Author.Needs.{needs}
-use Rattle.sip_dialog.proofs.stores.sip_dialog_listing.Statement.{statement}
-use Rattle.sip_dialog.proofs.stores.sip_dialog_listing.Tie as tie
+use Rattle.sip_dialog.proofs.store_readings.sip_dialog_listing.Statement.{statement}
+use Rattle.sip_dialog.proofs.store_readings.sip_dialog_listing.Tie as tie
 
 list-store-requires : tie.Need-list-store-requires
 list-store-requires c κs = search needs

@@ -1,0 +1,2 @@
+pub mod ReturnLaws
+pub mod ValueLaws

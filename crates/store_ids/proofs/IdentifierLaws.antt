@@ -1,0 +1,255 @@
+-- The identifiers of a store's records, a record at a time: what has been passed, what a turn adds, and what the call answers. Assumes nothing.
+use Prim.Native.Nat.{ℕ, _+_, _≤_, _<_}
+use native.Mathlib.Omega.{arith}
+use mathlib.Core.Path.{_≡_, refl, sym, ap, subst, _∙_}
+use mathlib.Core.List.{List, [], _∷_, _++_, append-assoc, append-nil}
+use mathlib.Core.Option.{none, some, Option·some-injective}
+use lib.ListN.{length, take, drop, length-append, length-drop}
+use lib.Seq.{length-take-le}
+use borrow.Author.Tests.{lt-ltb, le-ltb}
+use Rattle.limits.specs.Limits.{LimitSet}
+use Rattle.limits.specs.Outcome.{refused, given}
+use Rattle.limits.specs.declared.Refusal.{Refusal}
+use Rattle.limits.specs.declared.Refusal.the-variants.{BadStore, NoRoom}
+use Rattle.text.specs.declared.Span.{Span}
+use Rattle.edit.specs.Edit.{over, putAt}
+use Rattle.output.proofs.OutputLaws.{put-next}
+use Rattle.record.specs.Codec.{Reading, text, writeAll}
+use Rattle.record.specs.Record.{Record, image}
+use Rattle.record.proofs.CodecLaws.{Bytes, bytes-drop}
+use Rattle.record.proofs.StoreLaws.{EachFormed, decoded}
+use Rattle.record.proofs.WellFormedLaws.{image-round}
+use Rattle.image.specs.Places.{recordPlaces, recordFrom, idsOf}
+use Rattle.image.specs.declared.RecordAt.{RecordAt}
+use Rattle.image.specs.declared.RecordReading.the-variants.{Whole, Broken}
+use Rattle.image.specs.declared.sections.IdsAt.{IdsAt}
+use Rattle.image.proofs.AnswerLaws.{record-got}
+use Rattle.image_writer.proofs.FieldLaws.{text-size}
+use Rattle.image_writer.proofs.LieLaws.{Lie, record-lies}
+use Rattle.store.specs.Counting.{recordsHeld, countAnswer}
+use Rattle.store.specs.declared.Held.the-variants as held
+use Rattle.dialog.specs.Matching.{partIn}
+use Rattle.book.specs.Calls.{allIds, read, written}
+use Rattle.book.specs.Book.{Book, storeImage, storeRead, identifiersOf, reply, readingCause}
+use Rattle.book.specs.Store.{run}
+use Rattle.dialog_manager.specs.Search.{Stored, IdsWithin}
+use Rattle.dialog_manager.proofs.SearchLaws.{Turn, turn, ids-within}
+use Rattle.dialog_manager.proofs.LookupLaws.{Kept, store-refuses, replies}
+use Rattle.store_ids.specs.Identifiers.{idsIn, IdsShort, lengthAt, textsAt}
+
+-- ---- sizes
+
+-- a text that lies within the bytes, with its two length bytes
+pub part-size : (s : List ℕ) (v : Span) → v .start + v .length ≤ length s → length (text .write (partIn s v)) ≡ 2 + v .length
+part-size s v h =
+    let k : v .length ≤ length (drop (v .start) s) = omega (arith, length-drop (v .start) s) in
+    omega (arith, text-size (partIn s v), length-take-le (v .length) (drop (v .start) s) k)
+
+-- three of them
+texts-size : (s : List ℕ) (i : IdsAt) → IdsWithin s i → length (textsAt s i) ≡ lengthAt i
+texts-size s i w =
+    let a = text .write (partIn s (i .«call_id»)) in
+    let b = text .write (partIn s (i .«local_tag»)) in
+    let c = text .write (partIn s (i .«remote_tag»)) in
+    omega (arith, length-append a (b ++ c), length-append b c, part-size s (i .«call_id») (w .0), part-size s (i .«local_tag») (w .1), part-size s (i .«remote_tag») (w .2))
+
+-- ---- the records so far
+
+-- the records before `at` are passed, `front` is their identifiers
+pub record Passed (s : List ℕ) (at : ℕ) : Type 0 where
+  pub front : List ℕ
+  pub rest : Book
+  pub all : idsIn (storeRead s) ≡ front ++ identifiersOf rest
+  pub formed : EachFormed rest
+  pub ahead : drop at s ≡ storeImage rest
+  pub here : at ≤ length s
+  pub few : length front ≤ at
+
+-- none is passed
+unfoldable start : (s : List ℕ) → Bytes s → Stored s → Passed s 0
+start s hb k =
+    let d = decoded s (k .records) hb (k .are) in
+    record {
+      front = [];
+      rest = k .records;
+      all = ap idsIn (k .are);
+      formed = d .1;
+      ahead = d .0;
+      here = omega arith;
+      few = omega arith;
+    }
+
+-- a turn: the texts of the identifier that was read, and the identifiers passed with it
+pub record More (s : List ℕ) (at : ℕ) (g : Passed s at) (p : RecordAt) : Type 0 where
+  pub within : IdsWithin s (p .ids)
+  pub short : IdsShort (p .ids)
+  pub size : length (textsAt s (p .ids)) ≡ lengthAt (p .ids)
+  pub moves : at < p .end
+  pub after : Passed s (p .end)
+  pub grown : after .front ≡ g .front ++ textsAt s (p .ids)
+
+-- the first record of those left, and what is read where they begin
+record First (s : List ℕ) (at : ℕ) (g : Passed s at) : Type 0 where
+  value : Record
+  more : Book
+  splits : g .rest ≡ value ∷ more
+  formed : EachFormed (value ∷ more)
+  reads : image .read (drop at s) ≡ some (record { value = value; rest = storeImage more })
+
+module _ (s : List ℕ) (at : ℕ) (g : Passed s at) where
+  -- no more bytes than all
+  pub front-fits : length (g .front) ≤ length (idsIn (storeRead s))
+  front-fits = omega (arith, ap length (g .all), length-append (g .front) (identifiersOf (g .rest)))
+
+  -- all are passed
+  pub done : length s ≤ at → idsIn (storeRead s) ≡ g .front
+  unfolding writeAll identifiersOf
+  done h = by (g .rest) refl
+    where
+      by : (b : Book) → g .rest ≡ b → idsIn (storeRead s) ≡ g .front
+      by [] e = g .all ∙ (ap (λ (b : Book). g .front ++ identifiersOf b) e ∙ append-nil (g .front))
+      by (x ∷ more) e =
+          let z : length (drop at s) ≡ length (image .write x ++ storeImage more) = ap length (g .ahead ∙ ap storeImage e) in
+          absurd (omega (arith, h, z, length-drop at s, length-append (image .write x) (storeImage more)))
+
+  module _ (h : at < length s) where
+    -- bytes are left, so a record is
+    first : First s at g
+    unfolding writeAll
+    first = by (g .rest) refl
+      where
+        by : (b : Book) → g .rest ≡ b → First s at g
+        by [] e = absurd (let z : length (drop at s) ≡ 0 = ap length (g .ahead ∙ ap storeImage e) in omega (arith, h, z, length-drop at s))
+        by (x ∷ more) e =
+            let w : EachFormed (x ∷ more) = subst EachFormed e (g .formed) in
+            record {
+              value = x;
+              more = more;
+              splits = e;
+              formed = w;
+              reads = ap (image .read) (g .ahead ∙ ap storeImage e) ∙ image-round x (w .0) (storeImage more);
+            }
+
+    -- a record begins here
+    pub unbroken : recordFrom at (image .read (drop at s)) ≡ Broken → ⊥
+    unbroken e =
+        let k : Whole (recordPlaces at (first .value)) ≡ Broken = sym (ap (recordFrom at) (first .reads)) ∙ e in
+        let z : _≡_ {A = ℕ} 0 1 = cc in omega arith
+
+    -- its identifier comes next
+    pub next : (p : RecordAt) → Bytes s → recordFrom at (image .read (drop at s)) ≡ Whole p → More s at g p
+    unfolding identifiersOf
+    next p hb e =
+        let f = first in
+        let t : Turn s at p = turn s at hb (g .here) (record-got s at (g .here) e) in
+        let u : _≡_ {A = Reading Record} (record { value = t .step .value; rest = drop (p .end) s }) (record { value = f .value; rest = storeImage (f .more) }) = Option·some-injective _ _ (sym (t .step .reads) ∙ f .reads) in
+        let placed : p ≡ recordPlaces at (f .value) = t .placed ∙ ap (λ (y : Reading Record). recordPlaces at (y .value)) u in
+        let within : IdsWithin s (p .ids) = ids-within s at p t in
+        let k : Lie s (at + 2) (idsOf (f .value)) = record-lies s at (record { value = f .value; rest = storeImage (f .more) }) (bytes-drop at s hb) (f .reads) in
+        let texts : textsAt s (p .ids) ≡ text .write (f .value .callId) ++ (text .write (f .value .localTag) ++ text .write (f .value .remoteTag)) = rw (placed, k .callId, k .localTag, k .remoteTag) in
+        let n : length (textsAt s (p .ids)) ≡ lengthAt (p .ids) = texts-size s (p .ids) within in
+        let l : at + lengthAt (p .ids) ≤ p .end = rw placed (omega arith) in
+        let w = f .formed .0 in
+        record {
+          within = within;
+          short = rw placed (w .callId .0, w .localTag .0, w .remoteTag .0);
+          size = n;
+          moves = t .step .moves;
+          after = record {
+            front = g .front ++ textsAt s (p .ids);
+            rest = f .more;
+            all = g .all ∙ (ap (λ (b : Book). g .front ++ identifiersOf b) (f .splits) ∙ (ap (λ (l : List ℕ). g .front ++ (l ++ identifiersOf (f .more))) (sym texts) ∙ sym (append-assoc (g .front) (textsAt s (p .ids)) (identifiersOf (f .more)))));
+            formed = f .formed .1;
+            ahead = ap (λ (y : Reading Record). y .rest) u;
+            here = t .step .within;
+            few = omega (arith, g .few, n, l, length-append (g .front) (textsAt s (p .ids)));
+          };
+          grown = refl;
+        }
+
+-- ---- the size so far
+
+-- n is how many bytes the identifiers passed take
+pub record Measured (s : List ℕ) (at n : ℕ) : Type 0 where
+  pub passed : Passed s at
+  pub size : n ≡ length (passed .front)
+
+-- before the first
+pub measure : (s : List ℕ) → Bytes s → Stored s → Measured s 0 0
+unfolding start
+measure s hb k = record { passed = start s hb k; size = refl }
+
+module _ (s : List ℕ) (at n : ℕ) (f : Measured s at n) (p : RecordAt) (m : More s at (f .passed) p) {k : ℕ} (e : k ≡ lengthAt (p .ids)) where
+  -- the identifiers passed, with this one
+  one-more : n + k ≡ length (m .after .front)
+  one-more = omega (arith, e, f .size, m .size, ap length (m .grown), length-append (f .passed .front) (textsAt s (p .ids)))
+
+  -- one identifier more
+  pub measured : Measured s (p .end) (n + k)
+  measured = record { passed = m .after; size = one-more }
+
+  -- no larger than the bytes
+  pub small : n + k ≤ length s
+  small = omega (arith, one-more, m .after .few, m .after .here)
+
+-- ---- the output so far
+
+-- the identifiers passed stand over the front of the output, `to` is the place after them
+pub record Filled (s out₀ : List ℕ) (at to : ℕ) (out : List ℕ) : Type 0 where
+  pub passed : Passed s at
+  pub to-is : to ≡ length (passed .front)
+  pub are : out ≡ over (passed .front) out₀
+
+-- before the first
+pub fill : (s out : List ℕ) → Bytes s → Stored s → Filled s out 0 0 out
+unfolding start
+fill s out hb k = record { passed = start s hb k; to-is = refl; are = refl }
+
+module _ (s out₀ : List ℕ) (at to : ℕ) (out : List ℕ) (f : Filled s out₀ at to out) (room : length (idsIn (storeRead s)) ≤ length out₀) where
+  -- no byte more or less
+  pub same-long : length out ≡ length out₀
+  same-long =
+      let l = f .passed .front in
+      omega (arith, ap length (f .are), length-append l (drop (length l) out₀), length-drop (length l) out₀, front-fits s at (f .passed))
+
+  module _ (p : RecordAt) (m : More s at (f .passed) p) where
+    -- there is room for one identifier more
+    pub free : to + lengthAt (p .ids) ≤ length out
+    free = omega (arith, f .to-is, m .size, ap length (m .grown), length-append (f .passed .front) (textsAt s (p .ids)), front-fits s (p .end) (m .after), same-long)
+
+    -- it is written
+    pub filled : {next : ℕ} {new : List ℕ} → next ≡ to + length (textsAt s (p .ids)) → new ≡ putAt to (textsAt s (p .ids)) out → Filled s out₀ (p .end) next new
+    filled {next} {new} a b = record {
+      passed = m .after;
+      to-is = omega (arith, a, f .to-is, ap length (m .grown), length-append (f .passed .front) (textsAt s (p .ids)));
+      are = b
+          ∙ (ap (putAt to (textsAt s (p .ids))) (f .are)
+          ∙ (put-next (f .passed .front) (textsAt s (p .ids)) out₀ to (sym (f .to-is)) ∙ ap (λ (l : List ℕ). over l out₀) (sym (m .grown))));
+    }
+
+-- ---- the whole answer
+
+-- the arguments alone refuse nothing
+no-cause : (L : LimitSet) (room : ℕ) → readingCause L (allIds room) ≡ none
+unfolding readingCause
+no-cause L room = refl
+
+module _ (L : LimitSet) (n room : ℕ) (bytes : List ℕ) (used : ℕ) (hb : Bytes bytes) where
+  -- 3
+  pub unread : {cause : Refusal} → countAnswer (recordsHeld bytes used) ≡ held.Refused cause → refused BadStore ≡ run L (read n (allIds room)) bytes used .answer
+  unread e = store-refuses L n (allIds room) bytes used hb (no-cause L room) e
+
+  module _ (k : Kept bytes used) where
+    -- 18
+    pub too-long : room < length (idsIn (storeRead (take used bytes))) → refused NoRoom ≡ run L (read n (allIds room)) bytes used .answer
+    unfolding reply
+    too-long h =
+        let l : room < length (identifiersOf (k .records)) = rw (k .are) at h in
+        replies L n (allIds room) bytes used hb (no-cause L room) k (refused NoRoom) (rw (lt-ltb room (length (identifiersOf (k .records))) l))
+
+    -- all are written
+    pub fitting : length (idsIn (storeRead (take used bytes))) ≤ room → given (written (idsIn (storeRead (take used bytes)))) ≡ run L (read n (allIds room)) bytes used .answer
+    unfolding reply
+    fitting h =
+        let l : length (identifiersOf (k .records)) ≤ room = rw (k .are) at h in
+        replies L n (allIds room) bytes used hb (no-cause L room) k (given (written (idsIn (storeRead (take used bytes))))) (rw (k .are, le-ltb room (length (identifiersOf (k .records))) l))
