@@ -2,6 +2,7 @@
 //! on the same bytes in one run. Each figure is the median of several rounds after a warm-up.
 
 mod dialogs;
+mod store;
 
 use dialogs::dialogs;
 use sip_core::{block, Headers, SipUri};
@@ -28,6 +29,7 @@ pub fn run() -> bool {
     table("URI, a long user", uri_text, uri);
     table("CSeq number, leading zeros", cseq_block, cseq);
     dialogs();
+    store::stores();
     true
 }
 

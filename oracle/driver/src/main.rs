@@ -3,12 +3,14 @@
 //!
 //!     driver leaves [--calls N] [--seed S]     compares, prints the table, fails on any difference
 //!     driver dialogs [--calls N] [--seed S]    the same for creations, changes and readings of one record
+//!     driver store [--calls N] [--seed S]      the same for N lists of calls on a store of records
 //!     driver planted [--calls N] [--seed S]    plants one fault per operation and fails if any goes unreported
 //!     driver bench                             times both sides
 
 mod answer;
 mod bench;
 mod blocks;
+mod bounds;
 mod dialogs;
 mod messages;
 mod operations;
@@ -17,12 +19,13 @@ mod random;
 mod report;
 mod rules;
 mod run;
+mod store;
 mod texts;
 mod uris;
 
 use std::process::ExitCode;
 
-const USAGE: &str = "use: driver leaves|dialogs|planted [--calls N] [--seed S], driver bench";
+const USAGE: &str = "use: driver leaves|dialogs|store|planted [--calls N] [--seed S], driver bench";
 
 /// What the command line asks for.
 struct Options {
@@ -40,6 +43,7 @@ fn main() -> ExitCode {
     let good = match options.command.as_str() {
         "leaves" => report::leaves(options.calls, options.seed),
         "dialogs" => report::dialogs(options.calls, options.seed),
+        "store" => report::store(options.calls, options.seed),
         "planted" => report::planted(options.calls, options.seed),
         "bench" => bench::run(),
         _ => {

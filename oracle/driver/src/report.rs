@@ -1,41 +1,95 @@
-//! The tables and verdicts of `leaves`, `dialogs` and `planted`.
+//! The tables and verdicts of `leaves`, `dialogs`, `store` and `planted`.
 
-use crate::dialogs::{self, bounds};
+use crate::bounds;
+use crate::dialogs;
 use crate::operations;
-use crate::run::{compare_all, row_name, Operation, Tally, LEAST_CALLS, LEAST_IN_ROW, LEAST_LONGEST};
+use crate::run::{compare_all, row_name, Entry, Operation, Tally, LEAST_CALLS, LEAST_IN_ROW, LEAST_LONGEST};
+use crate::store::{self, Fault, FAULTS};
 
 /// Compares every operation on blocks, values, texts and numbers, and says whether all agree and every minimum is met.
 /// The environment variable PLANTED names an operation whose planted fault is to be put in.
 pub fn leaves(calls: usize, seed: u64) -> bool {
-    let Some(planted) = planted_name(&operations::all()) else {
+    let Some(planted) = planted_name(&names_of(&operations::all())) else {
         return false;
     };
     let mut sum = Sum::new();
     for operation in operations::all() {
         let tally = compare_all(operation, calls, seed, operation.name == planted);
-        sum.add(operation, tally);
+        sum.add(operation.entry(), tally);
     }
     sum.print_verdict()
 }
 
 /// The same for the operations on one record, and for the bounds that they must have met.
 pub fn dialogs(calls: usize, seed: u64) -> bool {
-    let Some(planted) = planted_name(&dialogs::all()) else {
+    let names = names_of(&dialogs::all());
+    let Some(planted) = planted_name(&names) else {
         return false;
     };
     let mut sum = Sum::new();
     for (operation, tally) in dialogs::compare_all(calls, seed, |name| name == planted) {
-        sum.add(operation, tally);
+        sum.add(operation.entry(), tally);
     }
-    sum.missed.extend(bounds::print());
+    sum.missed.extend(bounds::print(&names));
     sum.print_verdict()
 }
 
-/// The operation named by PLANTED, or none; nothing where there is no such operation.
-fn planted_name(operations: &[&Operation]) -> Option<String> {
+/// The same for so many lists of calls on a store. PLANTED names one of the store's faults.
+pub fn store(lists: usize, seed: u64) -> bool {
+    let names: Vec<&str> = FAULTS.iter().map(|fault| fault.name).collect();
+    let Some(planted) = planted_name(&names) else {
+        return false;
+    };
+    let planted: Vec<&Fault> = FAULTS.iter().filter(|fault| fault.name == planted).collect();
+    println!("{lists} random lists of calls, each from an empty store, and the directed ones\n");
+    let (tallies, mut faults) = store::compare_all(lists, seed, &planted).finish();
+    let mut sum = Sum::new();
+    let mut cells = Vec::new();
+    for (operation, own) in store::OPERATIONS.iter().zip(tallies) {
+        let of_fault = faults.iter().position(|(fault, _)| fault.operation == operation.name);
+        let tally = of_fault.map_or(own, |at| faults.remove(at).1);
+        cells.push(line_of_cells(*operation, &tally));
+        sum.add(*operation, tally);
+    }
+    print_cells(&cells);
+    let names: Vec<&str> = store::OPERATIONS.iter().map(|operation| operation.name).collect();
+    sum.missed.extend(bounds::print(&names));
+    sum.print_verdict()
+}
+
+/// The numbers that a call on a store can answer.
+const NUMBERS: [u8; 15] = [0, 1, 2, 3, 4, 9, 10, 11, 12, 13, 14, 15, 16, 17, 18];
+
+/// How often an operation answered each number; a point where it can't.
+fn line_of_cells(operation: Entry, tally: &Tally) -> String {
+    let cell = |number: &u8| match tally.rows.get(number) {
+        Some(count) => count.compared.to_string(),
+        None if operation.rows.contains(number) => "0".to_string(),
+        None => ".".to_string(),
+    };
+    let cells = NUMBERS.iter().map(|number| format!("{:>7}", cell(number)));
+    format!("{:<20}{}", operation.name, cells.collect::<String>())
+}
+
+/// Prints the operations by the numbers.
+fn print_cells(lines: &[String]) {
+    let head: String = NUMBERS.iter().map(|number| format!("{number:>7}")).collect();
+    println!("\n{:<20}{head}", "operation by number");
+    for line in lines {
+        println!("{line}");
+    }
+}
+
+/// The operations' names.
+fn names_of(operations: &[&Operation]) -> Vec<&'static str> {
+    operations.iter().map(|operation| operation.name).collect()
+}
+
+/// The name that PLANTED gives, or none; nothing where no operation or fault has it.
+fn planted_name(names: &[&str]) -> Option<String> {
     let planted = std::env::var("PLANTED").unwrap_or_default();
-    if !planted.is_empty() && operations.iter().all(|operation| operation.name != planted) {
-        println!("PLANTED: no operation is called {planted:?}");
+    if !planted.is_empty() && !names.contains(&planted.as_str()) {
+        println!("PLANTED: none is called {planted:?}; these are: {}", names.join(", "));
         return None;
     }
     Some(planted)
@@ -65,7 +119,7 @@ impl Sum {
     }
 
     /// Takes and prints an operation's counts.
-    fn add(&mut self, operation: &Operation, tally: Tally) {
+    fn add(&mut self, operation: Entry, tally: Tally) {
         print_rows(operation, &tally);
         self.operations += 1;
         self.compared += tally.total().compared;
@@ -100,7 +154,7 @@ impl Sum {
 }
 
 /// A line for each row of an operation.
-fn print_rows(operation: &Operation, tally: &Tally) {
+fn print_rows(operation: Entry, tally: &Tally) {
     let mut name = operation.name;
     let mut against = operation.against;
     for (row, count) in &tally.rows {
@@ -114,7 +168,7 @@ fn print_rows(operation: &Operation, tally: &Tally) {
 }
 
 /// What was met too seldom.
-fn missed_minimums(operation: &Operation, tally: &Tally) -> Vec<String> {
+fn missed_minimums(operation: Entry, tally: &Tally) -> Vec<String> {
     let mut missed = Vec::new();
     let name = operation.name;
     let total = tally.total().compared;
@@ -141,8 +195,11 @@ fn missed_minimums(operation: &Operation, tally: &Tally) -> Vec<String> {
     missed
 }
 
-/// Plants each operation's fault and says whether the run reports every one of them. The faults of operations on one
-/// record are all put in at once: each changes only what is compared of its own calls.
+/// In `planted` a list of calls stands for so many calls.
+const CALLS_PER_LIST: usize = 20;
+
+/// Plants each fault and says whether the run reports every one of them. The faults of operations on one record, and
+/// those of a store, are put in at once: each changes only what is compared of its own calls.
 pub fn planted(calls: usize, seed: u64) -> bool {
     println!(
         "{:<30} {:>9} {:>9}  planted fault",
@@ -150,10 +207,16 @@ pub fn planted(calls: usize, seed: u64) -> bool {
     );
     let mut faults = Vec::new();
     for operation in operations::all() {
-        faults.push(print_fault(operation, &compare_all(operation, calls, seed, true)));
+        let tally = compare_all(operation, calls, seed, true);
+        faults.push(print_fault(operation.name, operation.fault, &tally));
     }
     for (operation, tally) in dialogs::compare_all(calls, seed, |_| true) {
-        faults.push(print_fault(operation, &tally));
+        faults.push(print_fault(operation.name, operation.fault, &tally));
+    }
+    let of_store: Vec<&Fault> = FAULTS.iter().collect();
+    let (_, tallies) = store::compare_all(calls / CALLS_PER_LIST, seed, &of_store).finish();
+    for (fault, tally) in tallies {
+        faults.push(print_fault(fault.name, fault.what, &tally));
     }
     let all = faults.len();
     let unreported: Vec<&str> = faults.into_iter().flatten().collect();
@@ -165,9 +228,8 @@ pub fn planted(calls: usize, seed: u64) -> bool {
     unreported.is_empty()
 }
 
-/// Prints what became of an operation's fault; the operation's name if it went unreported.
-fn print_fault(operation: &Operation, tally: &Tally) -> Option<&'static str> {
-    let (name, fault) = (operation.name, operation.fault);
+/// Prints what became of a fault; its name if it went unreported.
+fn print_fault(name: &'static str, fault: &str, tally: &Tally) -> Option<&'static str> {
     let total = tally.total();
     println!("{name:<30} {:>9} {:>9}  {fault}", total.compared, total.differing);
     (total.differing == 0).then_some(name)

@@ -27,6 +27,25 @@ pub struct Operation {
     pub distort: fn(&Input, &mut Answer),
 }
 
+/// What the tables say of an operation: its name, what it is held against, the rows that it must meet.
+#[derive(Clone, Copy)]
+pub struct Entry {
+    pub name: &'static str,
+    pub against: &'static str,
+    pub rows: &'static [u8],
+}
+
+impl Operation {
+    /// The operation in the tables.
+    pub fn entry(&self) -> Entry {
+        Entry {
+            name: self.name,
+            against: self.against,
+            rows: self.rows,
+        }
+    }
+}
+
 /// How often a row was compared, and how often the two sides differed.
 #[derive(Debug, Clone, Copy, Default)]
 pub struct Count {
@@ -52,6 +71,18 @@ impl Tally {
         };
         self.rows.values().fold(Count::default(), add)
     }
+
+    /// Counts a call in its row; the first differing ones are kept in full.
+    pub fn count(&mut self, row: u8, same: bool, show: impl FnOnce() -> String) {
+        let count = self.rows.entry(row).or_default();
+        count.compared += 1;
+        if !same {
+            count.differing += 1;
+            if self.shown.len() < MOST_SHOWN {
+                self.shown.push(show());
+            }
+        }
+    }
 }
 
 /// The calls of an operation must be at least this many, and each row must be met at least this often.
@@ -65,7 +96,7 @@ pub const LEAST_LONGEST: u64 = 20;
 const MOST_SHOWN: usize = 3;
 
 /// What fills out numbers and lent output before a call; the calls take turns.
-const PATTERNS: [u64; 3] = [0xa5a5_a5a5_a5a5_a5a5, 0x5a3c_5a3c_5a3c_5a3c, u64::MAX];
+pub const PATTERNS: [u64; 3] = [0xa5a5_a5a5_a5a5_a5a5, 0x5a3c_5a3c_5a3c_5a3c, u64::MAX];
 
 /// Takes an operation's calls and compares them as they come.
 pub struct Feed<'a> {
@@ -125,12 +156,8 @@ impl<'a> Feed<'a> {
         let longest = input.texts.iter().any(|text| text.len() == LONGEST);
         self.tally.longest_read += u64::from(longest && expected.number != 1);
         let row = class(operation.outs, &expected);
-        let count = self.tally.rows.entry(row).or_default();
-        count.compared += 1;
-        if expected != answered {
-            count.differing += 1;
-            self.show(input, &expected, &answered);
-        }
+        let show = || describe(operation, input, &expected, &answered);
+        self.tally.count(row, expected == answered, show);
         own.unwrap_or(answered)
     }
 
@@ -143,20 +170,17 @@ impl<'a> Feed<'a> {
     pub fn turn(&self) -> usize {
         self.turn
     }
+}
 
-    /// Keeps a differing call in full.
-    fn show(&mut self, input: &Input, expected: &Answer, answered: &Answer) {
-        if self.tally.shown.len() < MOST_SHOWN {
-            let operation = self.operation;
-            self.tally.shown.push(format!(
-                "{}\n{}      expected {}\n      answered {}",
-                operation.name,
-                describe_input(operation, input),
-                describe_answer(operation, expected),
-                describe_answer(operation, answered),
-            ));
-        }
-    }
+/// A differing call in full.
+fn describe(operation: &Operation, input: &Input, expected: &Answer, answered: &Answer) -> String {
+    format!(
+        "{}\n{}      expected {}\n      answered {}",
+        operation.name,
+        describe_input(operation, input),
+        describe_answer(operation, expected),
+        describe_answer(operation, answered),
+    )
 }
 
 /// A call's arguments, a line each; bytes are escaped as Rust does.

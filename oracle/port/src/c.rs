@@ -306,4 +306,128 @@ extern "C" {
         place: *mut usize,
         length: *mut usize,
     ) -> u8;
+
+    // dialog: a store of records, lent with its room
+    pub fn sip_dialog_put(
+        image: *const u8,
+        image_len: usize,
+        store: *mut u8,
+        store_len: usize,
+        used: *mut usize,
+        created: *mut u64,
+    ) -> u8;
+    pub fn sip_dialog_request(
+        method: *const u8,
+        method_len: usize,
+        block: *const u8,
+        block_len: usize,
+        store: *mut u8,
+        store_len: usize,
+        used: *mut usize,
+    ) -> u8;
+    pub fn sip_dialog_response(
+        call_id: *const u8,
+        call_id_len: usize,
+        local_tag: *const u8,
+        local_tag_len: usize,
+        remote_tag: *const u8,
+        remote_tag_len: usize,
+        status: u16,
+        block: *const u8,
+        block_len: usize,
+        store: *mut u8,
+        store_len: usize,
+        used: *mut usize,
+    ) -> u8;
+    pub fn sip_dialog_terminate(
+        call_id: *const u8,
+        call_id_len: usize,
+        local_tag: *const u8,
+        local_tag_len: usize,
+        remote_tag: *const u8,
+        remote_tag_len: usize,
+        store: *mut u8,
+        store_len: usize,
+        used: *mut usize,
+    ) -> u8;
+    pub fn sip_dialog_next_local_cseq(
+        call_id: *const u8,
+        call_id_len: usize,
+        local_tag: *const u8,
+        local_tag_len: usize,
+        remote_tag: *const u8,
+        remote_tag_len: usize,
+        store: *mut u8,
+        store_len: usize,
+        used: *mut usize,
+        number: *mut u32,
+    ) -> u8;
+    pub fn sip_dialog_set_session_expires(
+        call_id: *const u8,
+        call_id_len: usize,
+        local_tag: *const u8,
+        local_tag_len: usize,
+        remote_tag: *const u8,
+        remote_tag_len: usize,
+        seconds: u64,
+        store: *mut u8,
+        store_len: usize,
+        used: *mut usize,
+        least: *mut u64,
+    ) -> u8;
+    pub fn sip_dialog_remove(
+        call_id: *const u8,
+        call_id_len: usize,
+        local_tag: *const u8,
+        local_tag_len: usize,
+        remote_tag: *const u8,
+        remote_tag_len: usize,
+        store: *mut u8,
+        store_len: usize,
+        used: *mut usize,
+        terminated: *mut u64,
+    ) -> u8;
+    pub fn sip_dialog_sweep(store: *mut u8, store_len: usize, used: *mut usize) -> u8;
+
+    // dialog: readings of a store
+    pub fn sip_dialog_get(
+        call_id: *const u8,
+        call_id_len: usize,
+        local_tag: *const u8,
+        local_tag_len: usize,
+        remote_tag: *const u8,
+        remote_tag_len: usize,
+        store: *const u8,
+        store_len: usize,
+        used: usize,
+        place: *mut usize,
+        length: *mut usize,
+    ) -> u8;
+    pub fn sip_dialog_find_by_call_id(
+        call_id: *const u8,
+        call_id_len: usize,
+        store: *const u8,
+        store_len: usize,
+        used: usize,
+        place: *mut usize,
+        length: *mut usize,
+    ) -> u8;
+    pub fn sip_dialog_find_by_request(
+        block: *const u8,
+        block_len: usize,
+        store: *const u8,
+        store_len: usize,
+        used: usize,
+        place: *mut usize,
+        length: *mut usize,
+    ) -> u8;
+    pub fn sip_dialog_count(store: *const u8, store_len: usize, used: usize, count: *mut usize) -> u8;
+    pub fn sip_dialog_all_ids(
+        store: *const u8,
+        store_len: usize,
+        used: usize,
+        out: *mut u8,
+        out_len: usize,
+        length: *mut usize,
+    ) -> u8;
 }

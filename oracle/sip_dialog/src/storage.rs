@@ -56,3 +56,9 @@ pub mod private {
 pub fn set_remote_cseq(dialog: &mut crate::Dialog, number: u32) {
     dialog.remote_cseq = number;
 }
+
+/// Holds a dialog in a manager past its limits, without counting it: for stores handed in that are over them, and to undo
+/// an insert.
+pub fn hold(manager: &crate::DialogManager, dialog: crate::Dialog) {
+    manager.dialogs.insert(dialog.id.clone(), dialog);
+}

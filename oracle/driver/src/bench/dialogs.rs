@@ -61,13 +61,18 @@ const UAC: Creator = (port::new_uac, Dialog::new_uac);
 const UAS: Creator = (port::new_uas, Dialog::new_uas);
 
 /// A request of the stand-in over these headers.
-fn parsed_request(block: &[u8]) -> Request {
+pub fn parsed_request(block: &[u8]) -> Request {
     request(Method::Invite, Headers::parse(block).expect("a block"))
 }
 
 /// A response of the stand-in over these headers.
 fn parsed_response(block: &[u8]) -> Response {
-    response(200, Headers::parse(block).expect("a block")).expect("a status")
+    response_of(200, block)
+}
+
+/// The same of this status.
+fn response_of(status: u16, block: &[u8]) -> Response {
+    response(status, Headers::parse(block).expect("a block")).expect("a status")
 }
 
 /// The URI of a text.
@@ -75,9 +80,9 @@ fn uri(text: &str) -> SipUri {
     SipUri::parse(text).expect("readable")
 }
 
-/// A dialog made from one block as request and response.
-fn made(block: &[u8]) -> Dialog {
-    let (request, response) = (parsed_request(block), parsed_response(block));
+/// A dialog made from one block as request and as response of this status.
+pub fn made(block: &[u8], status: u16) -> Dialog {
+    let (request, response) = (parsed_request(block), response_of(status, block));
     Dialog::new_uas(&request, &response, uri(LOCAL), uri(REMOTE)).expect("made")
 }
 
@@ -129,7 +134,7 @@ fn creation(block: &[u8], (port, rust): Creator) -> Vec<Side<'_>> {
 
 /// A request on a record. Before each call the record is put back: in the image by a copy, in the Rust by its number.
 fn update_from_request(block: &[u8]) -> Vec<Side<'_>> {
-    let mut before = made(block);
+    let mut before = made(block, 200);
     set_remote_cseq(&mut before, 7);
     let image = encode(&before);
     let lent = RefCell::new(vec![0; ROOM]);
@@ -170,7 +175,7 @@ fn update_from_request(block: &[u8]) -> Vec<Side<'_>> {
 
 /// A 200 on a Confirmed record, which it leaves as it is.
 fn update_from_response(block: &[u8]) -> Vec<Side<'_>> {
-    let dialog = made(block);
+    let dialog = made(block, 200);
     let mut image = encode(&dialog);
     let mut used = image.len();
     image.resize(ROOM, 0);

@@ -148,6 +148,26 @@ pub fn any_seconds(random: &mut Random) -> u64 {
 /// The method and block of a request on a record with that remote number.
 pub fn request(random: &mut Random, remote: u32) -> (Vec<u8>, Vec<u8>) {
     let odd = Odd::new(random, 5);
+    let (method, mut lines) = request_lines(random, remote, &odd);
+    noise(random, &mut lines);
+    (method, block(random, lines, odd.has(4)))
+}
+
+/// The same for a request that names the record as its peer does, or nearly.
+pub fn request_naming(random: &mut Random, id: &DialogId, remote: u32) -> (Vec<u8>, Vec<u8>) {
+    let odd = Odd::new(random, 6);
+    let (method, mut lines) = request_lines(random, remote, &odd);
+    if odd.has(5) {
+        identifier_lines(random, &mut lines, true);
+    } else {
+        named_lines(random, &mut lines, id);
+    }
+    noise_but_identifiers(random, &mut lines);
+    (method, block(random, lines, odd.has(4)))
+}
+
+/// A request's method, and its CSeq, Contact and Record-Route lines.
+fn request_lines(random: &mut Random, remote: u32, odd: &Odd) -> (Vec<u8>, Vec<Vec<u8>>) {
     let is_ack = random.one_in(3);
     let method = match is_ack {
         true if random.one_in(12) => recased(random, "ACK"),
@@ -166,8 +186,7 @@ pub fn request(random: &mut Random, remote: u32) -> (Vec<u8>, Vec<u8>) {
         lines = odd_cseq(random);
     }
     target_lines(random, &mut lines, odd.has(2), odd.has(3));
-    noise(random, &mut lines);
-    (method, block(random, lines, odd.has(4)))
+    (method, lines)
 }
 
 /// A CSeq number for a request: around the remote number and around the bounds.

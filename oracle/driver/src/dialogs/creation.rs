@@ -1,12 +1,12 @@
 //! `new_uac` and `new_uas`. The Rust says only `None` where it refuses; its number comes from its own helpers, asked in
 //! the order of its source.
 
-use super::bounds;
 use super::calls::{self, Call};
 use super::image;
 use super::order;
 use super::room;
 use crate::answer::{Answer, Input, Out, Width};
+use crate::bounds;
 use crate::messages::{request, response};
 use crate::random::Random;
 use crate::rules::{self, LONGEST};
@@ -249,6 +249,8 @@ pub fn error_number(error: DialogError) -> u8 {
         DialogError::CSeqJumpTooLarge { .. } => 12,
         DialogError::SessionExpiresTooSmall { min: 90, .. } => 13,
         DialogError::SessionExpiresTooLarge { .. } => 14,
+        DialogError::TooManyDialogs { max: 10_000 } => 16,
+        DialogError::TooManyDialogs { max: 100 } => 17,
         other => panic!("the Rust says {other}"),
     }
 }

@@ -57,6 +57,15 @@ pub fn state_number(state: DialogStateType) -> u8 {
     }
 }
 
+/// The state's name.
+pub fn state_name(state: DialogStateType) -> &'static str {
+    match state {
+        DialogStateType::Early => "Early",
+        DialogStateType::Confirmed => "Confirmed",
+        DialogStateType::Terminated => "Terminated",
+    }
+}
+
 /// 1 uac, 2 uas.
 pub fn refresher_number(role: RefresherRole) -> u32 {
     match role {
@@ -111,7 +120,7 @@ impl Fields {
 }
 
 /// A text: two length bytes, then its bytes.
-fn text_field(text: &str) -> Vec<u8> {
+pub fn text_field(text: &str) -> Vec<u8> {
     let length = u16::try_from(text.len()).expect("a text's length fits 16 bits");
     [length.to_be_bytes().as_slice(), text.as_bytes()].concat()
 }
@@ -184,17 +193,34 @@ pub struct Record {
 
 /// The record of exactly one image; nothing where the bytes aren't one.
 pub fn decode(image: &[u8]) -> Option<Record> {
-    let record = read(image)?;
-    assert_eq!(
-        encode(&record.dialog),
-        image,
-        "the run's image isn't the one of its record"
-    );
-    Some(record)
+    let (record, length) = front(image)?;
+    (length == image.len()).then_some(record)
 }
 
-/// The fields in bit order, then the end.
-fn read(image: &[u8]) -> Option<Record> {
+/// The records of images one after another; nothing where the bytes aren't whole images.
+pub fn decode_all(mut bytes: &[u8]) -> Option<Vec<Record>> {
+    let mut records = Vec::new();
+    while !bytes.is_empty() {
+        let (record, length) = front(bytes)?;
+        records.push(record);
+        bytes = &bytes[length..];
+    }
+    Some(records)
+}
+
+/// The record of the image at the front, and that image's length.
+fn front(bytes: &[u8]) -> Option<(Record, usize)> {
+    let (record, length) = read(bytes)?;
+    assert_eq!(
+        encode(&record.dialog),
+        &bytes[..length],
+        "the run's image isn't the one of its record"
+    );
+    Some((record, length))
+}
+
+/// The fields in bit order, and where they end.
+fn read(image: &[u8]) -> Option<(Record, usize)> {
     let mut reader = Reader { image, at: 0, map: 0 };
     reader.map = reader.map()?;
     let id = [reader.id(CALL_ID)?, reader.id(LOCAL_TAG)?, reader.id(REMOTE_TAG)?];
@@ -206,7 +232,7 @@ fn read(image: &[u8]) -> Option<Record> {
     let seconds = reader.number(SECONDS)?;
     let refresher = reader.number(REFRESHER)?;
     let routes = reader.routes()?;
-    if reader.at != image.len() || local == Some(0) || remote == Some(0) {
+    if local == Some(0) || remote == Some(0) {
         return None;
     }
     let text = |place: &Range<usize>| std::str::from_utf8(&image[place.clone()]).expect("ASCII");
@@ -226,12 +252,14 @@ fn read(image: &[u8]) -> Option<Record> {
         is_uac: state & 4 != 0,
     };
     let dialog = parts.dialog();
-    (dialog.secure() == (state & 8 != 0)).then_some(Record {
+    let secure = dialog.secure();
+    let record = Record {
         dialog,
         id,
         uris,
         routes,
-    })
+    };
+    (secure == (state & 8 != 0)).then_some((record, reader.at))
 }
 
 /// The state of a state byte, whose upper four bits must be 0.

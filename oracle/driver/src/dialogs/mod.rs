@@ -1,16 +1,16 @@
 //! Creations, changes and readings of one record, compared with the Rust's `Dialog`: every byte of the image, every lent
 //! byte around it, every number.
 
-pub mod bounds;
-mod calls;
-mod creation;
-mod image;
+pub mod calls;
+pub mod creation;
+pub mod image;
 mod order;
 mod readings;
-mod records;
-mod room;
-mod updates;
+pub mod records;
+pub mod room;
+pub mod updates;
 
+use crate::bounds;
 use crate::random::Random;
 use crate::run::{Feed, Operation, Tally};
 use calls::Call;

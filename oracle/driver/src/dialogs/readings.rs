@@ -1,11 +1,11 @@
 //! Readings of one record's image: the Rust's accessors, `matches_request` and `needs_refresh`. The texts are the image's own
 //! bytes; the places are the run's own, held against the Rust's texts.
 
-use super::bounds;
 use super::calls::{self, Call};
 use super::image::{self, Record};
 use super::{each_image, Make};
 use crate::answer::{Answer, Input, Out, Width, NOTHING};
+use crate::bounds;
 use crate::messages::request;
 use crate::operations::{lent_part, take_part, PART, YES};
 use crate::places;

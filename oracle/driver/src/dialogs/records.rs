@@ -36,13 +36,18 @@ pub fn templates() -> Vec<Vec<u8>> {
 
 /// An image of a record of any kind.
 pub fn record(random: &mut Random) -> Vec<u8> {
+    image::encode(&parts(random).dialog())
+}
+
+/// The fields of a record of any kind.
+pub fn parts(random: &mut Random) -> Parts {
     let states = [
         DialogStateType::Early,
         DialogStateType::Confirmed,
         DialogStateType::Terminated,
     ];
     let roles = [None, Some(RefresherRole::Uac), Some(RefresherRole::Uas)];
-    let parts = Parts {
+    Parts {
         id: DialogId::unchecked_new(id_text(random), id_text(random), id_text(random)),
         state: random.pick(&states),
         target: uri(random),
@@ -55,8 +60,7 @@ pub fn record(random: &mut Random) -> Vec<u8> {
         refresher: random.pick(&roles),
         routes: routes(random),
         is_uac: random.one_in(2),
-    };
-    image::encode(&parts.dialog())
+    }
 }
 
 /// The longest text of an image.

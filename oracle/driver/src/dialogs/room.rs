@@ -1,13 +1,13 @@
 //! Lent bytes: an image with the room behind it, or room for a new one. Guard bytes stand before and behind them, and all
 //! of them are compared.
 
-use super::bounds;
 use super::image::{self, Parts, Record};
 use crate::answer::{Answer, Input};
-use sip_dialog::{Dialog, DialogStateType};
+use crate::bounds;
+use sip_dialog::Dialog;
 
 /// How many guard bytes stand on each side.
-const GUARD: usize = 16;
+pub const GUARD: usize = 16;
 
 /// Where a change has its image: the lent bytes are the first text, the used length is the first number and the first
 /// out number.
@@ -16,8 +16,13 @@ pub const USED: usize = 0;
 
 /// Lends these bytes between guard bytes.
 pub fn lend(answer: &mut Answer, bytes: &[u8]) {
-    let guard = [answer.pattern as u8; GUARD];
-    answer.bytes = [guard.as_slice(), bytes, &guard].concat();
+    answer.bytes = guarded(bytes, answer.pattern);
+}
+
+/// These bytes between guard bytes of a pattern.
+pub fn guarded(bytes: &[u8], pattern: u64) -> Vec<u8> {
+    let guard = [pattern as u8; GUARD];
+    [guard.as_slice(), bytes, &guard].concat()
 }
 
 /// Lends `length` bytes, filled with the pattern.
@@ -49,12 +54,7 @@ pub fn used_record(operation: &'static str, input: &Input) -> Result<Record, u8>
     }
     let used = usize::try_from(used).map_err(|_| 3)?;
     let record = image::decode(lent.get(..used).ok_or(3)?).ok_or(3)?;
-    let state = match record.dialog.state() {
-        DialogStateType::Early => "Early",
-        DialogStateType::Confirmed => "Confirmed",
-        DialogStateType::Terminated => "Terminated",
-    };
-    bounds::met(operation, "state", state);
+    bounds::met(operation, "state", image::state_name(record.dialog.state()));
     Ok(record)
 }
 

@@ -1,7 +1,6 @@
 //! Changes of one record: the image goes into the Rust as a `Dialog`, the Rust's method is called, and the dialog that it
 //! leaves is written as an image.
 
-use super::bounds;
 use super::calls::{self, Call};
 use super::creation::{error_number, estimate, limit, meet_routes, method_of};
 use super::image::{self, Record};
@@ -10,11 +9,12 @@ use super::records;
 use super::room::{self, IMAGE, USED};
 use super::{each_image, Make};
 use crate::answer::{Answer, Input, Out, Width};
+use crate::bounds;
 use crate::messages::{request, response};
 use crate::random::Random;
 use crate::rules;
 use crate::run::Operation;
-use sip_core::Response;
+use sip_core::{Headers, Request, Response};
 use sip_dialog::storage::private;
 use sip_dialog::{Dialog, DialogError, DialogStateType};
 use std::time::Duration;
@@ -232,52 +232,73 @@ fn expect_request(input: &Input, answer: &mut Answer) -> Result<(), u8> {
     limit(REQUEST, &[("block, bytes", block), ("method, bytes", method)])?;
     let headers = rules::headers(block)?;
     let before = room::used_record(REQUEST, input)?.dialog;
-    let request = request(method_of(method), headers);
-    let cseq = private::parse_cseq_number(request.headers());
-    meet_cseq(&before, method == b"ACK", cseq);
     let mut dialog = before.clone();
-    if let Err(error) = dialog.update_from_request(&request) {
-        assert_eq!(image::encode(&dialog), image::encode(&before), "refused, but changed");
+    take_request(REQUEST, &mut dialog, &request(method_of(method), headers))?;
+    room::leave(REQUEST, answer, &dialog)?;
+    meet_target(REQUEST, sizes(input, answer), [&before, &dialog]);
+    Ok(())
+}
+
+/// The Rust's method on a request, or the number of its refusal.
+pub fn take_request(operation: &'static str, dialog: &mut Dialog, request: &Request) -> Result<(), u8> {
+    let before = dialog.clone();
+    let cseq = private::parse_cseq_number(request.headers());
+    meet_cseq(operation, &before, request.method().as_str() == "ACK", cseq);
+    if let Err(error) = dialog.update_from_request(request) {
+        assert_eq!(image::encode(dialog), image::encode(&before), "refused, but changed");
         let zero = error == DialogError::InvalidCSeq && cseq == Some(0);
         return Err(if zero { 9 } else { error_number(error) });
     }
     if let Some(contact) = private::extract_contact_uri(request.headers()) {
-        bounds::number(REQUEST, "Contact, estimate", estimate(&contact));
+        bounds::number(operation, "Contact, estimate", estimate(&contact));
     }
-    room::leave(REQUEST, answer, &dialog)?;
-    meet_target(REQUEST, input, answer, [&before, &dialog]);
     Ok(())
 }
 
 /// Says which numbers a request met.
-fn meet_cseq(before: &Dialog, is_ack: bool, cseq: Option<u32>) {
+fn meet_cseq(operation: &'static str, before: &Dialog, is_ack: bool, cseq: Option<u32>) {
     let (Some(cseq), remote) = (cseq.map(u64::from), u64::from(before.remote_cseq())) else {
         return;
     };
     if is_ack {
-        bounds::number(REQUEST, "ACK, CSeq", cseq);
-        bounds::above(REQUEST, "ACK minus remote number", cseq, remote);
+        bounds::number(operation, "ACK, CSeq", cseq);
+        bounds::above(operation, "ACK minus remote number", cseq, remote);
         if cseq == remote {
-            bounds::number(REQUEST, "ACK equal to remote number", cseq);
+            bounds::number(operation, "ACK equal to remote number", cseq);
         }
     } else {
-        bounds::number(REQUEST, "CSeq", cseq);
-        bounds::number(REQUEST, "remote number", remote);
+        bounds::number(operation, "CSeq", cseq);
+        bounds::number(operation, "remote number", remote);
         if remote > 0 {
-            bounds::above(REQUEST, "CSeq minus remote number", cseq, remote);
+            bounds::above(operation, "CSeq minus remote number", cseq, remote);
         }
     }
 }
 
+/// How many bytes are used before an accepted change and after it, and how many are lent.
+pub struct Sizes {
+    pub before: usize,
+    pub after: usize,
+    pub lent: usize,
+}
+
+/// Those of a change of one image.
+fn sizes(input: &Input, answer: &Answer) -> Sizes {
+    Sizes {
+        before: input.numbers[USED] as usize,
+        after: answer.outs[USED] as usize,
+        lent: input.texts[IMAGE].len(),
+    }
+}
+
 /// Says whether an accepted result fits though all but its target grew, and only because its target became shorter.
-fn meet_target(operation: &'static str, input: &Input, answer: &Answer, [before, after]: [&Dialog; 2]) {
+pub fn meet_target(operation: &'static str, sizes: Sizes, [before, after]: [&Dialog; 2]) {
     let [old, new] = [before, after].map(|dialog| dialog.remote_target().as_str().len());
-    let used = input.numbers[USED] as usize;
-    let rest_before = used - old;
-    let rest_after = answer.outs[USED] as usize - new;
+    let rest_before = sizes.before - old;
+    let rest_after = sizes.after - new;
     if rest_after > rest_before {
         bounds::met(operation, "result", "fits though its numbers grow");
-        if rest_after + old > input.texts[IMAGE].len() {
+        if rest_after + old > sizes.lent {
             bounds::met(operation, "result", "fits by its shorter target alone");
         }
     }
@@ -300,34 +321,38 @@ fn expect_response(input: &Input, answer: &mut Answer) -> Result<(), u8> {
     limit(RESPONSE, &[("block, bytes", block)])?;
     let headers = rules::headers(block)?;
     let before = room::used_record(RESPONSE, input)?.dialog;
-    let status = input.numbers[1] as u16;
-    // Outside 100 to 699 the Rust can make no response; 600 is no 2xx either.
-    let code = if (100..700).contains(&status) { status } else { 600 };
-    let response = response(code, headers).expect("a status");
-    meet_response(&before, status, &response);
     let mut dialog = before.clone();
-    dialog.update_from_response(&response);
+    take_response(RESPONSE, &mut dialog, input.numbers[1] as u16, headers);
     room::leave(RESPONSE, answer, &dialog)?;
-    meet_target(RESPONSE, input, answer, [&before, &dialog]);
+    meet_target(RESPONSE, sizes(input, answer), [&before, &dialog]);
     Ok(())
 }
 
+/// The Rust's method on a response of these headers.
+pub fn take_response(operation: &'static str, dialog: &mut Dialog, status: u16, headers: Headers) {
+    // Outside 100 to 699 the Rust can make no response; 600 is no 2xx either.
+    let code = if (100..700).contains(&status) { status } else { 600 };
+    let response = response(code, headers).expect("a status");
+    meet_response(operation, dialog, status, &response);
+    dialog.update_from_response(&response);
+}
+
 /// Says what a response met.
-fn meet_response(before: &Dialog, status: u16, response: &Response) {
+fn meet_response(operation: &'static str, before: &Dialog, status: u16, response: &Response) {
     match before.state() {
-        DialogStateType::Early => bounds::number(RESPONSE, "status of an Early record", status),
-        DialogStateType::Confirmed => bounds::number(RESPONSE, "status of a Confirmed record", status),
+        DialogStateType::Early => bounds::number(operation, "status of an Early record", status),
+        DialogStateType::Confirmed => bounds::number(operation, "status of a Confirmed record", status),
         DialogStateType::Terminated => {}
     }
     if before.state() == DialogStateType::Early && (200..300).contains(&status) {
         let routes = private::build_route_set(response.headers(), true);
-        meet_routes(RESPONSE, "confirming, routes", "confirming, route's estimate", &routes);
+        meet_routes(operation, "confirming, routes", "confirming, route's estimate", &routes);
     }
     if let Some(contact) = private::extract_contact_uri(response.headers()) {
-        bounds::number(RESPONSE, "Contact, estimate", estimate(&contact));
+        bounds::number(operation, "Contact, estimate", estimate(&contact));
     }
     if let (Some(interval), _) = private::extract_session_timer(response) {
-        bounds::number(RESPONSE, "Session-Expires", interval.as_secs());
+        bounds::number(operation, "Session-Expires", interval.as_secs());
     }
 }
 
@@ -358,11 +383,16 @@ fn expect_terminate(input: &Input, answer: &mut Answer) -> Result<(), u8> {
 fn expect_next(input: &Input, answer: &mut Answer) -> Result<(), u8> {
     room::lend_image(input, answer);
     let Record { mut dialog, .. } = room::used_record(NEXT, input)?;
-    bounds::number(NEXT, "local number", dialog.local_cseq());
-    let number = dialog.next_local_cseq();
+    let number = raise_local(NEXT, &mut dialog);
     room::leave(NEXT, answer, &dialog)?;
-    answer.outs[1] = u64::from(number);
+    answer.outs[1] = number;
     Ok(())
+}
+
+/// The Rust's method on the local number, which it answers.
+pub fn raise_local(operation: &'static str, dialog: &mut Dialog) -> u64 {
+    bounds::number(operation, "local number", dialog.local_cseq());
+    u64::from(dialog.next_local_cseq())
 }
 
 /// The dialog that a change is given, if its used bytes are an image.
@@ -372,22 +402,24 @@ fn before(input: &Input) -> Option<Dialog> {
     Some(record.dialog)
 }
 
-/// The Rust's check of the interval. Over 32 bits of seconds its cast loses bits; document 01 gives 14.
+/// The Rust's interval.
 fn expect_set(input: &Input, answer: &mut Answer) -> Result<(), u8> {
     room::lend_image(input, answer);
     let Record { mut dialog, .. } = room::used_record(SET, input)?;
-    let seconds = input.numbers[1];
-    bounds::number(SET, "seconds", seconds);
+    set_interval(SET, &mut dialog, input.numbers[1]).inspect_err(|number| {
+        if *number == 13 {
+            answer.outs[1] = 90;
+        }
+    })?;
+    room::leave(SET, answer, &dialog)
+}
+
+/// The Rust's check of an interval in seconds. Over 32 bits its cast loses bits; document 01 gives 14.
+pub fn set_interval(operation: &'static str, dialog: &mut Dialog, seconds: u64) -> Result<(), u8> {
+    bounds::number(operation, "seconds", seconds);
     if seconds > u64::from(u32::MAX) {
         return Err(14);
     }
     let said = dialog.set_session_expires(Duration::from_secs(seconds));
-    said.map_err(|error| {
-        let number = error_number(error);
-        if number == 13 {
-            answer.outs[1] = 90;
-        }
-        number
-    })?;
-    room::leave(SET, answer, &dialog)
+    said.map_err(error_number)
 }

@@ -1,17 +1,12 @@
-//! The bounds at which the two sides could part, and how often each side of each was met. The expected side says what it
-//! meets, from the values that it reads; a bound that is met too seldom fails the run.
+//! The bounds of the operations on one record and of those on a store.
 
-use std::cell::{Cell, RefCell};
-use std::collections::HashMap;
-
-/// Each side of a bound must be met at least this often.
-const LEAST_AT_BOUND: u64 = 20;
+use super::Bound;
 
 const CREATIONS: &[&str] = &["new_uac", "new_uas"];
-const REQUEST: &[&str] = &["image_update_from_request"];
-const RESPONSE: &[&str] = &["image_update_from_response"];
-const NEXT: &[&str] = &["image_next_local_cseq"];
-const SET: &[&str] = &["image_set_session_expires"];
+const REQUEST: &[&str] = &["image_update_from_request", "request"];
+const RESPONSE: &[&str] = &["image_update_from_response", "response"];
+const NEXT: &[&str] = &["image_next_local_cseq", "next_local_cseq"];
+const SET: &[&str] = &["image_set_session_expires", "set_session_expires"];
 const MATCHES: &[&str] = &["image_matches_request"];
 const REFRESH: &[&str] = &["image_needs_refresh"];
 
@@ -50,10 +45,43 @@ const IMAGES: &[&str] = &[
     "image_route",
 ];
 
-/// For these operations, what is bounded, and the values or cases on the sides of the bound.
-type Bound = (&'static [&'static str], &'static str, &'static [&'static str]);
+/// All that take a store; those that change a record; those of them that can make it larger; those by identifier.
+const STORES: &[&str] = &[
+    "put",
+    "request",
+    "response",
+    "terminate",
+    "next_local_cseq",
+    "set_session_expires",
+    "remove",
+    "sweep",
+    "get",
+    "find_by_call_id",
+    "find_by_request",
+    "count",
+    "all_ids",
+];
+const ROUNDS: &[&str] = &[
+    "request",
+    "response",
+    "terminate",
+    "next_local_cseq",
+    "set_session_expires",
+];
+const GROWING_STORES: &[&str] = &["put", "request", "response", "next_local_cseq", "set_session_expires"];
+const BY_ID: &[&str] = &[
+    "response",
+    "terminate",
+    "next_local_cseq",
+    "set_session_expires",
+    "remove",
+    "get",
+];
 
-const BOUNDS: &[Bound] = &[
+/// The counts at which a rise ends.
+const COUNTS: &[&str] = &["0", "18446744073709551614", "18446744073709551615"];
+
+pub const BOUNDS: &[Bound] = &[
     (CREATIONS, "method, bytes", &["0", "8192", "8193"]),
     (CREATIONS, "request, bytes", &["0", "8192", "8193"]),
     (CREATIONS, "response, bytes", &["0", "8192", "8193"]),
@@ -163,95 +191,70 @@ const BOUNDS: &[Bound] = &[
     (&["image_numbers"], "seconds", &["none", "0", "4294967295"]),
     (&["image_numbers"], "local number", &["0", "1", "4294967295"]),
     (&["image_numbers"], "remote number", &["0", "1", "4294967295"]),
+    (STORES, "records", &["0", "1", "2", "over 12", "10000"]),
+    (STORES, "lent bytes", &["0"]),
+    (
+        STORES,
+        "used bytes",
+        &["as many as lent", "one more than lent", "the largest number"],
+    ),
+    (
+        STORES,
+        "store",
+        &["a byte changed", "cut off", "a byte behind it", "one identifier twice"],
+    ),
+    (
+        GROWING_STORES,
+        "result",
+        &["one byte less than lent", "as large as lent", "one byte more than lent"],
+    ),
+    (
+        &["terminate"],
+        "result",
+        &["one byte less than lent", "as large as lent"],
+    ),
+    (ROUNDS, "state", &["Early", "Confirmed", "Terminated"]),
+    (ROUNDS, "put back by the Rust's insert", &["yes", "no"]),
+    (ROUNDS, "accepted, records", &["1", "10000", "10001"]),
+    (
+        &["request", "find_by_request"],
+        "identifier",
+        &["no part empty", "an empty tag", "an empty Call-ID", "a part absent"],
+    ),
+    (BY_ID, "Call-ID, bytes", &["0", "8192", "8193"]),
+    (BY_ID, "local tag, bytes", &["0", "8192", "8193"]),
+    (BY_ID, "remote tag, bytes", &["0", "8192", "8193"]),
+    (&["put"], "records", &["9999", "10001"]),
+    (
+        &["put"],
+        "in the place of",
+        &["none", "Early", "Confirmed", "Terminated"],
+    ),
+    (
+        &["put"],
+        "at 10,000 in the place of",
+        &["none", "Early", "Confirmed", "Terminated"],
+    ),
+    (&["put"], "new Early, other Early", &["0", "99", "100", "101"]),
+    (&["put"], "Early over Early, other Early", &["0", "99", "100"]),
+    (&["put"], "Early over another, other Early", &["99", "100"]),
+    (&["put"], "no Early, other Early", &["99", "100"]),
+    (&["put"], "created", COUNTS),
+    (&["request"], "records", &["10001"]),
+    (
+        &["remove"],
+        "record",
+        &["the only one", "the first", "between others", "the last"],
+    ),
+    (&["remove"], "terminated", COUNTS),
+    (&["sweep"], "swept", &["0", "1", "2", "all"]),
+    (&["find_by_call_id"], "Call-ID, bytes", &["0", "8192", "8193"]),
+    (&["find_by_call_id"], "of the Call-ID", &["0", "1", "2"]),
+    (&["find_by_request"], "block, bytes", &["0", "8192", "8193"]),
+    (&["all_ids"], "lent output", &["0"]),
+    (
+        &["all_ids"],
+        "result",
+        &["one byte less than lent", "as large as lent", "one byte more than lent"],
+    ),
 ];
-
-/// An operation and what is bounded.
-type Key = (&'static str, &'static str);
-
-thread_local! {
-    static MET: RefCell<HashMap<Key, Vec<(&'static str, u64)>>> = RefCell::new(empty());
-    static QUIET: Cell<bool> = const { Cell::new(false) };
-}
-
-/// No bound met yet.
-fn empty() -> HashMap<Key, Vec<(&'static str, u64)>> {
-    let mut met: HashMap<Key, Vec<_>> = HashMap::new();
-    for (operations, what, sides) in BOUNDS {
-        for operation in *operations {
-            let sides = sides.iter().map(|side| (*side, 0));
-            met.entry((operation, what)).or_default().extend(sides);
-        }
-    }
-    met
-}
-
-/// Says that an operation met a case; nothing is counted where it is none of the listed.
-pub fn met(operation: &'static str, what: &'static str, side: &str) {
-    if QUIET.get() {
-        return;
-    }
-    MET.with_borrow_mut(|met| {
-        let sides = met.get_mut(&(operation, what)).expect("a listed bound");
-        for (_, count) in sides.iter_mut().filter(|(listed, _)| *listed == side) {
-            *count += 1;
-        }
-    });
-}
-
-/// Says that an operation met a number.
-pub fn number(operation: &'static str, what: &'static str, number: impl std::fmt::Display) {
-    if !QUIET.get() {
-        met(operation, what, &number.to_string());
-    }
-}
-
-/// Says by how much one number is above another.
-pub fn above(operation: &'static str, what: &'static str, number: u64, other: u64) {
-    self::number(operation, what, i128::from(number) - i128::from(other));
-}
-
-/// Says how a result compares with its lent bytes.
-pub fn room(operation: &'static str, result: usize, lent: usize) {
-    let side = match result as i64 - lent as i64 {
-        -1 => "one byte less than lent",
-        0 => "as large as lent",
-        1 => "one byte more than lent",
-        _ => return,
-    };
-    met(operation, "result", side);
-}
-
-/// Works without counting, for calls that are only made ready.
-pub fn quietly<T>(work: impl FnOnce() -> T) -> T {
-    QUIET.set(true);
-    let result = work();
-    QUIET.set(false);
-    result
-}
-
-/// Prints how often each side of each bound was met; answers what was met too seldom.
-pub fn print() -> Vec<String> {
-    let mut missed = Vec::new();
-    println!("\n{:<30} {:<30} how often each side was met", "operation", "bound");
-    for (operations, what, sides) in BOUNDS {
-        for operation in *operations {
-            let counts = counts(operation, what, sides);
-            let texts: Vec<String> = counts.iter().map(|(side, count)| format!("{side}: {count}")).collect();
-            println!("{operation:<30} {what:<30} {}", texts.join(", "));
-            for (side, count) in counts.iter().filter(|(_, count)| *count < LEAST_AT_BOUND) {
-                missed.push(format!(
-                    "{operation}, {what}, {side}: met {count} times, {LEAST_AT_BOUND} are owed"
-                ));
-            }
-        }
-    }
-    missed
-}
-
-/// How often each of these sides was met.
-fn counts(operation: &'static str, what: &'static str, sides: &[&str]) -> Vec<(&'static str, u64)> {
-    MET.with_borrow(|met| {
-        let counts = met[&(operation, what)].iter().copied();
-        counts.filter(|(side, _)| sides.contains(side)).collect()
-    })
-}

@@ -1,0 +1,69 @@
+//! The port's side: one call of its C function, given the first bytes of the store's memory.
+
+use super::call::{Call, Id};
+use super::memory::{Left, Store};
+use crate::dialogs::room;
+use port::store::{self, Place};
+
+/// Asks the port, which is lent `length` bytes; `left` holds what the call is given, and then what it leaves.
+pub fn ask(call: &Call, length: usize, left: &mut Left) {
+    let Store {
+        guarded,
+        used,
+        created,
+        terminated,
+    } = &mut left.store;
+    let lent = store::Store {
+        bytes: &mut room::lent(guarded)[..length],
+        used,
+    };
+    let outs = &mut left.outs;
+    left.number = match call {
+        Call::Put(image) => store::put(image, lent, created),
+        Call::Request { method, block } => store::request(method, block, lent),
+        Call::Response { id, status, block } => store::response(texts(id), *status, block, lent),
+        Call::Terminate(id) => store::terminate(texts(id), lent),
+        Call::Next(id) => {
+            let mut raised = outs[0] as u32;
+            let number = store::next_local_cseq(texts(id), lent, &mut raised);
+            outs[0] = u64::from(raised);
+            number
+        }
+        Call::Set { id, seconds } => store::set_session_expires(texts(id), *seconds, lent, &mut outs[0]),
+        Call::Remove(id) => store::remove(texts(id), lent, terminated),
+        Call::Sweep => store::sweep(lent),
+        Call::Get(id) => find(outs, |found| store::get(texts(id), lent.bytes, *lent.used, found)),
+        Call::FindByCallId(call_id) => find(outs, |found| {
+            store::find_by_call_id(call_id, lent.bytes, *lent.used, found)
+        }),
+        Call::FindByRequest(block) => find(outs, |found| {
+            store::find_by_request(block, lent.bytes, *lent.used, found)
+        }),
+        Call::Count => size(outs, |count| store::count(lent.bytes, *lent.used, count)),
+        Call::AllIds(_) => size(outs, |length| {
+            store::all_ids(lent.bytes, *lent.used, room::lent(&mut left.output), length)
+        }),
+    };
+}
+
+/// An identifier's texts, lent.
+fn texts(id: &Id) -> store::Id<'_> {
+    [&id[0], &id[1], &id[2]]
+}
+
+/// Lends both out numbers as a place.
+fn find(outs: &mut [u64; 2], ask: impl FnOnce(&mut Place) -> u8) -> u8 {
+    let [place, length] = outs.map(|out| out as usize);
+    let mut found = Place { place, length };
+    let number = ask(&mut found);
+    *outs = [found.place as u64, found.length as u64];
+    number
+}
+
+/// Lends the first out number as a size.
+fn size(outs: &mut [u64; 2], ask: impl FnOnce(&mut usize) -> u8) -> u8 {
+    let mut size = outs[0] as usize;
+    let number = ask(&mut size);
+    outs[0] = size as u64;
+    number
+}

@@ -1,0 +1,37 @@
+//! Lists of calls on a store of records, compared with the Rust's `DialogManager`: after every call its number, every out
+//! number, every byte of the store's memory, and the two counts.
+
+mod ask;
+mod book;
+mod call;
+mod calls;
+mod damage;
+mod describe;
+mod directed;
+mod expect;
+mod faults;
+mod lists;
+mod memory;
+mod order;
+mod run;
+mod rust;
+
+use crate::random::Random;
+use run::Run;
+
+pub use call::OPERATIONS;
+pub use faults::{Fault, FAULTS};
+
+/// Compares so many random lists and the directed ones; these faults are put in, each by itself.
+pub fn compare_all(lists: usize, seed: u64, faults: &[&'static Fault]) -> Run {
+    let mut run = Run::new(faults);
+    let mut random = Random::new(seed, "store");
+    order::each(&mut run, &mut random);
+    lists::each_broken(&mut run, &mut random);
+    directed::at_most_early(&mut run, &mut random);
+    directed::at_most_records(&mut run, &mut random);
+    for _ in 0..lists {
+        lists::list(&mut run, &mut random);
+    }
+    run
+}
