@@ -5,12 +5,12 @@ use native.Mathlib.Omega.{arith}
 use mathlib.Core.Path.{_≡_, refl, sym, ap, ap₂, subst, _∙_}
 use mathlib.Core.List.{List, [], _∷_, _++_, reverse, reverse-cons}
 use lib.ListN.{drop}
+use Rattle.limits.specs.Outcome.{numberIn}
 use Rattle.limits.specs.Limits.{LimitSet, rustLimits}
 use Rattle.book.specs.Calls.{Call, update, request, lent}
 use Rattle.book.specs.Book.{storeRead}
 use Rattle.book.specs.Store.{Left}
 use Rattle.book.specs.History.{All, World, isTaken, book, bookLog, lending, next, world, storeLog, remoteBy, moments, Story, Demand3, Sent, Permitted, Returned, returned, Ran, start, called}
-use Rattle.book.specs.Returned.{numberIn}
 use Rattle.book.proofs.BookLaws.{distinct-test}
 use Rattle.book.proofs.HeldLaws.{Good, good}
 use Rattle.book.proofs.StoreLaws.{Follows, read-back, same-answer, follows, same-answers}

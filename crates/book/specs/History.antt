@@ -9,7 +9,7 @@ use mathlib.Core.List.{List, [], _∷_, _++_}
 use mathlib.Core.Option.{Option, none, some}
 use lib.ListN.{length, take, drop}
 use Rattle.limits.specs.Limits.{LimitSet}
-use Rattle.limits.specs.Outcome.{Outcome, refused, given}
+use Rattle.limits.specs.Outcome.{Outcome, refused, given, numberIn}
 use Rattle.text.specs.Text.{equal}
 use Rattle.msg.specs.Block.{isBlock}
 use Rattle.prack_headers.specs.Sequence.{cseqNumber}
@@ -23,7 +23,7 @@ use Rattle.dialog.specs.Updates.{kindOf, retargeted}
 use Rattle.book.specs.Calls.{Ident, sameIdent, Update, request, response, terminate, localNumber, interval, Call, put, update, remove, sweep, read, lent, imageIn, Answer}
 use Rattle.book.specs.Book.{Book, storeImage, storeRead, emptyStore, size, identOf, isOf, namedIn, nameOf, find, findNamed, amend, earlyOf, decide, after, answerOf}
 use Rattle.book.specs.Store.{Left, run}
-use Rattle.book.specs.Returned.{numberIn, Returns}
+use Rattle.book.specs.Returned.{Returns}
 
 abbrev pub All : {A : Type 0} → (A → Type 0) → List A → Type 0
 All P [] = Unit {0}

@@ -6,8 +6,8 @@ use mathlib.Core.Path.{_≡_}
 use mathlib.Core.List.{List}
 use mathlib.Core.Option.{Option·getD}
 use lib.ListN.{length}
-use Rattle.limits.specs.Outcome.{refused, given}
-use Rattle.limits.specs.Refusal.{numberOf, leastOf}
+use Rattle.limits.specs.Outcome.{refused, given, numberIn}
+use Rattle.limits.specs.Refusal.{leastOf}
 use Rattle.metrics.specs.Metrics.{counted}
 use Rattle.output.specs.declared.Written.{Written}
 use Rattle.output.specs.declared.Written.the-variants as writing
@@ -15,11 +15,6 @@ use Rattle.dialog.specs.declared.updates.Raised.{Raised}
 use Rattle.dialog.specs.declared.updates.Raised.the-variants as raised
 use Rattle.book.specs.Calls.{noValue, number, imageAt, written, Answer}
 use Rattle.book.specs.Store.{Left}
-
--- the number returned: 0 for an accepted call, else document 01's
-abbrev pub numberIn : Answer → ℕ
-numberIn (refused cause) = numberOf cause
-numberIn (given v) = 0
 
 -- What the contract of a C function says of one call, l being what `run` leaves of the values as it was entered: the lent bytes and the used length
 -- as it returns, and the number returned.

@@ -10,7 +10,7 @@ use lib.Seq.{length-take-le}
 use lib.Dec.{ltb}
 use borrow.Author.Tests.{ltb-false}
 use Rattle.limits.specs.Limits.{LimitSet}
-use Rattle.limits.specs.Outcome.{Outcome, refused, given, refuseBy, refuseIf, andThen, orRefuse}
+use Rattle.limits.specs.Outcome.{Outcome, refused, given, refuseBy, refuseIf, andThen, orRefuse, numberIn}
 use Rattle.limits.specs.declared.Refusal.{Refusal}
 use Rattle.limits.specs.declared.Refusal.the-variants.{BadStore, NoRoom}
 use Rattle.edit.specs.Edit.{over}
@@ -21,7 +21,7 @@ use Rattle.record.proofs.StoreLaws.{decoded}
 use Rattle.book.specs.Calls.{Call, read, Reading, Value, Answer}
 use Rattle.book.specs.Book.{Book, storeImage, storeRead, size, Taken, taking, unchanged, apply, argumentCause, judge, reply}
 use Rattle.book.specs.Store.{Left, Result, resultOf, verdict, leave, run}
-use Rattle.book.specs.Returned.{numberIn, Returns, countAfter, writtenBy, writtenIn}
+use Rattle.book.specs.Returned.{Returns, countAfter, writtenBy, writtenIn}
 use Rattle.c_answers.specs.Given.{WrittenGives, writtenNumber, writtenAfter}
 use Rattle.c_store_answers.specs.Given.{CountedGives, CountedNumbers, countedAfter}
 

@@ -8,7 +8,7 @@ use mathlib.Core.Option.{Option, none, some}
 use lib.ListN.{length, take}
 use lib.Dec.{ltb}
 use Rattle.limits.specs.Limits.{LimitSet}
-use Rattle.limits.specs.Outcome.{Outcome, refused, given, refuseBy, refuseIf, andThen, orRefuse}
+use Rattle.limits.specs.Outcome.{Outcome, refused, given, refuseBy, refuseIf, andThen, orRefuse, numberIn}
 use Rattle.limits.specs.declared.Refusal.{Refusal}
 use Rattle.limits.specs.declared.Refusal.the-variants.{BadStore, NotFound, NoRoom}
 use Rattle.output.specs.Output.{fitted}
@@ -26,7 +26,7 @@ use Rattle.book.specs.Calls.{Ident, localNumber, Call, update, read, count, all
 use Rattle.book.specs.Calls as calls
 use Rattle.book.specs.Book.{Book, storeRead, size, find, alter, unchanged, Taken, apply, argumentCause, readingCause, revised, judge, reply, identifiersOf}
 use Rattle.book.specs.Store.{Left, Result, resultOf, verdict, leave, run}
-use Rattle.book.specs.Returned.{numberIn, Returns, numberAfter, lengthAfter, leastAfter, writtenBy, writtenIn, raisedBy, raisedIn, idsWritten}
+use Rattle.book.specs.Returned.{Returns, numberAfter, lengthAfter, leastAfter, writtenBy, writtenIn, raisedBy, raisedIn, idsWritten}
 use Rattle.dialog_manager.proofs.LookupLaws.{Kept, kept, store-refuses, replies}
 use Rattle.c_answers.specs.Given.{WrittenGives, writtenNumber, writtenAfter, HeldGives, heldNumber, heldAfter}
 use Rattle.c_image_answers.specs.Given.{RaisedGives, RaisedNumbers, raisedNumber, raisedAfter, SetGives, SetNumbers, setNumber, setAfter}

@@ -3,7 +3,8 @@ use dialog_manager::Place;
 use metrics::count_one;
 use output::Written;
 ghost use mathlib.Core.Path.{_≡_};
-ghost use Rattle.book.specs.Returned.{numberIn, placeAfter, lengthAfter};
+ghost use Rattle.limits.specs.Outcome.{numberIn};
+ghost use Rattle.book.specs.Returned.{placeAfter, lengthAfter};
 ghost use Rattle.dialog_manager.specs.Lookups.{answerIn};
 ghost use Rattle.c_store_answers.specs.Given.{CountedGives};
 

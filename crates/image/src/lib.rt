@@ -17,6 +17,8 @@ ghost use Rattle.image.specs.Places.{recordFrom};
 mod parts;
 mod sections;
 
+pub use parts::read_four;
+pub use parts::read_two;
 pub use sections::IdsAt;
 pub use sections::UrisAt;
 

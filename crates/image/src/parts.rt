@@ -229,7 +229,7 @@ pub fn read_two(bytes: &[u8], at: usize) -> usize
 }
 
 // The four bytes at a place, as a number.
-fn read_four(bytes: &[u8], at: usize) -> u32
+pub fn read_four(bytes: &[u8], at: usize) -> u32
     requires { ⌜ at + 4 ≤ length (now bytes) ⌝ }
     ensures { λ r. ⌜ four .read (drop at (now (bytes .entry))) ≡ some (record { value = r; rest = drop (at + 4) (now (bytes .entry)) }) ⌝ }
 {

@@ -19,7 +19,7 @@ pub extern "C" fn sip_dialog_put(
     ensures { λ r. ⌜ Returns (leftBy (λ n. put n (now (image .entry))) (now (store .entry)) (now (used .entry))) (now (store .exit)) (now (used .exit)) r ⌝ }
     ensures { λ _. ⌜ now (created .exit) ≡ countAfter (leftBy (λ n. put n (now (image .entry))) (now (store .entry)) (now (used .entry)) .answer) (now (created .entry)) ⌝ }
 {
-    give_counted(store_edits::put(image, store, *used), used, created)
+    give_counted(store_puts::put(image, store, *used), used, created)
 }
 
 // The request entry: 1, 2, 3, 15, 4, 9; ACK: 11; others: 10, 11, 12; 18.

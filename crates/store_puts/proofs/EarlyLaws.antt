@@ -21,8 +21,8 @@ use Rattle.book.specs.Calls.{Ident, ident}
 use Rattle.book.specs.Book.{Book, storeRead, isOf, others, keep, isEarly, isEarlyOf, earlyOf}
 use Rattle.dialog_manager.specs.Search.{IdsWithin, Stored}
 use Rattle.dialog_manager.proofs.SearchLaws.{Turn, ids-within, compared}
-use Rattle.store_edits.specs.Edits.{earlyOthers, earlyAt}
+use Rattle.store_puts.specs.Puts.{earlyOthers, earlyAt}
 use Rattle.store_edits.proofs.AheadLaws.{Ahead, all-ahead, Front, front, none-ahead, whole-is, not-whole}
 
 -- ---- one record
 

@@ -48,8 +48,8 @@ use Rattle.dialog_manager.specs.declared.finding.Found.the-variants as found
 use Rattle.dialog_manager.proofs.LookupLaws.{Kept, stored, none-found, one-found}
 use Rattle.dialog_manager.proofs.SearchLaws.{turn}
 use Rattle.book.specs.Returned.{writtenIn}
-use Rattle.store_edits.specs.Edits.{putting, Named, Open, crowdedIn}
+use Rattle.store_puts.specs.Puts.{putting, Named, Open, crowdedIn}
 use Rattle.store_edits.proofs.RemoveLaws.{images, unheld, standing, absent, spliced-length}
 
 -- ---- 18
 

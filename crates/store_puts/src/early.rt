@@ -10,7 +10,7 @@ ghost use Rattle.record.specs.NumbersForm.{stateIn};
 ghost use Rattle.book.specs.Calls.{ident};
 ghost use Rattle.book.specs.Book.{storeRead, isEarly};
 ghost use Rattle.dialog_manager.specs.Search.{IdsWithin, Stored};
-ghost use Rattle.store_edits.specs.Edits.{crowdedIn, earlyOthers, earlyAt};
+ghost use Rattle.store_puts.specs.Puts.{crowdedIn, earlyOthers, earlyAt};
 
 // 17: the state is Early, and so many other Early records have this Call-ID.
 pub fn is_crowded(

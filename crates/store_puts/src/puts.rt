@@ -17,7 +17,7 @@ ghost use Rattle.edit.specs.Edit.{spliced};
 ghost use Rattle.output.specs.Output.{fitted, leaves, writtenFrom};
 ghost use Rattle.book.specs.Store.{run};
 ghost use Rattle.book.specs.Returned.{writtenIn};
-ghost use Rattle.store_edits.specs.Edits.{putting, Named, Open};
+ghost use Rattle.store_puts.specs.Puts.{putting, Named, Open};
 
 // DialogManager::insert of one record image: 3, 16, 17, 18. A replacement keeps its place; a new record is written into the free end of the store.
 pub fn put(image: &[u8], bytes: &mut [u8], used: usize) -> Written

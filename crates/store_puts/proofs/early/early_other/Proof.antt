@@ -5,14 +5,14 @@ use Rattle.text.specs.Text.{equal}
 use Rattle.record.specs.NumbersForm.{stateIn}
 use Rattle.dialog.specs.Matching.{partIn}
 use Rattle.book.specs.Book.{isEarly}
-use Rattle.store_edits.proofs.EarlyLaws.{not-early, other-call, other-local, other-remote, itself}
+use Rattle.store_puts.proofs.EarlyLaws.{not-early, other-call, other-local, other-remote, itself}
 use borrow.Author.Needs.{needs}
 use borrow.Author.Tests.{not-true, not-false}
-use Rattle.store_edits.proofs.early.early_other.Statement.{statement}
-use Rattle.store_edits.proofs.early.early_other.Tie as tie
-use Rattle.store_edits.proofs.early.early_other.Reads as reads
-use Rattle.store_edits.proofs.early.early_other.Lts as lts
-use Rattle.store_edits.proofs.early.is_early.Reads as is-early-reads
+use Rattle.store_puts.proofs.early.early_other.Statement.{statement}
+use Rattle.store_puts.proofs.early.early_other.Tie as tie
+use Rattle.store_puts.proofs.early.early_other.Reads as reads
+use Rattle.store_puts.proofs.early.early_other.Lts as lts
+use Rattle.store_puts.proofs.early.is_early.Reads as is-early-reads
 use Rattle.dialog_manager.proofs.is_part.Reads as is-part-reads
 
 -- what the tests that were passed say

@@ -5,15 +5,15 @@ use lib.ListN.{length}
 use Rattle.record.proofs.CodecLaws.{Bytes, bytes-all}
 use Rattle.image.specs.declared.RecordAt.{RecordAt}
 use Rattle.book.specs.Calls.{ident}
-use Rattle.store_edits.proofs.EarlyLaws.{Counting, start, here, done, unbroken, Counted, counted}
+use Rattle.store_puts.proofs.EarlyLaws.{Counting, start, here, done, unbroken, Counted, counted}
 use native.Mathlib.Omega.{arith}
 use borrow.Author.Needs.{needs}
-use Rattle.store_edits.proofs.early.early_others.Statement.{statement}
-use Rattle.store_edits.proofs.early.early_others.Tie as tie
-use Rattle.store_edits.proofs.early.early_others.Reads as reads
-use Rattle.store_edits.proofs.early.early_others.Lts as lts
+use Rattle.store_puts.proofs.early.early_others.Statement.{statement}
+use Rattle.store_puts.proofs.early.early_others.Tie as tie
+use Rattle.store_puts.proofs.early.early_others.Reads as reads
+use Rattle.store_puts.proofs.early.early_others.Lts as lts
 use Rattle.image.proofs.read_record.Reads as read-record-reads
-use Rattle.store_edits.proofs.early.early_other.Reads as early-other-reads
+use Rattle.store_puts.proofs.early.early_other.Reads as early-other-reads
 
 abbrev Inv-loop : tie.InvT-loop
 Inv-loop bytes call-id local-tag remote-tag at₀ n₀ at n = Counting (ident call-id local-tag remote-tag) bytes at n

@@ -2,12 +2,12 @@
 use mathlib.Core.Path.{sym, _∙_}
 use borrow.Author.Needs.{needs}
 use borrow.Author.Tests.{not-true, not-false}
-use Rattle.store_edits.proofs.early.is_crowded.Statement.{statement}
-use Rattle.store_edits.proofs.early.is_crowded.Tie as tie
-use Rattle.store_edits.proofs.early.is_crowded.Reads as reads
-use Rattle.store_edits.proofs.early.is_crowded.Lts as lts
-use Rattle.store_edits.proofs.early.early_others.Reads as early-others-reads
-use Rattle.store_edits.proofs.early.is_early.Reads as is-early-reads
+use Rattle.store_puts.proofs.early.is_crowded.Statement.{statement}
+use Rattle.store_puts.proofs.early.is_crowded.Tie as tie
+use Rattle.store_puts.proofs.early.is_crowded.Reads as reads
+use Rattle.store_puts.proofs.early.is_crowded.Lts as lts
+use Rattle.store_puts.proofs.early.early_others.Reads as early-others-reads
+use Rattle.store_puts.proofs.early.is_early.Reads as is-early-reads
 
 is-early-requires : tie.Need-is-early-requires
 is-early-requires c κs = search needs

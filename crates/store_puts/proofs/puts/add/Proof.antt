@@ -1,13 +1,13 @@
 -- `puts::add` meets its contract: what was written into the free end, with the used bytes before it. Assumes nothing.
 use mathlib.Core.Path.{sym, _∙_}
-use Rattle.store_edits.proofs.PutLaws.{end-answer, end-bytes, end-fits}
+use Rattle.store_puts.proofs.PutLaws.{end-answer, end-bytes, end-fits}
 use native.Mathlib.Omega.{arith}
 use borrow.Author.Needs.{needs}
-use Rattle.store_edits.proofs.puts.add.Statement.{statement}
-use Rattle.store_edits.proofs.puts.add.Tie as tie
-use Rattle.store_edits.proofs.puts.add.Reads as reads
-use Rattle.store_edits.proofs.puts.add.Lts as lts
-use Rattle.store_edits.proofs.puts.write_new.Reads as write-new-reads
+use Rattle.store_puts.proofs.puts.add.Statement.{statement}
+use Rattle.store_puts.proofs.puts.add.Tie as tie
+use Rattle.store_puts.proofs.puts.add.Reads as reads
+use Rattle.store_puts.proofs.puts.add.Lts as lts
+use Rattle.store_puts.proofs.puts.write_new.Reads as write-new-reads
 
 -- the bytes and the image
 abbrev start : tie.After-slice-known2 → tie.Start

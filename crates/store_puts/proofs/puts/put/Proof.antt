@@ -10,17 +10,17 @@ use Rattle.dialog_manager.specs.Search.{IdsWithin}
 use Rattle.dialog_manager.proofs.LookupLaws.{Kept, kept}
 use Rattle.store.specs.Counting.{recordsHeld, countAnswer}
 use Rattle.store.specs.declared.Held.the-variants as held
-use Rattle.store_edits.proofs.PutLaws.{store-unread, not-one, too-many, full, open-to, texts-within, image-named}
+use Rattle.store_puts.proofs.PutLaws.{store-unread, not-one, too-many, full, open-to, texts-within, image-named}
 use Rattle.store_edits.proofs.RemoveLaws.{turned-back}
 use native.Mathlib.Omega.{arith}
 use borrow.Author.Needs.{needs}
-use Rattle.store_edits.proofs.puts.put.Statement.{statement}
-use Rattle.store_edits.proofs.puts.put.Tie as tie
-use Rattle.store_edits.proofs.puts.put.Reads as reads
-use Rattle.store_edits.proofs.puts.put.Lts as lts
+use Rattle.store_puts.proofs.puts.put.Statement.{statement}
+use Rattle.store_puts.proofs.puts.put.Tie as tie
+use Rattle.store_puts.proofs.puts.put.Reads as reads
+use Rattle.store_puts.proofs.puts.put.Lts as lts
 use Rattle.dialog.proofs.read_image.Reads as read-image-reads
 use Rattle.store.proofs.count.Reads as count-reads
-use Rattle.store_edits.proofs.puts.put_named.Reads as put-named-reads
+use Rattle.store_puts.proofs.puts.put_named.Reads as put-named-reads
 
 -- the store was read, and so many records counted
 abbrev start : tie.After-known-told → tie.Start

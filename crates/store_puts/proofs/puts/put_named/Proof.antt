@@ -12,19 +12,19 @@ use Rattle.book.specs.Calls.{ident}
 use Rattle.book.specs.Book.{storeRead}
 use Rattle.dialog_manager.specs.Search.{Stands}
 use Rattle.dialog_manager.specs.declared.finding.Found.the-variants as found
-use Rattle.store_edits.specs.Edits.{crowdedIn}
-use Rattle.store_edits.proofs.PutLaws.{crowded, added-new, replaced-old, found-within}
+use Rattle.store_puts.specs.Puts.{crowdedIn}
+use Rattle.store_puts.proofs.PutLaws.{crowded, added-new, replaced-old, found-within}
 use Rattle.store_edits.proofs.RemoveLaws.{turned-back}
 use native.Mathlib.Omega.{arith}
 use borrow.Author.Needs.{needs}
-use Rattle.store_edits.proofs.puts.put_named.Statement.{statement}
-use Rattle.store_edits.proofs.puts.put_named.Tie as tie
-use Rattle.store_edits.proofs.puts.put_named.Reads as reads
-use Rattle.store_edits.proofs.puts.put_named.Lts as lts
+use Rattle.store_puts.proofs.puts.put_named.Statement.{statement}
+use Rattle.store_puts.proofs.puts.put_named.Tie as tie
+use Rattle.store_puts.proofs.puts.put_named.Reads as reads
+use Rattle.store_puts.proofs.puts.put_named.Lts as lts
 use Rattle.dialog_manager.proofs.search.Reads as search-reads
-use Rattle.store_edits.proofs.early.is_crowded.Reads as is-crowded-reads
-use Rattle.store_edits.proofs.puts.add.Reads as add-reads
-use Rattle.store_edits.proofs.puts.write_image.Reads as write-image-reads
+use Rattle.store_puts.proofs.early.is_crowded.Reads as is-crowded-reads
+use Rattle.store_puts.proofs.puts.add.Reads as add-reads
+use Rattle.store_puts.proofs.puts.write_image.Reads as write-image-reads
 
 abbrev start : tie.After-is-crowded-arg → tie.Start
 start c = c .before .before .before .before .before .before

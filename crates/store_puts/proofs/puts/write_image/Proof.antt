@@ -1,13 +1,13 @@
 -- `puts::write_image` meets its contract: 18, then the image in its place. Assumes nothing.
 use mathlib.Core.Path.{sym, _∙_}
 use Rattle.output.proofs.OutputLaws.{kept, wrote}
-use Rattle.store_edits.proofs.PutLaws.{made-length, no-room, has-room}
+use Rattle.store_puts.proofs.PutLaws.{made-length, no-room, has-room}
 use native.Mathlib.Omega.{arith}
 use borrow.Author.Needs.{needs}
-use Rattle.store_edits.proofs.puts.write_image.Statement.{statement}
-use Rattle.store_edits.proofs.puts.write_image.Tie as tie
-use Rattle.store_edits.proofs.puts.write_image.Reads as reads
-use Rattle.store_edits.proofs.puts.write_image.Lts as lts
+use Rattle.store_puts.proofs.puts.write_image.Statement.{statement}
+use Rattle.store_puts.proofs.puts.write_image.Tie as tie
+use Rattle.store_puts.proofs.puts.write_image.Reads as reads
+use Rattle.store_puts.proofs.puts.write_image.Lts as lts
 use Rattle.edit.proofs.replace.Reads as replace-reads
 
 sub-if1 : tie.Need-sub-if1

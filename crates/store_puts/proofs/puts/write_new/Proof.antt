@@ -2,13 +2,13 @@
 use mathlib.Core.Path.{refl, _∙_}
 use lib.ListN.{length}
 use Rattle.output.proofs.OutputLaws.{put-first, kept, wrote}
-use Rattle.store_edits.proofs.PutLaws.{larger, fits}
+use Rattle.store_puts.proofs.PutLaws.{larger, fits}
 use native.Mathlib.Omega.{arith}
 use borrow.Author.Needs.{needs}
-use Rattle.store_edits.proofs.puts.write_new.Statement.{statement}
-use Rattle.store_edits.proofs.puts.write_new.Tie as tie
-use Rattle.store_edits.proofs.puts.write_new.Reads as reads
-use Rattle.store_edits.proofs.puts.write_new.Lts as lts
+use Rattle.store_puts.proofs.puts.write_new.Statement.{statement}
+use Rattle.store_puts.proofs.puts.write_new.Tie as tie
+use Rattle.store_puts.proofs.puts.write_new.Reads as reads
+use Rattle.store_puts.proofs.puts.write_new.Lts as lts
 use Rattle.edit.proofs.put.Reads as put-reads
 
 returns : tie.Need-returns

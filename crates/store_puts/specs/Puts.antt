@@ -1,0 +1,52 @@
+-- The put of one record image. What it leaves is `run` (book/specs/Store.antt); here the call is set out, and the steps of the code.
+use Prim.Native.Nat.{ℕ, _≤_}
+use mathlib.Core.Path.{_≡_}
+use mathlib.Core.Bool.{Bool, true, false, cond, not, _&&_}
+use mathlib.Core.List.{List}
+use mathlib.Core.Option.{Option, none, some}
+use lib.ListN.{length, take}
+use lib.Dec.{leb}
+use Rattle.limits.specs.Limits.{LimitSet}
+use Rattle.limits.specs.Outcome.{given}
+use Rattle.record.specs.Record.{State, Record, image}
+use Rattle.record.specs.NumbersForm.{stateIn}
+use Rattle.record.specs.declared.numbers.State.{State as CodeState}
+use Rattle.image.specs.declared.sections.IdsAt.{IdsAt}
+use Rattle.dialog.specs.OneImage.{oneRecord}
+use Rattle.book.specs.Calls.{Ident, ident, Call, put}
+use Rattle.book.specs.Book.{Book, storeRead, identOf, others, keep, isEarly, earlyOf, isFull}
+use Rattle.dialog_manager.specs.Search.{namedAt}
+
+-- the call, of a store of n lent bytes
+abbrev pub putting : ℕ → List ℕ → Call
+putting n img = put n img
+
+-- ---- steps of the code
+
+-- the bytes are the image of a record with this state and identifier
+pub record Named (img : List ℕ) (state : CodeState) (callId localTag remoteTag : List ℕ) : Type 0 where
+  pub value : Record
+  pub one : oneRecord img ≡ given value
+  pub is : image .write value ≡ img
+  pub state-is : stateIn state ≡ value .numbers .state
+  pub ident-is : ident callId localTag remoteTag ≡ identOf value
+
+-- the used bytes are read as a store, which isn't full
+pub record Open (L : LimitSet) (bytes : List ℕ) (used : ℕ) : Type 0 where
+  pub records : Book
+  pub within : used ≤ length bytes
+  pub are : storeRead (take used bytes) ≡ some records
+  pub free : isFull L records ≡ false
+
+-- how many Early records have the Call-ID of an identifier, but not the identifier
+abbrev pub earlyOthers : Ident → Option Book → ℕ
+earlyOthers i none = 0
+earlyOthers i (some b) = earlyOf (i .callId) (keep (others i) b)
+
+-- 17, of a state and an identifier
+abbrev pub crowdedIn : LimitSet → State → Ident → Option Book → Bool
+crowdedIn L state i o = isEarly state && leb (L .earlyPerCallId) (earlyOthers i o)
+
+-- what one record counts, by the texts at the places of its identifier
+abbrev pub earlyAt : List ℕ → IdsAt → State → List ℕ → List ℕ → List ℕ → ℕ
+earlyAt s i state c l r = cond (isEarly state && (namedAt s i false c l r && not (namedAt s i true c l r))) 1 0
