@@ -405,6 +405,31 @@ uint8_t sip_dialog_all_ids(const uint8_t *store, size_t store_len, size_t used, 
    bytes), 3, 18. */
 uint8_t sip_dialog_listing(const uint8_t *store, size_t used, uint8_t *out, size_t out_len, size_t *length);
 
+/* ---- RSeq numbers: one for each dialog that sends reliable provisional responses, in a store of their own (docs/LAYOUTS.md, "The
+   RSeq store"). An identifier is three texts of any bytes: Call-ID, local tag, remote tag. The lent bytes and the used length are
+   as for a store of records: refused, every byte and used stay; accepted, bytes past the new used length stay. 3: used over
+   store_len, or used bytes that aren't of the layout. */
+
+/* The next RSeq number of a dialog, in rseq: where none is held, the low 31 bits of n, at least 1 (n is to be random); otherwise
+   the one held and 1, or 4,294,967,295 again. Refuses with 1, 3, 18. */
+uint8_t sip_dialog_rseq_next(const uint8_t *call_id, size_t call_id_len, const uint8_t *local_tag, size_t local_tag_len,
+                             const uint8_t *remote_tag, size_t remote_tag_len, uint32_t n,
+                             uint8_t *store, size_t store_len, size_t *used, uint32_t *rseq);
+
+/* The number that is held for a dialog. Refuses with 1, 3, 15 (none is held). */
+uint8_t sip_dialog_rseq_current(const uint8_t *call_id, size_t call_id_len, const uint8_t *local_tag, size_t local_tag_len,
+                                const uint8_t *remote_tag, size_t remote_tag_len,
+                                const uint8_t *store, size_t store_len, size_t used, uint32_t *rseq);
+
+/* Drops the number of a dialog; where none is held, nothing changes. Refuses with 1, 3. */
+uint8_t sip_dialog_rseq_remove(const uint8_t *call_id, size_t call_id_len, const uint8_t *local_tag, size_t local_tag_len,
+                               const uint8_t *remote_tag, size_t remote_tag_len,
+                               uint8_t *store, size_t store_len, size_t *used);
+
+/* How many dialogs have a number; whether none has (1) or some have (0). Refuse with 3. */
+uint8_t sip_dialog_rseq_len(const uint8_t *store, size_t store_len, size_t used, size_t *len);
+uint8_t sip_dialog_rseq_is_empty(const uint8_t *store, size_t store_len, size_t used, uint8_t *empty);
+
 /* ---- Counts of dialogs */
 
 /* The count with one more; the largest number stays. */

@@ -1,6 +1,6 @@
 /*
- * With tests/c_face_store.c, calls every function of include/sip_dialog.h, accepted and refused: what it returns, what the lent
- * numbers and bytes then hold, and that the rest is kept. Expected values come from document 01, not from the code.
+ * With tests/c_face_store.c and tests/c_face_rseq.c, calls every function of include/sip_dialog.h, accepted and refused: what it
+ * returns, what the lent numbers and bytes then hold, and that the rest is kept. Expected values come from document 01, not from the code.
  */
 #include "c_face.h"
 
@@ -3343,6 +3343,7 @@ int main(void)
         test_image_request_rest, test_image_request_order, test_image_response_state, test_image_response_routes,
         test_image_response_no_routes, test_image_response_interval, test_image_response_target, test_image_response_parts,
         test_image_response_order, test_new_uac, test_new_uas, test_counts, test_stores,
+        test_rseq_stores,
     };
     size_t i;
     for (i = 0; i < sizeof tests / sizeof tests[0]; i++) {

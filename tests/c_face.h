@@ -1,5 +1,6 @@
 /*
- * What tests/c_face.c and tests/c_face_store.c share: checks, lent bytes, and three record images with ways to change them.
+ * What tests/c_face.c, tests/c_face_store.c and tests/c_face_rseq.c share: checks, lent bytes, and three record images with ways to
+ * change them.
  */
 #ifndef C_FACE_H
 #define C_FACE_H
@@ -104,5 +105,9 @@ struct image with_text(struct image i, size_t at, const char *text);
 /* ---- Tests of the calls on stores, in tests/c_face_store.c */
 
 void test_stores(void);
+
+/* ---- Tests of the calls on RSeq stores, in tests/c_face_rseq.c */
+
+void test_rseq_stores(void);
 
 #endif

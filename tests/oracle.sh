@@ -1,5 +1,5 @@
 #!/bin/sh
-# The differential runs over the leaves, over the dialogs and over lists of calls on a store, and the same with a fault planted in each operation.
+# The differential runs over the leaves, over the dialogs and over lists of calls on a store of records and of RSeq numbers, and the same with a fault planted in each operation.
 # PORT_LIB: a folder with libsip_dialog.a (default: built by `rt staticlib sip_dialog`).
 set -eu
 cd "$(dirname "$0")/.."
@@ -9,4 +9,5 @@ export PORT_LIB
 oracle/run --if-present leaves
 oracle/run --if-present dialogs
 oracle/run --if-present store --calls 10000
+oracle/run --if-present rseq --calls 10000
 oracle/run --if-present planted

@@ -4,6 +4,7 @@ mod creation;
 mod identifiers;
 mod images;
 mod prack;
+mod rseq;
 mod store_readings;
 mod stores;
 mod timers;

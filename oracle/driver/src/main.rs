@@ -4,6 +4,7 @@
 //!     driver leaves [--calls N] [--seed S]     compares, prints the table, fails on any difference
 //!     driver dialogs [--calls N] [--seed S]    the same for creations, changes and readings of one record
 //!     driver store [--calls N] [--seed S]      the same for N lists of calls on a store of records
+//!     driver rseq [--calls N] [--seed S]       the same for N lists of calls on an RSeq store
 //!     driver planted [--calls N] [--seed S]    plants one fault per operation and fails if any goes unreported
 //!     driver bench                             times both sides
 
@@ -17,6 +18,7 @@ mod operations;
 mod places;
 mod random;
 mod report;
+mod rseq;
 mod rules;
 mod run;
 mod store;
@@ -25,7 +27,7 @@ mod uris;
 
 use std::process::ExitCode;
 
-const USAGE: &str = "use: driver leaves|dialogs|store|planted [--calls N] [--seed S], driver bench";
+const USAGE: &str = "use: driver leaves|dialogs|store|rseq|planted [--calls N] [--seed S], driver bench";
 
 /// What the command line asks for.
 struct Options {
@@ -44,6 +46,7 @@ fn main() -> ExitCode {
         "leaves" => report::leaves(options.calls, options.seed),
         "dialogs" => report::dialogs(options.calls, options.seed),
         "store" => report::store(options.calls, options.seed),
+        "rseq" => report::rseq(options.calls, options.seed),
         "planted" => report::planted(options.calls, options.seed),
         "bench" => bench::run(),
         _ => {

@@ -1,10 +1,14 @@
-//! The tables and verdicts of `leaves`, `dialogs`, `store` and `planted`.
+//! The tables and verdicts of `leaves`, `dialogs`, `store`, `rseq` and `planted`.
 
 use crate::bounds;
 use crate::dialogs;
 use crate::operations;
+use crate::rseq;
 use crate::run::{compare_all, row_name, Entry, Operation, Tally, LEAST_CALLS, LEAST_IN_ROW, LEAST_LONGEST};
-use crate::store::{self, Fault, FAULTS};
+use crate::store;
+use crate::store::kind::Kind;
+use crate::store::run::{Fault, Run};
+use std::collections::BTreeSet;
 
 /// Compares every operation on blocks, values, texts and numbers, and says whether all agree and every minimum is met.
 /// The environment variable PLANTED names an operation whose planted fault is to be put in.
@@ -36,44 +40,53 @@ pub fn dialogs(calls: usize, seed: u64) -> bool {
 
 /// The same for so many lists of calls on a store. PLANTED names one of the store's faults.
 pub fn store(lists: usize, seed: u64) -> bool {
-    let names: Vec<&str> = FAULTS.iter().map(|fault| fault.name).collect();
+    println!("{lists} random lists of calls, each from an empty store, and the directed ones\n");
+    of_kind(store::FAULTS, |faults| store::compare_all(lists, seed, faults))
+}
+
+/// The same for lists of calls on an RSeq store.
+pub fn rseq(lists: usize, seed: u64) -> bool {
+    println!("{lists} random lists of calls, three in four from an empty store, and the directed ones\n");
+    of_kind(rseq::FAULTS, |faults| rseq::compare_all(lists, seed, faults))
+}
+
+/// The same for a kind of store: its faults, and what compares its lists with some of them put in.
+fn of_kind<K: Kind>(all: &'static [Fault<K>], compare_all: impl FnOnce(&[&'static Fault<K>]) -> Run<K>) -> bool {
+    let names: Vec<&str> = all.iter().map(|fault| fault.name).collect();
     let Some(planted) = planted_name(&names) else {
         return false;
     };
-    let planted: Vec<&Fault> = FAULTS.iter().filter(|fault| fault.name == planted).collect();
-    println!("{lists} random lists of calls, each from an empty store, and the directed ones\n");
-    let (tallies, mut faults) = store::compare_all(lists, seed, &planted).finish();
+    let planted: Vec<&'static Fault<K>> = all.iter().filter(|fault| fault.name == planted).collect();
+    let (tallies, mut faults) = compare_all(&planted).finish();
+    let numbers: BTreeSet<u8> = K::OPERATIONS.iter().flat_map(|entry| entry.rows).copied().collect();
     let mut sum = Sum::new();
     let mut cells = Vec::new();
-    for (operation, own) in store::OPERATIONS.iter().zip(tallies) {
+    for (operation, own) in K::OPERATIONS.iter().zip(tallies) {
         let of_fault = faults.iter().position(|(fault, _)| fault.operation == operation.name);
         let tally = of_fault.map_or(own, |at| faults.remove(at).1);
-        cells.push(line_of_cells(*operation, &tally));
+        cells.push(line_of_cells(*operation, &tally, &numbers));
         sum.add(*operation, tally);
     }
-    print_cells(&cells);
-    let names: Vec<&str> = store::OPERATIONS.iter().map(|operation| operation.name).collect();
+    print_cells(&cells, &numbers);
+    let names: Vec<&str> = K::OPERATIONS.iter().map(|operation| operation.name).collect();
     sum.missed.extend(bounds::print(&names));
     sum.print_verdict()
 }
 
-/// The numbers that a call on a store can answer.
-const NUMBERS: [u8; 15] = [0, 1, 2, 3, 4, 9, 10, 11, 12, 13, 14, 15, 16, 17, 18];
-
 /// How often an operation answered each number; a point where it can't.
-fn line_of_cells(operation: Entry, tally: &Tally) -> String {
+fn line_of_cells(operation: Entry, tally: &Tally, numbers: &BTreeSet<u8>) -> String {
     let cell = |number: &u8| match tally.rows.get(number) {
         Some(count) => count.compared.to_string(),
         None if operation.rows.contains(number) => "0".to_string(),
         None => ".".to_string(),
     };
-    let cells = NUMBERS.iter().map(|number| format!("{:>7}", cell(number)));
+    let cells = numbers.iter().map(|number| format!("{:>7}", cell(number)));
     format!("{:<20}{}", operation.name, cells.collect::<String>())
 }
 
 /// Prints the operations by the numbers.
-fn print_cells(lines: &[String]) {
-    let head: String = NUMBERS.iter().map(|number| format!("{number:>7}")).collect();
+fn print_cells(lines: &[String], numbers: &BTreeSet<u8>) {
+    let head: String = numbers.iter().map(|number| format!("{number:>7}")).collect();
     println!("\n{:<20}{head}", "operation by number");
     for line in lines {
         println!("{line}");
@@ -199,7 +212,7 @@ fn missed_minimums(operation: Entry, tally: &Tally) -> Vec<String> {
 const CALLS_PER_LIST: usize = 20;
 
 /// Plants each fault and says whether the run reports every one of them. The faults of operations on one record, and
-/// those of a store, are put in at once: each changes only what is compared of its own calls.
+/// those of each kind of store, are put in at once: each changes only what is compared of its own calls.
 pub fn planted(calls: usize, seed: u64) -> bool {
     println!(
         "{:<30} {:>9} {:>9}  planted fault",
@@ -213,11 +226,9 @@ pub fn planted(calls: usize, seed: u64) -> bool {
     for (operation, tally) in dialogs::compare_all(calls, seed, |_| true) {
         faults.push(print_fault(operation.name, operation.fault, &tally));
     }
-    let of_store: Vec<&Fault> = FAULTS.iter().collect();
-    let (_, tallies) = store::compare_all(calls / CALLS_PER_LIST, seed, &of_store).finish();
-    for (fault, tally) in tallies {
-        faults.push(print_fault(fault.name, fault.what, &tally));
-    }
+    let lists = calls / CALLS_PER_LIST;
+    faults.extend(planted_in(store::FAULTS, |all| store::compare_all(lists, seed, all)));
+    faults.extend(planted_in(rseq::FAULTS, |all| rseq::compare_all(lists, seed, all)));
     let all = faults.len();
     let unreported: Vec<&str> = faults.into_iter().flatten().collect();
     println!(
@@ -226,6 +237,17 @@ pub fn planted(calls: usize, seed: u64) -> bool {
         unreported.len()
     );
     unreported.is_empty()
+}
+
+/// Plants all faults of a kind of store, and prints what became of each.
+fn planted_in<K: Kind>(
+    all: &'static [Fault<K>],
+    compare_all: impl FnOnce(&[&'static Fault<K>]) -> Run<K>,
+) -> Vec<Option<&'static str>> {
+    let all: Vec<&'static Fault<K>> = all.iter().collect();
+    let (_, tallies) = compare_all(&all).finish();
+    let print = |(fault, tally): (&'static Fault<K>, Tally)| print_fault(fault.name, fault.what, &tally);
+    tallies.into_iter().map(print).collect()
 }
 
 /// Prints what became of a fault; its name if it went unreported.

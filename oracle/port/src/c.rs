@@ -430,4 +430,44 @@ extern "C" {
         out_len: usize,
         length: *mut usize,
     ) -> u8;
+
+    // RSeq numbers
+    pub fn sip_dialog_rseq_next(
+        call_id: *const u8,
+        call_id_len: usize,
+        local_tag: *const u8,
+        local_tag_len: usize,
+        remote_tag: *const u8,
+        remote_tag_len: usize,
+        n: u32,
+        store: *mut u8,
+        store_len: usize,
+        used: *mut usize,
+        rseq: *mut u32,
+    ) -> u8;
+    pub fn sip_dialog_rseq_current(
+        call_id: *const u8,
+        call_id_len: usize,
+        local_tag: *const u8,
+        local_tag_len: usize,
+        remote_tag: *const u8,
+        remote_tag_len: usize,
+        store: *const u8,
+        store_len: usize,
+        used: usize,
+        rseq: *mut u32,
+    ) -> u8;
+    pub fn sip_dialog_rseq_remove(
+        call_id: *const u8,
+        call_id_len: usize,
+        local_tag: *const u8,
+        local_tag_len: usize,
+        remote_tag: *const u8,
+        remote_tag_len: usize,
+        store: *mut u8,
+        store_len: usize,
+        used: *mut usize,
+    ) -> u8;
+    pub fn sip_dialog_rseq_len(store: *const u8, store_len: usize, used: usize, len: *mut usize) -> u8;
+    pub fn sip_dialog_rseq_is_empty(store: *const u8, store_len: usize, used: usize, empty: *mut u8) -> u8;
 }

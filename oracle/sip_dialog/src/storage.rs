@@ -62,3 +62,14 @@ pub fn set_remote_cseq(dialog: &mut crate::Dialog, number: u32) {
 pub fn hold(manager: &crate::DialogManager, dialog: crate::Dialog) {
     manager.dialogs.insert(dialog.id.clone(), dialog);
 }
+
+/// Holds a number for a dialog, whatever it is: for stores handed in.
+pub fn hold_rseq(manager: &crate::RSeqManager, id: crate::DialogId, number: u32) {
+    manager.sequences.insert(id, number);
+}
+
+/// All that a manager of RSeq numbers holds.
+pub fn rseqs(manager: &crate::RSeqManager) -> Vec<(crate::DialogId, u32)> {
+    let entries = manager.sequences.iter();
+    entries.map(|entry| (entry.key().clone(), *entry.value())).collect()
+}

@@ -1,4 +1,4 @@
-//! The bounds of the operations on one record and of those on a store.
+//! The bounds of the operations on one record and of those on stores.
 
 use super::Bound;
 
@@ -77,6 +77,17 @@ const BY_ID: &[&str] = &[
     "remove",
     "get",
 ];
+
+/// All that take an RSeq store, and those by identifier.
+const RSEQS: &[&str] = &["rseq_next", "rseq_current", "rseq_remove", "rseq_len", "rseq_is_empty"];
+const RSEQS_BY_ID: &[&str] = &["rseq_next", "rseq_current", "rseq_remove"];
+
+/// The numbers at which an RSeq number starts or ends.
+const FIRSTS: &[&str] = &["0", "1", "2147483647", "2147483648", "2147483653", "4294967295"];
+const HELD: &[&str] = &["1", "2147483647", "2147483648", "4294967294", "4294967295"];
+
+/// Where an entry stands among others.
+const PLACES: &[&str] = &["the only one", "the first", "between others", "the last"];
 
 /// The counts at which a rise ends.
 const COUNTS: &[&str] = &["0", "18446744073709551614", "18446744073709551615"];
@@ -257,4 +268,41 @@ pub const BOUNDS: &[Bound] = &[
         "result",
         &["one byte less than lent", "as large as lent", "one byte more than lent"],
     ),
+    (
+        RSEQS,
+        "entries",
+        &["0", "1", "2", "over 12", "with a text over 8,192 bytes"],
+    ),
+    (RSEQS, "lent bytes", &["0"]),
+    (
+        RSEQS,
+        "used bytes",
+        &["as many as lent", "one more than lent", "the largest number"],
+    ),
+    (
+        RSEQS,
+        "store",
+        &[
+            "a byte changed",
+            "cut off",
+            "a byte behind it",
+            "two entries swapped",
+            "one identifier twice",
+            "a number 0",
+        ],
+    ),
+    (RSEQS_BY_ID, "Call-ID, bytes", &["0", "8192", "8193"]),
+    (RSEQS_BY_ID, "local tag, bytes", &["0", "8192", "8193"]),
+    (RSEQS_BY_ID, "remote tag, bytes", &["0", "8192", "8193"]),
+    (RSEQS_BY_ID, "identifier", &["UTF-8", "other bytes"]),
+    (
+        &["rseq_next"],
+        "result",
+        &["one byte less than lent", "as large as lent", "one byte more than lent"],
+    ),
+    (&["rseq_next"], "n, none held", FIRSTS),
+    (&["rseq_next"], "n, one held", FIRSTS),
+    (&["rseq_next", "rseq_current"], "held number", HELD),
+    (&["rseq_next", "rseq_remove"], "held, place", PLACES),
+    (&["rseq_next", "rseq_remove"], "not held, place", PLACES),
 ];

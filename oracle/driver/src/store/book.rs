@@ -21,9 +21,6 @@ pub struct Book {
     counts: [u64; 2],
 }
 
-/// How bytes that are no store differ from the store that they were.
-pub type Damage = &'static str;
-
 impl Book {
     /// The book of a store handed in; nothing where the bytes aren't one.
     pub fn of_bytes(bytes: &[u8], counts: [u64; 2]) -> Option<Book> {

@@ -55,7 +55,7 @@ pub const OPERATIONS: &[Entry] = &[
 ];
 
 /// An operation in the tables.
-const fn entry(name: &'static str, against: &'static str, rows: &'static [u8]) -> Entry {
+pub const fn entry(name: &'static str, against: &'static str, rows: &'static [u8]) -> Entry {
     Entry { name, against, rows }
 }
 
@@ -145,7 +145,7 @@ impl Call {
 }
 
 /// What an identifier's parts and a block are bounded as.
-const PARTS: [&str; 3] = ["Call-ID, bytes", "local tag, bytes", "remote tag, bytes"];
+pub const PARTS: [&str; 3] = ["Call-ID, bytes", "local tag, bytes", "remote tag, bytes"];
 const BLOCK: &str = "block, bytes";
 
 /// The texts of an identifier of the Rust.

@@ -112,10 +112,9 @@ fn request(random: &mut Random, pool: &Pool, book: &Book) -> Call {
 }
 
 /// How many bytes to lend: around the size of the result, seldom fewer than are used.
-pub fn lent(random: &mut Random, book: &Book, call: &Call) -> usize {
-    let used = book.used();
+pub fn lent(random: &mut Random, used: usize, used_after: usize) -> usize {
     if random.one_in(32) {
         return random.pick(&[0, used.saturating_sub(1), used / 2]);
     }
-    lent_for(random, book.used_after(call)).max(used)
+    lent_for(random, used_after).max(used)
 }

@@ -1,6 +1,7 @@
 //! Bytes that are no store: one that is damaged, or that has one identifier twice.
 
-use super::book::{Book, Damage};
+use super::book::Book;
+use super::kind::Damage;
 use crate::dialogs::{encode, records};
 use crate::random::Random;
 

@@ -1,25 +1,19 @@
 //! A differing call in full: its arguments, the store that it was given, and what both sides left.
 
-use super::call::Call;
-use super::faults::Scene;
+use super::kind::Kind;
 use super::memory::Left;
+use super::run::Scene;
 use crate::dialogs::room::GUARD;
 
 /// At most so many bytes of a run are printed.
 const MOST: usize = 2000;
 
 /// The call in lines.
-pub fn describe(scene: &Scene, expected: &Left, answered: &Left) -> String {
-    let mut lines = vec![scene.call.name().to_string()];
+pub fn describe<K: Kind>(scene: &Scene<K>, expected: &Left, answered: &Left) -> String {
+    let mut lines = vec![K::name(scene.call).to_string()];
     let argument = |(name, bytes): (&str, &[u8])| format!("{name}: {}", run_of(bytes));
-    lines.extend(scene.call.texts().into_iter().map(argument));
-    match scene.call {
-        Call::Put(image) => lines.push(argument(("image", image))),
-        Call::Response { status, .. } => lines.push(format!("status {status}")),
-        Call::Set { seconds, .. } => lines.push(format!("seconds {seconds}")),
-        Call::AllIds(lent) => lines.push(format!("lent output {lent}")),
-        _ => {}
-    }
+    lines.extend(K::texts(scene.call).into_iter().map(argument));
+    lines.extend(K::arguments(scene.call));
     let store = &scene.before.store;
     lines.push(format!("lent {} of {} bytes", scene.lent, store.size()));
     lines.push(format!("given {}", numbers(scene.before)));
@@ -45,7 +39,7 @@ fn numbers(left: &Left) -> String {
 }
 
 /// A byte run as Rust escapes it, with its length; a long one is cut off.
-fn run_of(bytes: &[u8]) -> String {
+pub fn run_of(bytes: &[u8]) -> String {
     let shown = &bytes[..bytes.len().min(MOST)];
     let rest = if shown.len() < bytes.len() { ".." } else { "" };
     format!("({} bytes) \"{}{rest}\"", bytes.len(), shown.escape_ascii())

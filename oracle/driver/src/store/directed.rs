@@ -1,6 +1,7 @@
 //! Lists at the two limits of a store: 10,000 records, and 100 Early records of one Call-ID.
 
 use super::call::{texts_of, Call};
+use super::dialogs::Dialogs;
 use super::lists::List;
 use super::run::Run;
 use crate::dialogs::image::Parts;
@@ -79,7 +80,7 @@ fn other(number: usize) -> DialogId {
 }
 
 /// A store of 9,999 records is filled to 10,000 and emptied again; one of 10,001 is handed in.
-pub fn at_most_records(run: &mut Run, random: &mut Random) {
+pub fn at_most_records(run: &mut Run<Dialogs>, random: &mut Random) {
     let mut list = List::new(run, random, &many(MOST_EARLY, MOST - 1), [0, 0]);
     for turn in 0..TIMES {
         let held = other(MOST_EARLY + list.random.below(MOST - 1 - MOST_EARLY));
@@ -98,7 +99,7 @@ pub fn at_most_records(run: &mut Run, random: &mut Random) {
 }
 
 /// From 9,999 records to 10,000 and back, twice; at 10,000 every operation.
-fn full(list: &mut List, held: &DialogId, turn: usize) -> bool {
+fn full(list: &mut List<Dialogs>, held: &DialogId, turn: usize) -> bool {
     let (first, second) = (id("first", turn), id("second", turn));
     let up = [put(held, Confirmed), put(&first, Confirmed)];
     let refused = [
@@ -147,7 +148,7 @@ fn readings(held: &DialogId) -> [Call; 5] {
 }
 
 /// Early records of one Call-ID are put up to the limit, from an empty store; a store of 101 is handed in.
-pub fn at_most_early(run: &mut Run, random: &mut Random) {
+pub fn at_most_early(run: &mut Run<Dialogs>, random: &mut Random) {
     for turn in 0..TIMES {
         let mut list = List::new(run, random, &[], [0, 0]);
         let up: Vec<Call> = (0..MOST_EARLY - 1).map(|number| put(&id("e", number), Early)).collect();
@@ -171,7 +172,7 @@ pub fn at_most_early(run: &mut Run, random: &mut Random) {
 }
 
 /// From 99 Early records of a Call-ID to 100, one less, and to 100 again.
-fn around_early(list: &mut List, turn: usize) -> bool {
+fn around_early(list: &mut List<Dialogs>, turn: usize) -> bool {
     let [confirmed, terminated, last, more] = [200, 201, 202, 203].map(|number| id("e", number));
     let early = id("e", list.random.below(MOST_EARLY - 1));
     let up = [

@@ -1,7 +1,8 @@
 //! What a call must answer and leave: refusals 1, 2, 3 and 18 are the run's own checks around the Rust's manager.
 
-use super::book::{change, Book, Damage};
+use super::book::{change, Book};
 use super::call::{dialog_id, Call, ALL_IDS, FIND_BY_CALL_ID, PUT, REMOVE, SWEEP};
+use super::kind::Damage;
 use super::memory::Left;
 use crate::bounds;
 use crate::dialogs::creation::limit;
@@ -55,7 +56,7 @@ fn meet_records(operation: &'static str, records: usize) {
 }
 
 /// Says how the used length compares with the lent one.
-fn meet_lent(operation: &'static str, used: usize, lent: usize) {
+pub fn meet_lent(operation: &'static str, used: usize, lent: usize) {
     bounds::number(operation, "lent bytes", lent);
     match used as i128 - lent as i128 {
         0 => bounds::met(operation, "used bytes", "as many as lent"),

@@ -5,7 +5,9 @@ use super::call::{
     dialog_id, texts_of, Call, ALL_IDS, COUNT, FIND_BY_CALL_ID, FIND_BY_REQUEST, GET, NEXT, PUT, REMOVE, REQUEST,
     RESPONSE, SET, SWEEP, TERMINATE,
 };
+use super::dialogs::Dialogs;
 use super::memory::{Left, Store};
+use super::run;
 use crate::dialogs::image::{self, encode, text_field, Parts};
 use crate::dialogs::room;
 use crate::messages::request;
@@ -13,23 +15,8 @@ use sip_core::{Headers, Method};
 use sip_dialog::DialogStateType::{Early, Terminated};
 use sip_dialog::{Dialog, DialogId};
 
-/// A call as a fault sees it: what it is given, and whether a request was taken before it in its list.
-pub struct Scene<'a> {
-    pub call: &'a Call,
-    pub lent: usize,
-    pub before: &'a Left,
-    pub updated: bool,
-}
-
-/// A planted fault.
-pub struct Fault {
-    /// What PLANTED calls it.
-    pub name: &'static str,
-    pub operation: &'static str,
-    pub what: &'static str,
-    /// Changes the port's answer.
-    pub distort: fn(&Scene, &mut Left),
-}
+type Scene<'a> = run::Scene<'a, Dialogs>;
+type Fault = run::Fault<Dialogs>;
 
 pub const FAULTS: &[Fault] = &[
     Fault {
@@ -42,7 +29,7 @@ pub const FAULTS: &[Fault] = &[
         name: "put-18",
         operation: PUT,
         what: "18 while bytes are free: an exact fit is refused",
-        distort: refuse_exact_fit,
+        distort: run::refuse_exact_fit,
     },
     Fault {
         name: "put-16",
@@ -66,7 +53,7 @@ pub const FAULTS: &[Fault] = &[
         name: "put-byte",
         operation: PUT,
         what: "the byte past the used length is touched",
-        distort: |_, left| touch(left, left.store.used),
+        distort: |_, left| left.store.touch(left.store.used),
     },
     Fault {
         name: "request",
@@ -74,7 +61,7 @@ pub const FAULTS: &[Fault] = &[
         what: "after the first update the verdict is repeated",
         distort: |scene, left| {
             if scene.updated {
-                keep(scene, left, 0);
+                run::keep(scene, left, 0);
             }
         },
     },
@@ -94,7 +81,7 @@ pub const FAULTS: &[Fault] = &[
         name: "request-18",
         operation: REQUEST,
         what: "18 while bytes are free: an exact fit is refused",
-        distort: refuse_exact_fit,
+        distort: run::refuse_exact_fit,
     },
     Fault {
         name: "response",
@@ -138,18 +125,13 @@ pub const FAULTS: &[Fault] = &[
         name: "set_session_expires-byte",
         operation: SET,
         what: "the byte past the lent ones is touched",
-        distort: |scene, left| touch(left, scene.lent),
+        distort: |scene, left| left.store.touch(scene.lent),
     },
     Fault {
         name: "remove",
         operation: REMOVE,
         what: "the freed bytes are cleared",
-        distort: |scene, left| {
-            let freed = left.store.used..scene.before.store.used;
-            if left.number == 0 {
-                left.store.memory()[freed].fill(0);
-            }
-        },
+        distort: run::clear_freed,
     },
     Fault {
         name: "remove-terminated",
@@ -212,11 +194,7 @@ pub const FAULTS: &[Fault] = &[
         name: "count-lent",
         operation: COUNT,
         what: "a used length over the lent one is taken",
-        distort: |scene, left| {
-            *left = scene.before.clone();
-            let whole = left.store.size();
-            ask(scene.call, whole, left);
-        },
+        distort: run::lend_all,
     },
     Fault {
         name: "all_ids",
@@ -253,19 +231,6 @@ fn rewrite(left: &mut Left, change: impl FnOnce(&mut Vec<Dialog>)) {
     }
 }
 
-/// Leaves all as it was, and answers this number.
-fn keep(scene: &Scene, left: &mut Left, number: u8) {
-    *left = scene.before.clone();
-    left.number = number;
-}
-
-/// Touches a byte of the memory, if there is one at that place.
-fn touch(left: &mut Left, place: usize) {
-    if let Some(byte) = left.store.memory().get_mut(place) {
-        *byte ^= 1;
-    }
-}
-
 /// The dialog that a call puts, and the held one of its identifier.
 fn put_and_held(scene: &Scene) -> Option<(Dialog, Dialog)> {
     let Call::Put(image) = scene.call else {
@@ -284,14 +249,6 @@ fn move_replacement(scene: &Scene, left: &mut Left) {
             dialogs.retain(|held| held.id() != dialog.id());
             dialogs.push(dialog);
         });
-    }
-}
-
-/// Where a store grew to exactly the lent bytes, 18.
-fn refuse_exact_fit(scene: &Scene, left: &mut Left) {
-    let grew = left.store.used > scene.before.store.used;
-    if left.number == 0 && grew && left.store.used == scene.lent {
-        keep(scene, left, 18);
     }
 }
 
@@ -318,7 +275,7 @@ fn count_itself(scene: &Scene, left: &mut Left) {
         .iter()
         .filter(|held| held.state() == Early && held.id().call_id() == dialog.id().call_id());
     if dialog.state() == Early && early.count() >= 100 {
-        keep(scene, left, 17);
+        run::keep(scene, left, 17);
     }
 }
 

@@ -1,8 +1,9 @@
 //! Random lists of calls: each from an empty store, each call given what the last one left.
 
-use super::call::Call;
 use super::calls::{self, Pool};
 use super::damage::damaged;
+use super::dialogs::Dialogs;
+use super::kind::{Damage, Kind};
 use super::run::{Run, Sides};
 use crate::dialogs::records;
 use crate::random::Random;
@@ -14,64 +15,67 @@ const LONGEST_LIST: usize = 120;
 const SPARE: usize = 24;
 
 /// A list under way.
-pub struct List<'a> {
-    run: &'a mut Run,
+pub struct List<'a, K: Kind> {
+    run: &'a mut Run<K>,
     pub random: &'a mut Random,
-    pub sides: Sides,
+    pub sides: Sides<K>,
 }
 
-impl<'a> List<'a> {
+impl<'a, K: Kind> List<'a, K> {
     /// A list that begins with this store.
-    pub fn new(run: &'a mut Run, random: &'a mut Random, used: &[u8], counts: [u64; 2]) -> List<'a> {
+    pub fn new(run: &'a mut Run<K>, random: &'a mut Random, used: &[u8], counts: [u64; 2]) -> Self {
         let sides = Sides::of_store(random, used, counts);
         List { run, random, sides }
     }
 
     /// A call that is lent so many bytes; no where the port differs.
-    fn compare(&mut self, call: &Call, lent: usize) -> bool {
+    pub fn compare(&mut self, call: &K::Call, lent: usize) -> bool {
         self.sides.store.grow(self.random, lent + SPARE);
         self.run.compare(&mut self.sides, call, lent)
     }
 
     /// Calls that are lent about as much as their results need.
-    pub fn each(&mut self, calls: &[Call]) -> bool {
+    pub fn each(&mut self, calls: &[K::Call]) -> bool {
         calls.iter().all(|call| {
-            let lent = calls::lent(self.random, self.sides.book(), call);
+            let book = self.sides.book();
+            let lent = calls::lent(self.random, K::used(book), K::used_after(book, call));
             self.compare(call, lent)
         })
     }
 
     /// Calls that are lent more than enough.
-    pub fn each_roomy(&mut self, calls: &[Call]) -> bool {
+    pub fn each_roomy(&mut self, calls: &[K::Call]) -> bool {
         calls.iter().all(|call| {
             let book = self.sides.book();
-            let lent = book.used() + book.used_after(call) + self.random.below(200);
+            let lent = K::used(book) + K::used_after(book, call) + self.random.below(200);
             self.compare(call, lent)
         })
     }
 
     /// A call on damaged bytes in between. Where they are a store still, it is one handed in.
-    fn interrupt(&mut self, pool: &Pool) {
-        let (random, book) = (&mut *self.random, self.sides.book());
-        let (damage, bytes) = damaged(random, book);
-        let call = calls::make(random, pool, book);
-        let mut other = Sides::damaged(random, &bytes, book.counts(), damage);
+    pub fn interrupt(&mut self, call: &K::Call, (damage, bytes): (Damage, Vec<u8>)) {
+        let random = &mut *self.random;
+        let counts = [self.sides.store.created, self.sides.store.terminated];
+        let mut other = Sides::damaged(random, &bytes, counts, damage);
         let lent = random.pick(&[bytes.len(), other.store.size()]);
         if random.one_in(6) {
             other.store.used = random.pick(&[lent + 1, usize::MAX, usize::MAX, 1 << 63]);
         }
-        self.run.compare(&mut other, &call, lent);
+        self.run.compare(&mut other, call, lent);
     }
 }
 
 /// One random list.
-pub fn list(run: &mut Run, random: &mut Random) {
+pub fn list(run: &mut Run<Dialogs>, random: &mut Random) {
     let counts = counts(random);
     let pool = Pool::new(random);
     let mut list = List::new(run, random, &[], counts);
     for _ in 0..1 + list.random.below(LONGEST_LIST) {
         if list.random.one_in(12) {
-            list.interrupt(&pool);
+            let book = list.sides.book();
+            let damaged = damaged(list.random, book);
+            let call = calls::make(list.random, &pool, book);
+            list.interrupt(&call, damaged);
         }
         let call = calls::make(list.random, &pool, list.sides.book());
         if !list.each(&[call]) {
@@ -91,9 +95,9 @@ fn counts(random: &mut Random) -> [u64; 2] {
 
 /// A random call on every store that one of two records becomes by any byte in any one place, by an end cut off, or by any
 /// byte behind it.
-pub fn each_broken(run: &mut Run, random: &mut Random) {
+pub fn each_broken(run: &mut Run<Dialogs>, random: &mut Random) {
     let store = records::templates().concat();
-    let whole = Sides::of_store(random, &store, [0, 0]);
+    let whole: Sides<Dialogs> = Sides::of_store(random, &store, [0, 0]);
     let pool = Pool::new(random);
     records::each_broken(&store, &mut |damage, bytes| {
         let mut other = Sides::damaged(random, bytes, [0, 0], damage);

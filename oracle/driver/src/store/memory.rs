@@ -1,6 +1,6 @@
 //! The memory that a store lies in, as one call leaves it for the next, and all else that a call leaves.
 
-use super::call::{Call, NEXT};
+use super::kind::Kind;
 use crate::dialogs::room;
 use crate::random::Random;
 
@@ -48,6 +48,13 @@ impl Store {
         self.used = used.len();
     }
 
+    /// A fault: touches a byte of the memory, if there is one at that place.
+    pub fn touch(&mut self, place: usize) {
+        if let Some(byte) = self.memory().get_mut(place) {
+            *byte ^= 1;
+        }
+    }
+
     /// Gives the memory `size` bytes at least, as a caller does who moves a store.
     pub fn grow(&mut self, random: &mut Random, size: usize) {
         if size > self.size() {
@@ -80,19 +87,11 @@ pub struct Left {
 
 impl Left {
     /// What a call is given: out numbers and lent output hold the pattern.
-    pub fn before(call: &Call, store: Store, pattern: u64) -> Left {
-        let width = if call.name() == NEXT {
-            u64::from(u32::MAX)
-        } else {
-            u64::MAX
-        };
-        let output = match call {
-            Call::AllIds(lent) => vec![pattern as u8; *lent],
-            _ => Vec::new(),
-        };
+    pub fn before<K: Kind>(call: &K::Call, store: Store, pattern: u64) -> Left {
+        let output = vec![pattern as u8; K::output(call)];
         Left {
             number: 0,
-            outs: [pattern & width; 2],
+            outs: [pattern & K::widest(call); 2],
             output: room::guarded(&output, pattern),
             store,
         }

@@ -3,27 +3,29 @@
 
 mod ask;
 mod book;
-mod call;
+pub mod call;
 mod calls;
 mod damage;
-mod describe;
+pub mod describe;
+mod dialogs;
 mod directed;
-mod expect;
+pub mod expect;
 mod faults;
-mod lists;
-mod memory;
+pub mod kind;
+pub mod lists;
+pub mod memory;
 mod order;
-mod run;
+pub mod run;
 mod rust;
 
 use crate::random::Random;
-use run::Run;
+use dialogs::Dialogs;
+use run::{Fault, Run};
 
-pub use call::OPERATIONS;
-pub use faults::{Fault, FAULTS};
+pub use faults::FAULTS;
 
 /// Compares so many random lists and the directed ones; these faults are put in, each by itself.
-pub fn compare_all(lists: usize, seed: u64, faults: &[&'static Fault]) -> Run {
+pub fn compare_all(lists: usize, seed: u64, faults: &[&'static Fault<Dialogs>]) -> Run<Dialogs> {
     let mut run = Run::new(faults);
     let mut random = Random::new(seed, "store");
     order::each(&mut run, &mut random);

@@ -2,6 +2,7 @@
 //! of two records, handed in.
 
 use super::call::{texts_of, Call, Id};
+use super::dialogs::Dialogs;
 use super::run::{Run, Sides};
 use crate::dialogs::{image, records};
 use crate::random::Random;
@@ -22,7 +23,7 @@ const STORES: usize = 3;
 const ROOMS: usize = 2;
 
 /// All of them.
-pub fn each(run: &mut Run, random: &mut Random) {
+pub fn each(run: &mut Run<Dialogs>, random: &mut Random) {
     let bytes = records::templates().concat();
     let records = image::decode_all(&bytes).expect("two records");
     let two = Two {
@@ -43,7 +44,7 @@ pub fn each(run: &mut Run, random: &mut Random) {
 type Give<'a> = &'a mut dyn FnMut(&Call, usize, usize);
 
 /// Compares a call on the store so chosen.
-fn give(run: &mut Run, random: &mut Random, bytes: &[u8], call: &Call, [store, room]: [usize; 2]) {
+fn give(run: &mut Run<Dialogs>, random: &mut Random, bytes: &[u8], call: &Call, [store, room]: [usize; 2]) {
     let used = bytes.len() - usize::from(store == 1);
     let mut sides = Sides::damaged(random, &bytes[..used], [7, 7], records::CUT);
     let lent = match (store, room) {

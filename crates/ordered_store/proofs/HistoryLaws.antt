@@ -1,0 +1,177 @@
+-- Every list of calls from an empty store: the used bytes are those of the content that the definitions give, and every answer is the one over it.
+-- Owed by each store: an exact form whose entries have a byte, and calls that keep good, ascending entries so. Assumes nothing.
+use Prim.Native.Nat.{ℕ, _+_, _≤_, _<_, zero-le}
+use native.Mathlib.Omega.{arith}
+use native.Mathlib.Nat.{le-trans}
+use mathlib.Core.Path.{_≡_, refl, sym, ap, ap₂, subst, _∙_}
+use mathlib.Core.Bool.{Bool, true, false}
+use mathlib.Core.List.{List, [], _∷_, _++_, append-assoc}
+use mathlib.Core.Option.{Option, none, some}
+use lib.ListN.{length, take, drop, length-append, length-drop, take-append-drop}
+use lib.Seq.{take-append-seam, take-take, length-take-le}
+use lib.Dec.{ltb}
+use borrow.Author.Tests.{ltb-false}
+use Rattle.limits.specs.Outcome.{Outcome, refused, given, refuseBy, refuseIf, andThen, orRefuse}
+use Rattle.limits.specs.declared.Refusal.{Refusal}
+use Rattle.limits.specs.declared.Refusal.the-variants.{BadStore, NoRoom}
+use Rattle.edit.specs.Edit.{over}
+use Rattle.record.specs.Codec.{Codec, writeAll}
+use Rattle.record.proofs.CodecLaws.{Exact, GoodAll}
+use Rattle.ordered_store.specs.Entries.{Key, encodeEntries, decodeEntries, ascending}
+use Rattle.ordered_store.specs.Run.{Decided, Left, fitting, leave, verdict, run}
+use Rattle.ordered_store.specs.History.{Calls, World, decide, after, answerOf, content, contentAnswers, lending, world, storeAnswers, Follows}
+use Rattle.ordered_store.proofs.BytesLaws.{decode-encode}
+
+-- every call is lent no more than the memory
+abbrev pub EachLent : {A B : Type 0} (C : Calls A B) → List ℕ → List (C .Call) → Type 0
+EachLent C m [] = Unit {0}
+EachLent C m (c ∷ cs) = (C .lent c ≤ length m) × EachLent C m cs
+
+-- good entries in ascending order
+abbrev pub Sound : {A : Type 0} → (A → Key) → (A → Type 0) → List A → Type 0
+Sound keyOf Good es = GoodAll Good es × (ascending keyOf es ≡ true)
+
+-- what a store owes: a call whose arguments are taken keeps good, ascending entries so
+abbrev pub Keeps : {A B : Type 0} → (A → Key) → (A → Type 0) → Calls A B → Type 0
+Keeps {A} {B} keyOf Good C = (c : C .Call) (es : List A) (d : Decided A B) → C .cause c ≡ none → C .judge c es ≡ given d → Sound keyOf Good es → Sound keyOf Good (d .entries)
+
+module _ {A B : Type 0} (form : Codec A) (keyOf : A → Key) (C : Calls A B) where
+  -- what an accepted call decided
+  pub record Accepted (c : C .Call) (es : List A) (d : Decided A B) : Type 0 where
+    pub clear : C .cause c ≡ none
+    pub judged : C .judge c es ≡ given d
+    pub fits : length (encodeEntries form (d .entries)) ≤ C .lent c
+
+  accepted : (c : C .Call) (es : List A) (d : Decided A B) → decide form keyOf C c es ≡ given d → Accepted c es d
+  unfolding decide
+  accepted c es d e = by (C .cause c) refl (ltb (C .lent c) (length (encodeEntries form es))) (C .judge c es) refl e
+    where
+      last : C .cause c ≡ none → (y : Decided A B) → C .judge c es ≡ given y → (t : Bool) → ltb (C .lent c) (length (encodeEntries form (y .entries))) ≡ t
+          → refuseIf t NoRoom (given y) ≡ given d → Accepted c es d
+      last q y j true t e = absurd (let z : _≡_ {A = ℕ} 0 1 = cc in omega arith)
+      last q y j false t e =
+          let k : y ≡ d = cc in
+          subst (Accepted c es) k (record { clear = q; judged = j; fits = ltb-false (C .lent c) (length (encodeEntries form (y .entries))) t })
+
+      by : (o : Option Refusal) → C .cause c ≡ o → (t : Bool) (j : Outcome (Decided A B)) → C .judge c es ≡ j
+          → refuseBy o (refuseIf t BadStore (andThen j (λ y. fitting form (C .lent c) y))) ≡ given d → Accepted c es d
+      by (some cause) q t j p e = absurd (let z : _≡_ {A = ℕ} 0 1 = cc in omega arith)
+      by none q true j p e = absurd (let z : _≡_ {A = ℕ} 0 1 = cc in omega arith)
+      by none q false (refused cause) p e = absurd (let z : _≡_ {A = ℕ} 0 1 = cc in omega arith)
+      by none q false (given y) p e = last q y p (ltb (C .lent c) (length (encodeEntries form (y .entries)))) refl e
+
+  -- ---- one call
+
+  module _ (c : C .Call) (es : List A) (bytes : List ℕ) (used : ℕ) (len : length bytes ≡ C .lent c) (is : used ≡ length (encodeEntries form es))
+      (reads : length (encodeEntries form es) ≤ C .lent c → decodeEntries form keyOf (take used bytes) ≡ some es) where
+    abbrev onEntries : List A → Outcome (Decided A B)
+    onEntries l = andThen (C .judge c l) (λ d. fitting form (length bytes) d)
+
+    body : refuseIf (ltb (length bytes) used) BadStore (andThen (orRefuse BadStore (decodeEntries form keyOf (take used bytes))) onEntries)
+        ≡ refuseIf (ltb (C .lent c) (length (encodeEntries form es))) BadStore (andThen (C .judge c es) (λ d. fitting form (C .lent c) d))
+    body =
+        ap₂ (λ n u. refuseIf (ltb n u) BadStore (andThen (orRefuse BadStore (decodeEntries form keyOf (take used bytes))) onEntries)) len is
+        ∙ by (ltb (C .lent c) (length (encodeEntries form es))) refl
+      where
+        by : (t : Bool) → ltb (C .lent c) (length (encodeEntries form es)) ≡ t
+            → refuseIf t BadStore (andThen (orRefuse BadStore (decodeEntries form keyOf (take used bytes))) onEntries) ≡ refuseIf t BadStore (andThen (C .judge c es) (λ d. fitting form (C .lent c) d))
+        by true e = refl
+        by false e =
+            ap (λ o. andThen (orRefuse BadStore o) onEntries) (reads (ltb-false (C .lent c) (length (encodeEntries form es)) e))
+            ∙ ap (λ n. andThen (C .judge c es) (λ d. fitting form n d)) len
+
+    -- the store's verdict is the one over the content
+    verdict-is : verdict form keyOf (C .cause c) (C .judge c) bytes used ≡ decide form keyOf C c es
+    unfolding verdict decide
+    verdict-is = ap (refuseBy (C .cause c)) body
+
+  -- ---- the store between two calls
+
+  pub record Stands (m : List ℕ) (w : World) (es : List A) : Type 0 where
+    pub room : length (w .memory) ≡ length m
+    pub used-is : w .used ≡ length (encodeEntries form es)
+    pub within : w .used ≤ length m
+    pub front : take (w .used) (w .memory) ≡ encodeEntries form es
+
+  module _ (Good : A → Type 0) (x : Exact form Good) (filled : (a : A) → 0 < length (form .write a)) where
+    module _ (m : List ℕ) (c : C .Call) (w : World) (es : List A) (g : Sound keyOf Good es) (f : Stands m w es) (fits : C .lent c ≤ length m) where
+      abbrev lentBytes : List ℕ
+      lentBytes = take (C .lent c) (w .memory)
+
+      lent-length : length lentBytes ≡ C .lent c
+      lent-length = length-take-le (C .lent c) (w .memory) (omega (arith, f .room, fits))
+
+      reads-back : length (encodeEntries form es) ≤ C .lent c → decodeEntries form keyOf (take (w .used) lentBytes) ≡ some es
+      reads-back h =
+          ap (decodeEntries form keyOf) (take-take (w .used) (C .lent c) (w .memory) (omega (arith, f .used-is, h)) ∙ f .front)
+          ∙ decode-encode form keyOf Good x filled es (g .0) (g .1)
+
+      run-is : lending form keyOf C c w ≡ leave form lentBytes (w .used) (decide form keyOf C c es)
+      unfolding run
+      run-is = ap (leave form lentBytes (w .used)) (verdict-is c es lentBytes (w .used) lent-length (f .used-is) reads-back)
+
+      -- the store answers what the definitions answer over the content
+      pub same-answer : lending form keyOf C c w .answer ≡ answerOf form keyOf C (decide form keyOf C c es)
+      same-answer = ap (λ (l : Left B). l .answer) run-is ∙ by (decide form keyOf C c es)
+        where
+          by : (v : Outcome (Decided A B)) → leave form lentBytes (w .used) v .answer ≡ answerOf form keyOf C v
+          by (refused cause) = refl
+          by (given d) = refl
+
+      abbrev nextBy : Left B → World
+      nextBy l = record { memory = l .bytes ++ drop (C .lent c) (w .memory); used = l .used }
+
+      pub stands-next : Stands m (nextBy (lending form keyOf C c w)) (after form keyOf C (decide form keyOf C c es) es)
+      stands-next = subst (λ (l : Left B). Stands m (nextBy l) (after form keyOf C (decide form keyOf C c es) es)) (sym run-is) (by (decide form keyOf C c es) refl)
+        where
+          by : (v : Outcome (Decided A B)) → decide form keyOf C c es ≡ v → Stands m (nextBy (leave form lentBytes (w .used) v)) (after form keyOf C v es)
+          by (refused cause) e =
+              let same : lentBytes ++ drop (C .lent c) (w .memory) ≡ w .memory = take-append-drop (C .lent c) (w .memory) in
+              record { room = ap length same ∙ f .room; used-is = f .used-is; within = f .within; front = ap (take (w .used)) same ∙ f .front }
+          by (given d) e =
+              let new : List ℕ = encodeEntries form (d .entries) in
+              let small : length new ≤ C .lent c = accepted c es d e .fits in
+              let split : over new lentBytes ++ drop (C .lent c) (w .memory) ≡ new ++ (drop (length new) lentBytes ++ drop (C .lent c) (w .memory)) = append-assoc new (drop (length new) lentBytes) (drop (C .lent c) (w .memory)) in
+              record {
+                room = ap length split ∙ simp (length-append, length-drop) (omega (arith, lent-length, f .room, small, fits));
+                used-is = refl;
+                within = le-trans small fits;
+                front = ap (take (length new)) split ∙ take-append-seam new (drop (length new) lentBytes ++ drop (C .lent c) (w .memory));
+              }
+
+    -- ---- every list of calls
+
+    module _ (keeps : Keeps keyOf Good C) where
+      -- the content is good and ascends
+      pub sound : (cs : List (C .Call)) → Sound keyOf Good (content form keyOf C cs)
+      unfolding content
+      sound [] = (tt, refl)
+      sound (c ∷ cs) = by (decide form keyOf C c (content form keyOf C cs)) refl (sound cs)
+        where
+          by : (v : Outcome (Decided A B)) → decide form keyOf C c (content form keyOf C cs) ≡ v → Sound keyOf Good (content form keyOf C cs) → Sound keyOf Good (after form keyOf C v (content form keyOf C cs))
+          by (refused cause) e g = g
+          by (given d) e g = let k = accepted c (content form keyOf C cs) d e in keeps c (content form keyOf C cs) d (k .clear) (k .judged) g
+
+      module _ (m : List ℕ) where
+        stands : (cs : List (C .Call)) → EachLent C m cs → Stands m (world form keyOf C m cs) (content form keyOf C cs)
+        unfolding world content writeAll
+        stands [] s = record { room = refl; used-is = refl; within = zero-le; front = refl }
+        stands (c ∷ cs) s = stands-next m c (world form keyOf C m cs) (content form keyOf C cs) (sound cs) (stands cs (s .1)) (s .0)
+
+        same-answers : (cs : List (C .Call)) → EachLent C m cs → storeAnswers form keyOf C m cs ≡ contentAnswers form keyOf C cs
+        unfolding storeAnswers contentAnswers
+        same-answers [] s = refl
+        same-answers (c ∷ cs) s =
+            ap₂ (λ (a : Outcome B) (l : List (Outcome B)). a ∷ l)
+            (same-answer m c (world form keyOf C m cs) (content form keyOf C cs) (sound cs) (stands cs (s .1)) (s .0)) (same-answers cs (s .1))
+
+        -- the store follows the content, after every list of calls
+        pub follows : (cs : List (C .Call)) → EachLent C m cs → Follows form keyOf C m cs
+        follows cs s =
+            let k = stands cs s in
+            let g = sound cs in
+            record {
+              holds = k .front;
+              reads = ap (decodeEntries form keyOf) (k .front) ∙ decode-encode form keyOf Good x filled (content form keyOf C cs) (g .0) (g .1);
+              answers = same-answers cs s;
+            }

@@ -1,0 +1,5 @@
+pub mod Entries
+pub mod History
+pub mod Order
+pub mod Run
+pub mod Seat

@@ -1,0 +1,4 @@
+pub mod Layout
+pub mod Lists
+pub mod Places
+pub mod Steps

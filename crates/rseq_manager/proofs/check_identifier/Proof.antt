@@ -1,0 +1,38 @@
+-- `rseq_manager::check_identifier` meets its contract: the first text that is too long. Assumes nothing.
+use mathlib.Core.Path.{refl, sym, _∙_}
+use borrow.Author.Needs.{needs}
+use Rattle.rseq_manager.proofs.check_identifier.Statement.{statement}
+use Rattle.rseq_manager.proofs.check_identifier.Tie as tie
+
+too-long-requires : tie.Need-too-long-requires
+too-long-requires c κs = search needs
+
+returns : tie.Need-returns
+returns c = rw (sym (c .before .too-long .ensures) ∙ c .if1 .taken) refl
+
+too-long-requires-2 : tie.Need-too-long-requires-2
+too-long-requires-2 c κs = search needs
+
+returns-2 : tie.Need-returns-2
+returns-2 c = rw (sym (c .before .before .before .too-long .ensures) ∙ c .before .before .if1 .left, sym (c .before .too-long2 .ensures) ∙ c .if2 .taken) refl
+
+too-long-requires-3 : tie.Need-too-long-requires-3
+too-long-requires-3 c κs = search needs
+
+returns-3 : tie.Need-returns-3
+returns-3 c = rw (sym (c .before .before .before .before .before .too-long .ensures) ∙ c .before .before .before .before .if1 .left, sym (c .before .before .before .too-long2 .ensures) ∙ c .before .before .if2 .left, sym (c .before .too-long3 .ensures) ∙ c .if3 .taken) refl
+
+returns-4 : tie.Need-returns-4
+returns-4 c = rw (sym (c .before .before .before .before .before .too-long .ensures) ∙ c .before .before .before .before .if1 .left, sym (c .before .before .before .too-long2 .ensures) ∙ c .before .before .if2 .left, sym (c .before .too-long3 .ensures) ∙ c .if3 .left) refl
+
+pub check-identifier-spec : {M : Type 1} → statement M
+check-identifier-spec =
+    tie.close
+    (tie.spec
+    too-long-requires
+    returns
+    too-long-requires-2
+    returns-2
+    too-long-requires-3
+    returns-3
+    returns-4)

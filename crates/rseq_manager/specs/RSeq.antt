@@ -1,0 +1,126 @@
+-- RSeqManager: the RSeq number of each dialog (RFC 3262 section 3), in a lent store of their own. Document 01, "Intervals, PRACK, RSeq": "RSeq starts at (n's
+-- low 31 bits, at least 1) for a caller's n, then rises by one and stops at 4,294,967,295". Its layout: docs/LAYOUTS.md, "The RSeq store".
+use Prim.Native.Nat.{ℕ, _+_, _-_, _%_, _<_, min, max}
+use mathlib.Core.Bool.{Bool, cond}
+use mathlib.Core.List.{List, [], _∷_}
+use mathlib.Core.Option.{Option, none, some}
+use lib.ListN.{length}
+use lib.Dec.{eqb, ltb}
+use Rattle.limits.specs.Limits.{LimitSet}
+use Rattle.limits.specs.Outcome.{Outcome, given, orElse, andThen, orRefuse}
+use Rattle.limits.specs.declared.Refusal.{Refusal}
+use Rattle.limits.specs.declared.Refusal.the-variants.{NotFound}
+use Rattle.text.specs.Answers.{lengthCause}
+use Rattle.record.specs.Codec.{Codec, Pair, then, such, mapped, four, text}
+use Rattle.ordered_store.specs.Entries.{Key, entryOf, setEntry, withoutEntry}
+use Rattle.ordered_store.specs.Run.{Decided, Left, run}
+use Rattle.ordered_store.specs.History.{Calls}
+
+-- an identifier: three texts, any bytes
+pub record Ident : Type 0 where
+  pub callId : List ℕ
+  pub localTag : List ℕ
+  pub remoteTag : List ℕ
+
+abbrev pub ident : List ℕ → List ℕ → List ℕ → Ident
+ident callId localTag remoteTag = record { callId = callId; localTag = localTag; remoteTag = remoteTag }
+
+-- Call-ID first, then the local tag, then the remote one
+abbrev pub keyOfIdent : Ident → Key
+keyOfIdent i = i .callId ∷ i .localTag ∷ i .remoteTag ∷ []
+
+-- the number of a dialog, never 0
+pub record Entry : Type 0 where
+  pub id : Ident
+  pub number : ℕ
+
+abbrev pub keyOf : Entry → Key
+keyOf e = keyOfIdent (e .id)
+
+-- ---- the layout: three texts with two length bytes each, then four bytes
+
+abbrev pub isPositive : ℕ → Bool
+isPositive n = ltb 0 n
+
+abbrev pub parts : Codec (Pair (List ℕ) (Pair (List ℕ) (Pair (List ℕ) ℕ)))
+parts = then text (then text (then text (such four isPositive)))
+
+abbrev pub entryFrom : Pair (List ℕ) (Pair (List ℕ) (Pair (List ℕ) ℕ)) → Entry
+entryFrom p = record { id = ident (p .first) (p .second .first) (p .second .second .first); number = p .second .second .second }
+
+abbrev pub partsOf : Entry → Pair (List ℕ) (Pair (List ℕ) (Pair (List ℕ) ℕ))
+partsOf e = record { first = e .id .callId; second = record { first = e .id .localTag; second = record { first = e .id .remoteTag; second = e .number } } }
+
+abbrev pub entryForm : Codec Entry
+entryForm = mapped entryFrom partsOf parts
+
+-- an entry that has an image
+pub record WellFormed (e : Entry) : Type 0 where
+  pub call-short : length (e .id .callId) < 65536
+  pub local-short : length (e .id .localTag) < 65536
+  pub remote-short : length (e .id .remoteTag) < 65536
+  pub positive : 0 < e .number
+  pub fits : e .number < 4294967296
+
+-- ---- the numbers
+
+-- the first number: n's low 31 bits, at least 1
+abbrev pub firstNumber : ℕ → ℕ
+firstNumber n = max 1 (n % 2147483648)
+
+-- one more, but at most the largest of four bytes
+abbrev pub nextNumber : ℕ → ℕ
+nextNumber n = min (n + 1) 4294967295
+
+abbrev pub numberAfter : ℕ → Option Entry → ℕ
+numberAfter n none = firstNumber n
+numberAfter n (some e) = nextNumber (e .number)
+
+-- ---- the calls
+
+-- n is the caller's number, which is looked at only where none is held
+pub data Action : Type 0 where
+  next : (id : Ident) (n : ℕ) → Action
+  current : (id : Ident) → Action
+  remove : (id : Ident) → Action
+  len : Action
+
+-- a call, and how many bytes it is lent for the store
+pub record Call : Type 0 where
+  pub lent : ℕ
+  pub action : Action
+
+-- 1, of the three texts
+abbrev pub identCause : LimitSet → Ident → Option Refusal
+identCause L i = orElse (lengthCause L (i .callId)) (orElse (lengthCause L (i .localTag)) (lengthCause L (i .remoteTag)))
+
+unfoldable pub actionCause : LimitSet → Action → Option Refusal
+actionCause L (next id n) = identCause L id
+actionCause L (current id) = identCause L id
+actionCause L (remove id) = identCause L id
+actionCause L len = none
+
+-- an accepted call: the entries afterwards, and the number that it answers (a removal: 0)
+abbrev pub deciding : List Entry → ℕ → Outcome (Decided Entry ℕ)
+deciding es n = given (record { entries = es; answer = given n })
+
+abbrev pub numbered : Ident → ℕ → Entry
+numbered id n = record { id = id; number = n }
+
+unfoldable pub judge : Action → List Entry → Outcome (Decided Entry ℕ)
+judge (next id n) es = deciding (setEntry keyOf (numbered id (numberAfter n (entryOf keyOf (keyOfIdent id) es))) es) (numberAfter n (entryOf keyOf (keyOfIdent id) es))
+judge (current id) es = andThen (orRefuse NotFound (entryOf keyOf (keyOfIdent id) es)) (λ e. deciding es (e .number))
+judge (remove id) es = deciding (withoutEntry keyOf (keyOfIdent id) es) 0
+judge len es = deciding es (length es)
+
+-- what a call leaves of the lent bytes, of which so many are used
+abbrev pub ran : LimitSet → Action → List ℕ → ℕ → Left ℕ
+ran L a bytes used = run entryForm keyOf (actionCause L a) (judge a) bytes used
+
+-- `is_empty`: 1 where no dialog has a number, otherwise 0
+abbrev pub emptyFlag : ℕ → ℕ
+emptyFlag n = cond (eqb n 0) 1 0
+
+-- the calls of a list
+abbrev pub calls : LimitSet → Calls Entry ℕ
+calls L = record { Call = Call; lent = λ c. c .lent; cause = λ c. actionCause L (c .action); judge = λ c. judge (c .action) }
