@@ -88,10 +88,10 @@ place-all P r (x ∷ b) p a =
 -- ---- keep
 
 pub keep-here : (k : Staying) (r : Record) (b : Book) → stays k r ≡ true → keep k (r ∷ b) ≡ r ∷ keep k b
-keep-here k r b e = ap (λ t. cond t (r ∷ keep k b) (keep k b)) e
+keep-here k r b e = rw e
 
 pub keep-there : (k : Staying) (r : Record) (b : Book) → stays k r ≡ false → keep k (r ∷ b) ≡ keep k b
-keep-there k r b e = ap (λ t. cond t (r ∷ keep k b) (keep k b)) e
+keep-there k r b e = rw e
 
 -- what holds of a book without its first record, and of a book that keeps it
 module _ (k : Staying) (P : Book → Type 0) (r : Record) (b : Book) where

@@ -23,7 +23,7 @@ use Rattle.dialog.specs.Updates.{kindOf, retargeted}
 use Rattle.book.specs.Calls.{Ident, sameIdent, Update, request, response, terminate, localNumber, interval, Call, put, update, remove, sweep, read, lent, imageIn, Answer}
 use Rattle.book.specs.Book.{Book, storeImage, storeRead, emptyStore, size, identOf, isOf, namedIn, nameOf, find, findNamed, amend, earlyOf, decide, after, answerOf}
 use Rattle.book.specs.Store.{Left, run}
-use Rattle.book.specs.Returned.{Returns}
+use Rattle.book.specs.Returned.{Returns, Lent, lentAfter}
 
 abbrev pub All : {A : Type 0} → (A → Type 0) → List A → Type 0
 All P [] = Unit {0}
@@ -273,18 +273,29 @@ pub record Permitted (L : LimitSet) : Type 0 where
 
 -- ---- calls that were really made
 
--- a call and the number that it returned
+-- what a caller saw of a call: the number that it returned, and what the caller lent beside the store, as the call was entered and as it returned
 pub record Returned : Type 0 where
   pub call : Call
   pub number : ℕ
+  pub lent : Lent
+  pub left : Lent
 
-abbrev pub returned : List Entry → List Returned
-returned [] = []
-returned (e ∷ es) = record { call = e .call; number = numberIn (e .answer) } ∷ returned es
+-- the caller saw this answer to this call: its number, and its values in what was lent for them
+pub record Shows (e : Entry) (r : Returned) : Type 0 where
+  pub same-call : r .call ≡ e .call
+  pub number-is : r .number ≡ numberIn (e .answer)
+  pub values-are : r .left ≡ lentAfter (e .answer) (r .lent)
+
+-- call by call
+abbrev pub EachShows : List Entry → List Returned → Type 0
+EachShows [] [] = Unit {0}
+EachShows [] (r ∷ rs) = ⊥
+EachShows (e ∷ es) [] = ⊥
+EachShows (e ∷ es) (r ∷ rs) = Shows e r × EachShows es rs
 
 -- Calls of which nothing is known but what their contracts promise: each was lent the first bytes of the memory, as many as it says, and the used length, as the last left them.
 pub data Ran (L : LimitSet) (m : List ℕ) : List Call → World → List Returned → Type 0 where
   start : Ran L m [] (record { memory = over emptyStore m; used = length emptyStore }) []
   called : {cs : List Call} {w : World} {rs : List Returned} → Ran L m cs w rs
-      → (c : Call) (bytes : List ℕ) (used number : ℕ) → Returns (lending L c w) bytes used number
-      → Ran L m (c ∷ cs) (record { memory = bytes ++ drop (lent c) (w .memory); used = used }) (record { call = c; number = number } ∷ rs)
+      → (c : Call) (bytes : List ℕ) (used number : ℕ) (before left : Lent) → Returns (lending L c w) bytes used number → left ≡ lentAfter (lending L c w .answer) before
+      → Ran L m (c ∷ cs) (record { memory = bytes ++ drop (lent c) (w .memory); used = used }) (record { call = c; number = number; lent = before; left = left } ∷ rs)

@@ -4,7 +4,7 @@
 use Prim.Native.Nat.{ℕ}
 use mathlib.Core.Path.{_≡_}
 use mathlib.Core.List.{List}
-use mathlib.Core.Option.{Option·getD}
+use mathlib.Core.Option.{Option, Option·getD, Option·map}
 use lib.ListN.{length}
 use Rattle.limits.specs.Outcome.{refused, given, numberIn}
 use Rattle.limits.specs.Refusal.{leastOf}
@@ -14,7 +14,7 @@ use Rattle.output.specs.declared.Written.the-variants as writing
 use Rattle.dialog.specs.declared.updates.Raised.{Raised}
 use Rattle.dialog.specs.declared.updates.Raised.the-variants as raised
 use Rattle.book.specs.Calls.{noValue, number, imageAt, written, Answer}
-use Rattle.book.specs.Store.{Left}
+use Rattle.book.specs.Store.{Left, outputAfter}
 
 -- What the contract of a C function says of one call, l being what `run` leaves of the values as it was entered: the lent bytes and the used length
 -- as it returns, and the number returned.
@@ -58,6 +58,27 @@ leastAfter (given v) old = old
 abbrev pub countAfter : Answer → ℕ → ℕ
 countAfter (refused cause) old = old
 countAfter (given v) old = counted old
+
+-- What a caller lends beside the store and the used length: numbers for a next local number or a count of records, for a place and a length, for the least
+-- interval and for a count of accepted calls, and bytes for an output. A call that isn't lent one has none.
+pub record Lent : Type 0 where
+  pub number : Option ℕ
+  pub place : Option ℕ
+  pub length : Option ℕ
+  pub least : Option ℕ
+  pub count : Option ℕ
+  pub output : Option (List ℕ)
+
+-- what an answer leaves of all that
+abbrev pub lentAfter : Answer → Lent → Lent
+lentAfter a l = record {
+  number = Option·map (numberAfter a) (l .number);
+  place = Option·map (placeAfter a) (l .place);
+  length = Option·map (lengthAfter a) (l .length);
+  least = Option·map (leastAfter a) (l .least);
+  count = Option·map (countAfter a) (l .count);
+  output = Option·map (outputAfter a) (l .output);
+}
 
 -- ---- the answers of the functions that the C functions call, case by case
 

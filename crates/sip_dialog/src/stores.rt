@@ -4,11 +4,13 @@ use c_image_answers::give_raised;
 use c_image_answers::give_set;
 use c_store_answers::give_counted;
 ghost use mathlib.Core.Path.{_≡_};
+ghost use Prim.Native.Nat.{_<_};
 ghost use Rattle.book.specs.Calls.{ident, request, response, terminate, localNumber, interval, put, update, remove, sweep};
+ghost use Rattle.book.specs.History.{All};
 ghost use Rattle.book.specs.Returned.{Returns, numberAfter, leastAfter, countAfter};
 ghost use Rattle.c_store_answers.specs.Given.{leftBy};
 
-// DialogManager::insert of one record image, and the created count: 3, 16, 17, 18.
+// DialogManager::insert of one record image, and the created count: 3, 16, 17, 18. An image that is lent is made of bytes.
 #[no_mangle]
 pub extern "C" fn sip_dialog_put(
     image: &[u8],
@@ -18,6 +20,7 @@ pub extern "C" fn sip_dialog_put(
 ) -> u8
     ensures { λ r. ⌜ Returns (leftBy (λ n. put n (now (image .entry))) (now (store .entry)) (now (used .entry))) (now (store .exit)) (now (used .exit)) r ⌝ }
     ensures { λ _. ⌜ now (created .exit) ≡ countAfter (leftBy (λ n. put n (now (image .entry))) (now (store .entry)) (now (used .entry)) .answer) (now (created .entry)) ⌝ }
+    ensures { λ _. ⌜ All (λ b. b < 256) (now (image .entry)) ⌝ }
 {
     give_counted(store_puts::put(image, store, *used), used, created)
 }
