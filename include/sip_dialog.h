@@ -8,9 +8,11 @@
  * - A byte run is a pointer and its length in bytes; no zero byte ends it. A null pointer is allowed only with length 0.
  * - Byte runs of one call must not overlap, neither each other nor a lent number.
  * - A lent number (found, place, ..) is a pointer to a number of its own, never null. It keeps its value except where its
- *   answer is given: a refused call changes none of them (but 13's `least`), and with `found` 0 the others keep theirs.
+ *   answer is given: a refused call changes none of them (but 13's `least`, and `used` of sip_dialog_prack_validate with 19 to 24),
+ *   and with `found` 0 the others keep theirs.
  * - A function that can refuse returns 0 (accepted) or the number of the first cause that holds, in the order given with it.
- * - Refused, lent bytes stay as they were; accepted, those past the written length do.
+ * - Refused, lent bytes stay as they were (but the store of sip_dialog_prack_validate with 19 to 24); accepted, those past the
+ *   written length do.
  * - A place counts from 0 at the start of the run that was given; a length is in bytes. Both always lie within that run.
  *
  * Header block: lines `name:value` CRLF, the last one too; a name has letters, digits and `-`, at least one; a value has
@@ -28,7 +30,7 @@
 extern "C" {
 #endif
 
-/* Why a call is turned back. None of the functions below returns 20 to 24: these belong to PRACK lists. */
+/* Why a call is turned back. 20 to 24 are returned by sip_dialog_prack_validate alone. */
 enum sip_dialog_refusal {
     SIP_DIALOG_ACCEPTED = 0,
     SIP_DIALOG_TEXT_TOO_LONG = 1,              /* a given text or block is over 8,192 bytes */
@@ -429,6 +431,50 @@ uint8_t sip_dialog_rseq_remove(const uint8_t *call_id, size_t call_id_len, const
 /* How many dialogs have a number; whether none has (1) or some have (0). Refuse with 3. */
 uint8_t sip_dialog_rseq_len(const uint8_t *store, size_t store_len, size_t used, size_t *len);
 uint8_t sip_dialog_rseq_is_empty(const uint8_t *store, size_t store_len, size_t used, uint8_t *empty);
+
+/* ---- PRACK lists: the reliable provisional responses of a dialog that wait for their PRACK (RFC 3262), in a store of their own
+   (docs/LAYOUTS.md, "The PRACK store"). A dialog is named by one text of any bytes, which may be empty. Held for it are the time of
+   its last cleanup and, maybe, a list of at most ten responses; an empty list is not the same as none. The lent bytes and the used
+   length are as for a store of records; neither the text nor the block may lie in the lent store. 3: used over store_len, or used
+   bytes that aren't of the layout.
+
+   time is the caller's clock, in nanoseconds; where it goes back, no time has passed. register, validate and get_pending clean the
+   dialog's list first: where nothing is held for it, or 300 s or more after its last cleanup, they store time as that of the last
+   cleanup and drop the responses that are acknowledged or were registered more than 300 s ago. No other function cleans. */
+
+/* Registers a response that was sent: not acknowledged, at the end of the dialog's list. Where ten are in it the first is dropped.
+   rseq, cseq and code are any numbers, also ones that are in the list; method is that of the request. Refuses with 1, 28, 3, 18. */
+uint8_t sip_dialog_prack_register(const uint8_t *id, size_t id_len, uint32_t rseq, uint32_t cseq, uint8_t method,
+                                  uint16_t code, uint64_t time, uint8_t *store, size_t store_len, size_t *used);
+
+/* Holds the RAck of a PRACK's block against the dialog's list. The first response of its RSeq decides: it is marked as acknowledged,
+   and rseq, cseq and method are the RAck's. Refuses with 1, 2, 3, 18 (the time of a dialog of which nothing is held doesn't fit; nothing is
+   changed), 19 (RAck absent or unreadable), 20 (no list), 21 (no such RSeq), 22 (another CSeq), 23 (another method), 24 (already
+   acknowledged). With 19 to 24 the cleaned list stays: the store's bytes and used may then change, the other numbers keep their
+   values. */
+uint8_t sip_dialog_prack_validate(const uint8_t *id, size_t id_len, const uint8_t *block, size_t block_len, uint64_t time,
+                                  uint8_t *store, size_t store_len, size_t *used,
+                                  uint32_t *rseq, uint32_t *cseq, uint8_t *method);
+
+/* Whether the first response of an RSeq in the dialog's list is acknowledged (1); 0 also where there is no list or no such RSeq. It
+   changes no byte of the store. Refuses with 1, 3. */
+uint8_t sip_dialog_prack_is_pracked(const uint8_t *id, size_t id_len, uint32_t rseq,
+                                    const uint8_t *store, size_t store_len, size_t used, uint8_t *pracked);
+
+/* Writes the responses of the dialog that aren't acknowledged to the front of out, in list order, each as its RSeq in four bytes and
+   its code in two, the highest first, and answers in written how many bytes it wrote: at most 60. out must not lie in the store.
+   Refuses with 1, 3, 18 (out, or the store, is too small; nothing is changed). */
+uint8_t sip_dialog_prack_get_pending(const uint8_t *id, size_t id_len, uint64_t time,
+                                     uint8_t *store, size_t store_len, size_t *used,
+                                     uint8_t *out, size_t out_len, size_t *written);
+
+/* Drops all that is held for a dialog, the time too; where nothing is held, nothing changes. Refuses with 1, 3. */
+uint8_t sip_dialog_prack_remove_dialog(const uint8_t *id, size_t id_len, uint8_t *store, size_t store_len, size_t *used);
+
+/* Drops every acknowledged response of an RSeq from the dialog's list, which may become empty; where there is none, nothing changes.
+   Refuses with 1, 3. */
+uint8_t sip_dialog_prack_remove_pracked(const uint8_t *id, size_t id_len, uint32_t rseq,
+                                        uint8_t *store, size_t store_len, size_t *used);
 
 /* ---- Counts of dialogs */
 

@@ -1,6 +1,6 @@
 /*
- * What tests/c_face.c, tests/c_face_store.c and tests/c_face_rseq.c share: checks, lent bytes, and three record images with ways to
- * change them.
+ * What tests/c_face.c, tests/c_face_store.c, tests/c_face_rseq.c and tests/c_face_prack.c share: checks, lent bytes, and three
+ * record images with ways to change them.
  */
 #ifndef C_FACE_H
 #define C_FACE_H
@@ -109,5 +109,9 @@ void test_stores(void);
 /* ---- Tests of the calls on RSeq stores, in tests/c_face_rseq.c */
 
 void test_rseq_stores(void);
+
+/* ---- Tests of the calls on PRACK stores, in tests/c_face_prack.c */
+
+void test_prack_stores(void);
 
 #endif

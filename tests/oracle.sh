@@ -1,6 +1,6 @@
 #!/bin/sh
-# The differential runs over the leaves, over the dialogs and over lists of calls on a store of records and on one of RSeq numbers; beside
-# them, the same with a fault planted in each operation.
+# The differential runs over the leaves, over the dialogs and over lists of calls on a store of records, on one of RSeq numbers and on one of
+# PRACK lists; beside them, the same with a fault planted in each operation.
 # PORT_LIB: a folder with libsip_dialog.a (default: built by `rt staticlib sip_dialog`).
 set -eu
 cd "$(dirname "$0")/.."
@@ -16,6 +16,7 @@ planted=$!
 oracle/run --if-present dialogs
 oracle/run --if-present store --calls 10000
 oracle/run --if-present rseq --calls 10000
+oracle/run --if-present prack --calls 10000
 status=0
 wait "$planted" || status=$?
 cat "$log"

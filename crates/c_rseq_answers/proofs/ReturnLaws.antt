@@ -7,14 +7,14 @@ use lib.Dec.{eqb}
 use Rattle.limits.specs.Outcome.{Outcome, refused, given, numberIn}
 use Rattle.output.specs.declared.Written.{Written}
 use Rattle.output.specs.declared.Written.the-variants as written
-use Rattle.ordered_store.specs.Run.{Left}
+use Rattle.ordered_store.specs.Run.{Left, Returns}
 use Rattle.rseq_manager.specs.Answers.{numberedBy, numberedIn, usedAfter, writtenBy, writtenIn, usedWritten, currentOf, countedOf, emptiness}
 use Rattle.rseq_manager.specs.declared.Numbered.{Numbered}
 use Rattle.rseq_manager.specs.declared.Numbered.the-variants as numbered
 use Rattle.rseq_manager.specs.declared.Current.{Current}
 use Rattle.rseq_manager.specs.declared.Counted.{Counted}
 use Rattle.c_answers.specs.Given.{WrittenGives, writtenNumber, writtenAfter}
-use Rattle.c_rseq_answers.specs.Given.{Returns, valueAfter, NumberedNumbers, NumberedGives, numberedNumber, numberedAfter, currentNumber, currentAfter, countedNumber, countedAfter, flagOf, emptyAfter}
+use Rattle.c_rseq_answers.specs.Given.{valueAfter, NumberedNumbers, NumberedGives, numberedNumber, numberedAfter, currentNumber, currentAfter, countedNumber, countedAfter, flagOf, emptyAfter}
 
 module _ (l : Left ℕ) (used : ℕ) where
   -- `next_rseq`

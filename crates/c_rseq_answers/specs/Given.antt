@@ -1,13 +1,10 @@
--- What a C caller of the calls on an RSeq store gets: the number that is returned (0 accepted, else document 01's number), and what the lent bytes, the used
--- length and the lent numbers then are, all by what `ran` (rseq_manager/specs/RSeq.antt) leaves. A lent number keeps its value except where its answer is given.
+-- What a C caller of the calls on an RSeq store gets beside `Returns` (ordered_store/specs/Run.antt): what the lent numbers then are, by what `ran`
+-- (rseq_manager/specs/RSeq.antt) leaves. A lent number keeps its value except where its answer is given.
 use Prim.Native.Nat.{ℕ}
-use mathlib.Core.Path.{_≡_}
 use mathlib.Core.Bool.{cond}
-use mathlib.Core.List.{List}
 use lib.Dec.{eqb}
-use Rattle.limits.specs.Outcome.{Outcome, refused, given, numberIn}
+use Rattle.limits.specs.Outcome.{Outcome, refused, given}
 use Rattle.limits.specs.Refusal.{numberOf}
-use Rattle.ordered_store.specs.Run.{Left}
 use Rattle.rseq_manager.specs.declared.Numbered.{Numbered}
 use Rattle.rseq_manager.specs.declared.Numbered.the-variants as numbered
 use Rattle.rseq_manager.specs.declared.Current.{Current}
@@ -15,13 +12,6 @@ use Rattle.rseq_manager.specs.declared.Current.the-variants as current
 use Rattle.rseq_manager.specs.declared.Counted.{Counted}
 use Rattle.rseq_manager.specs.declared.Counted.the-variants as counted
 use Rattle.c_answers.specs.Given.{Gives}
-
--- What the contract of a C function says of one call, l being what `ran` leaves of the values as it was entered: the lent bytes and the used length as it
--- returns, and the number returned.
-pub record Returns {B : Type 0} (l : Left B) (bytes : List ℕ) (used : ℕ) (r : ℕ) : Type 0 where
-  pub bytes-are : bytes ≡ l .bytes
-  pub used-is : used ≡ l .used
-  pub number-is : r ≡ numberIn (l .answer)
 
 -- the RSeq number, or how many dialogs have one
 abbrev pub valueAfter : Outcome ℕ → ℕ → ℕ

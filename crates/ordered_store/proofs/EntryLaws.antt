@@ -249,6 +249,35 @@ module _ {A : Type 0} (keyOf : A → Key) where
   later-set a [] h = refl
   later-set a (e ∷ es) h = set-ahead a e es h
 
+  -- the entry that is found has the key
+  pub found-key : (k : Key) (es : List A) (a : A) → entryOf keyOf k es ≡ some a → keyOf a ≡ k
+  unfolding entryOf
+  found-key k [] a e = absurd (let z : _≡_ {A = ℕ} 0 1 = cc in omega arith)
+  found-key k (f ∷ es) a e = by (keyOrder (keyOf f) k) refl e (found-key k es a)
+    where
+      by : (o : Order) → keyOrder (keyOf f) k ≡ o → cond (isSame o) (some f) (entryOf keyOf k es) ≡ some a → (entryOf keyOf k es ≡ some a → keyOf a ≡ k) → keyOf a ≡ k
+      by Before p e more = more e
+      by Same p e more = let z : f ≡ a = cc in subst (λ x. keyOf x ≡ k) z (key-equal (keyOf f) k p)
+      by After p e more = more e
+
+  nothing-found : (k : Key) (a : A) → entryOf keyOf k [] ≡ some a → ⊥
+  unfolding entryOf
+  nothing-found k a e = let z : _≡_ {A = ℕ} 0 1 = cc in omega arith
+
+  -- an entry that is held, set again: nothing changes
+  pub set-again : (a : A) (es : List A) → ascending keyOf es ≡ true → entryOf keyOf (keyOf a) es ≡ some a → setEntry keyOf a es ≡ es
+  set-again a [] d e = absurd (nothing-found (keyOf a) a e)
+  set-again a (f ∷ es) d e = by (keyOrder (keyOf f) (keyOf a)) refl (set-again a es (rest-ascends f es d))
+    where
+      by : (o : Order) → keyOrder (keyOf f) (keyOf a) ≡ o → (entryOf keyOf (keyOf a) es ≡ some a → setEntry keyOf a es ≡ es) → setEntry keyOf a (f ∷ es) ≡ f ∷ es
+      by Before p more = set-past a f es p ∙ ap (λ l. f ∷ l) (more (sym (of-past (keyOf a) f es (ap isSame p)) ∙ e))
+      by Same p more =
+          let q : some f ≡ some a = sym (of-here (keyOf a) f es p) ∙ e in
+          let z : f ≡ a = cc in
+          set-here a f es p ∙ ap (λ x. x ∷ es) (sym z)
+      by After p more =
+          absurd (let q : none ≡ some a = sym (later-of (keyOf a) (f ∷ es) p d) ∙ e in let z : _≡_ {A = ℕ} 0 1 = cc in omega arith)
+
 -- ---- bytes with others in place of some
 
 pub instead : (front mid back new : List ℕ) → front ++ (new ++ back) ≡ spliced (length front) (length mid) new (front ++ (mid ++ back))

@@ -7,11 +7,11 @@ use mathlib.Core.Path.{_≡_, refl, sym, ap, ap₂, subst, _∙_}
 use mathlib.Core.Bool.{Bool, true, false}
 use mathlib.Core.List.{List, [], _∷_, _++_, append-assoc}
 use mathlib.Core.Option.{Option, none, some}
-use lib.ListN.{length, take, drop, length-append, length-drop, take-append-drop}
+use lib.ListN.{length, take, drop, length-append, length-take, length-drop, take-append-drop}
 use lib.Seq.{take-append-seam, take-take, length-take-le}
 use lib.Dec.{ltb}
-use borrow.Author.Tests.{ltb-false}
-use Rattle.limits.specs.Outcome.{Outcome, refused, given, refuseBy, refuseIf, andThen, orRefuse}
+use borrow.Author.Tests.{ltb-false, le-ltb}
+use Rattle.limits.specs.Outcome.{Outcome, refused, given, refuseBy, refuseIf, andThen, orRefuse, numberIn}
 use Rattle.limits.specs.declared.Refusal.{Refusal}
 use Rattle.limits.specs.declared.Refusal.the-variants.{BadStore, NoRoom}
 use Rattle.edit.specs.Edit.{over}
@@ -19,21 +19,20 @@ use Rattle.record.specs.Codec.{Codec, writeAll}
 use Rattle.record.proofs.CodecLaws.{Exact, GoodAll}
 use Rattle.ordered_store.specs.Entries.{Key, encodeEntries, decodeEntries, ascending}
 use Rattle.ordered_store.specs.Run.{Decided, Left, fitting, leave, verdict, run}
-use Rattle.ordered_store.specs.History.{Calls, World, decide, after, answerOf, content, contentAnswers, lending, world, storeAnswers, Follows}
+use Rattle.ordered_store.specs.History.{Calls, World, decide, after, answerOf, content, contentAnswers, Sent, EachSent, EachTyped, lending, world, storeAnswers, Follows, Seen, Shows, EachShows, Ran, start, called, Serving, Made, none-made, one-more, KeepsContracts}
 use Rattle.ordered_store.proofs.BytesLaws.{decode-encode}
 
--- every call is lent no more than the memory
-abbrev pub EachLent : {A B : Type 0} (C : Calls A B) → List ℕ → List (C .Call) → Type 0
-EachLent C m [] = Unit {0}
-EachLent C m (c ∷ cs) = (C .lent c ≤ length m) × EachLent C m cs
+pub each-typed : {A B : Type 0} (C : Calls A B) (m : List ℕ) (cs : List (C .Call)) → EachSent C m cs → EachTyped C cs
+each-typed C m [] s = tt
+each-typed C m (c ∷ cs) s = (s .0 .typed, each-typed C m cs (s .1))
 
 -- good entries in ascending order
 abbrev pub Sound : {A : Type 0} → (A → Key) → (A → Type 0) → List A → Type 0
 Sound keyOf Good es = GoodAll Good es × (ascending keyOf es ≡ true)
 
--- what a store owes: a call whose arguments are taken keeps good, ascending entries so
+-- what a store owes: a call whose numbers are of their types and whose arguments are taken keeps good, ascending entries so
 abbrev pub Keeps : {A B : Type 0} → (A → Key) → (A → Type 0) → Calls A B → Type 0
-Keeps {A} {B} keyOf Good C = (c : C .Call) (es : List A) (d : Decided A B) → C .cause c ≡ none → C .judge c es ≡ given d → Sound keyOf Good es → Sound keyOf Good (d .entries)
+Keeps {A} {B} keyOf Good C = (c : C .Call) (es : List A) (d : Decided A B) → C .Typed c → C .cause c ≡ none → C .judge c es ≡ given d → Sound keyOf Good es → Sound keyOf Good (d .entries)
 
 module _ {A B : Type 0} (form : Codec A) (keyOf : A → Key) (C : Calls A B) where
   -- what an accepted call decided
@@ -59,6 +58,17 @@ module _ {A B : Type 0} (form : Codec A) (keyOf : A → Key) (C : Calls A B) whe
       by none q true j p e = absurd (let z : _≡_ {A = ℕ} 0 1 = cc in omega arith)
       by none q false (refused cause) p e = absurd (let z : _≡_ {A = ℕ} 0 1 = cc in omega arith)
       by none q false (given y) p e = last q y p (ltb (C .lent c) (length (encodeEntries form (y .entries)))) refl e
+
+  -- a call whose arguments are taken, with room for the entries before and after it, answers what it decided
+  pub settled : (c : C .Call) (es : List A) (d : Decided A B) → C .cause c ≡ none → length (encodeEntries form es) ≤ C .lent c → C .judge c es ≡ given d → length (encodeEntries form (d .entries)) ≤ C .lent c
+      → answerOf form keyOf C (decide form keyOf C c es) ≡ d .answer
+  unfolding decide
+  settled c es d q h j f =
+      ap (answerOf form keyOf C)
+      (ap (λ o. refuseBy o (refuseIf (ltb (C .lent c) (length (encodeEntries form es))) BadStore (andThen (C .judge c es) (λ y. fitting form (C .lent c) y)))) q
+      ∙ ap (λ t. refuseIf t BadStore (andThen (C .judge c es) (λ y. fitting form (C .lent c) y))) (le-ltb (C .lent c) (length (encodeEntries form es)) h)
+      ∙ ap (λ v. andThen v (λ y. fitting form (C .lent c) y)) j
+      ∙ ap (λ t. refuseIf t NoRoom (given d)) (le-ltb (C .lent c) (length (encodeEntries form (d .entries))) f))
 
   -- ---- one call
 
@@ -143,35 +153,88 @@ module _ {A B : Type 0} (form : Codec A) (keyOf : A → Key) (C : Calls A B) whe
 
     module _ (keeps : Keeps keyOf Good C) where
       -- the content is good and ascends
-      pub sound : (cs : List (C .Call)) → Sound keyOf Good (content form keyOf C cs)
+      pub sound : (cs : List (C .Call)) → EachTyped C cs → Sound keyOf Good (content form keyOf C cs)
       unfolding content
-      sound [] = (tt, refl)
-      sound (c ∷ cs) = by (decide form keyOf C c (content form keyOf C cs)) refl (sound cs)
+      sound [] s = (tt, refl)
+      sound (c ∷ cs) s = by (decide form keyOf C c (content form keyOf C cs)) refl (sound cs (s .1))
         where
           by : (v : Outcome (Decided A B)) → decide form keyOf C c (content form keyOf C cs) ≡ v → Sound keyOf Good (content form keyOf C cs) → Sound keyOf Good (after form keyOf C v (content form keyOf C cs))
           by (refused cause) e g = g
-          by (given d) e g = let k = accepted c (content form keyOf C cs) d e in keeps c (content form keyOf C cs) d (k .clear) (k .judged) g
+          by (given d) e g = let k = accepted c (content form keyOf C cs) d e in keeps c (content form keyOf C cs) d (s .0) (k .clear) (k .judged) g
 
       module _ (m : List ℕ) where
-        stands : (cs : List (C .Call)) → EachLent C m cs → Stands m (world form keyOf C m cs) (content form keyOf C cs)
+        pub stands : (cs : List (C .Call)) → EachSent C m cs → Stands m (world form keyOf C m cs) (content form keyOf C cs)
         unfolding world content writeAll
         stands [] s = record { room = refl; used-is = refl; within = zero-le; front = refl }
-        stands (c ∷ cs) s = stands-next m c (world form keyOf C m cs) (content form keyOf C cs) (sound cs) (stands cs (s .1)) (s .0)
+        stands (c ∷ cs) s = stands-next m c (world form keyOf C m cs) (content form keyOf C cs) (sound cs (each-typed C m cs (s .1))) (stands cs (s .1)) (s .0 .lends)
 
-        same-answers : (cs : List (C .Call)) → EachLent C m cs → storeAnswers form keyOf C m cs ≡ contentAnswers form keyOf C cs
+        same-answers : (cs : List (C .Call)) → EachSent C m cs → storeAnswers form keyOf C m cs ≡ contentAnswers form keyOf C cs
         unfolding storeAnswers contentAnswers
         same-answers [] s = refl
         same-answers (c ∷ cs) s =
             ap₂ (λ (a : Outcome B) (l : List (Outcome B)). a ∷ l)
-            (same-answer m c (world form keyOf C m cs) (content form keyOf C cs) (sound cs) (stands cs (s .1)) (s .0)) (same-answers cs (s .1))
+            (same-answer m c (world form keyOf C m cs) (content form keyOf C cs) (sound cs (each-typed C m cs (s .1))) (stands cs (s .1)) (s .0 .lends)) (same-answers cs (s .1))
 
         -- the store follows the content, after every list of calls
-        pub follows : (cs : List (C .Call)) → EachLent C m cs → Follows form keyOf C m cs
+        pub follows : (cs : List (C .Call)) → EachSent C m cs → Follows form keyOf C m cs
         follows cs s =
             let k = stands cs s in
-            let g = sound cs in
+            let g = sound cs (each-typed C m cs s) in
             record {
               holds = k .front;
               reads = ap (decodeEntries form keyOf) (k .front) ∙ decode-encode form keyOf Good x filled (content form keyOf C cs) (g .0) (g .1);
               answers = same-answers cs s;
             }
+
+-- ---- the contracts alone fix the memory, the used length, the numbers returned and the values beside them
+
+module _ {A B D : Type 0} (form : Codec A) (keyOf : A → Key) (C : Calls A B) (kept : Outcome B → D → D) where
+  pub ran-is : (m : List ℕ) {cs : List (C .Call)} {w : World} {ss : List (Seen D)} → Ran form keyOf C kept m cs w ss
+      → (w ≡ world form keyOf C m cs) × EachShows kept (storeAnswers form keyOf C m cs) ss
+  unfolding world storeAnswers
+  ran-is m start = (refl, tt)
+  ran-is m (called {cs} {w} {ss} r c bytes used number lent left l v) = go (ran-is m r)
+    where
+      three : {X Y Z W : Type 0} (f : X → Y → Z → W) {x y : X} {u v : Y} {s t : Z} → x ≡ y → u ≡ v → s ≡ t → f x u s ≡ f y v t
+      three f a b c = λ i. f (a i) (b i) (c i)
+
+      go : (w ≡ world form keyOf C m cs) × EachShows kept (storeAnswers form keyOf C m cs) ss
+          → (_≡_ {A = World} (record { memory = bytes ++ drop (C .lent c) (w .memory); used = used }) (record { memory = lending form keyOf C c (world form keyOf C m cs) .bytes ++ drop (C .lent c) (world form keyOf C m cs .memory); used = lending form keyOf C c (world form keyOf C m cs) .used }))
+          × (Shows kept (lending form keyOf C c (world form keyOf C m cs) .answer) (record { number = number; lent = lent; left = left }) × EachShows kept (storeAnswers form keyOf C m cs) ss)
+      go p =
+          let q : lending form keyOf C c w ≡ lending form keyOf C c (world form keyOf C m cs) = ap (lending form keyOf C c) (p .0) in (
+            three (λ x y (z : World). record { memory = x ++ drop (C .lent c) (z .memory); used = y }) (l .bytes-are ∙ ap (λ (y : Left B). y .bytes) q) (l .used-is ∙ ap (λ (y : Left B). y .used) q) (p .0),
+            (record { number-is = l .number-is ∙ ap (λ (y : Left B). numberIn (y .answer)) q; values-are = v ∙ ap (λ (y : Left B). kept (y .answer) lent) q }, p .1),
+          )
+
+  module _ (Good : A → Type 0) (x : Exact form Good) (filled : (a : A) → 0 < length (form .write a)) (keeps : Keeps keyOf Good C) (m : List ℕ) where
+    -- the calls leave the memory as long as it was
+    pub memory-long : (cs : List (C .Call)) → EachSent C m cs → length (world form keyOf C m cs .memory) ≡ length m
+    memory-long cs s = stands form keyOf C Good x filled keeps m cs s .room
+
+    -- such calls follow the content; their memory and used length are those that `Follows` speaks of, and each gave the number and the values of the answer over the content
+    pub follows-kept : {cs : List (C .Call)} {w : World} {ss : List (Seen D)} → Ran form keyOf C kept m cs w ss → EachSent C m cs
+        → Follows form keyOf C m cs × ((w ≡ world form keyOf C m cs) × EachShows kept (contentAnswers form keyOf C cs) ss)
+    follows-kept {cs} {w} {ss} r s =
+        let f = follows form keyOf C Good x filled keeps m cs s in
+        let q = ran-is m r in
+        (f, (q .0, subst (λ l. EachShows kept l ss) (f .answers) (q .1)))
+
+    -- ---- calls of functions, of which nothing is known but that their contracts are kept
+
+    module _ (Served : Serving (C .Call) D) (k : KeepsContracts form keyOf C kept Served) where
+      made-ran : {cs : List (C .Call)} {w : World} {ss : List (Seen D)} → Made C Served m cs w ss → Ran form keyOf C kept m cs w ss
+      made-ran none-made = start
+      made-ran (one-more d c after left number lent behind s) = called (made-ran d) c after left number lent behind (k .returns s) (k .values s)
+
+      -- no more is lent than there is, and the numbers are of their types
+      pub made-sent : {cs : List (C .Call)} {w : World} {ss : List (Seen D)} → Made C Served m cs w ss → EachSent C m cs
+      made-sent none-made = tt
+      made-sent (one-more {cs} {w} {ss} d c after left number lent behind s) =
+          let before = made-sent d in
+          let long : length (w .memory) ≡ length m = ap (λ (x : World). length (x .memory)) (ran-is m (made-ran d) .0) ∙ memory-long cs before in
+          (record { lends = omega (arith, k .lends-all s, length-take (C .lent c) (w .memory), long); typed = k .typed s }, before)
+
+      pub made-follows : {cs : List (C .Call)} {w : World} {ss : List (Seen D)} → Made C Served m cs w ss
+          → Follows form keyOf C m cs × ((w ≡ world form keyOf C m cs) × EachShows kept (contentAnswers form keyOf C cs) ss)
+      made-follows d = follows-kept (made-ran d) (made-sent d)

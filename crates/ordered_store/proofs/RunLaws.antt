@@ -1,7 +1,8 @@
 -- The ways out of a call on the lent bytes of a store of entries, one law for each: what the proof of an operation cites at each of its returns.
 -- Assumes nothing.
 use Prim.Native.Nat.{ℕ, _≤_, _<_}
-use mathlib.Core.Path.{_≡_, ap, _∙_}
+use mathlib.Core.Path.{_≡_, refl, ap, _∙_}
+use mathlib.Core.Bool.{Bool, true, false}
 use mathlib.Core.List.{List}
 use mathlib.Core.Option.{Option, none, some}
 use lib.ListN.{length, take}
@@ -25,6 +26,25 @@ module _ {A B : Type 0} (form : Codec A) (keyOf : A → Key) (cause : Option Ref
 
   abbrev onRead : Option (List A) → Outcome (Decided A B)
   onRead o = andThen (orRefuse BadStore o) (λ es. andThen (judge es) (λ d. fitting form (length bytes) d))
+
+  -- what holds of every refusal, and of every answer that is decided, holds of the answer
+  pub answer-has : (P : Outcome B → Type 0) → ((one : Refusal) → P (refused one)) → ((es : List A) (d : Decided A B) → judge es ≡ given d → P (d .answer)) → P (ran .answer)
+  unfolding run verdict
+  answer-has P out through = by cause (ltb (length bytes) used) (decodeEntries form keyOf (take used bytes))
+    where
+      full : (es : List A) (d : Decided A B) → judge es ≡ given d → (t : Bool) → P (leave form bytes used (refuseIf t NoRoom (given d)) .answer)
+      full es d j true = out NoRoom
+      full es d j false = through es d j
+
+      on : (es : List A) (v : Outcome (Decided A B)) → judge es ≡ v → P (leave form bytes used (andThen v (λ d. fitting form (length bytes) d)) .answer)
+      on es (refused one) j = out one
+      on es (given d) j = full es d j (ltb (length bytes) (length (encodeEntries form (d .entries))))
+
+      by : (a : Option Refusal) (t : Bool) (o : Option (List A)) → P (leave form bytes used (refuseBy a (refuseIf t BadStore (onRead o))) .answer)
+      by (some one) t o = out one
+      by none true o = out BadStore
+      by none false none = out BadStore
+      by none false (some es) = on es (judge es) refl
 
   -- the arguments' own cause
   pub way-arguments : (one : Refusal) → cause ≡ some one → ran ≡ keptWith bytes used one

@@ -1,25 +1,39 @@
 -- A list of calls on a store of entries, from an empty one, each given what the last left: the content that the definitions give, told only the calls'
 -- arguments. Document 01, "The book of demand 3", says this of the dialog store; here it is said once for the stores of entries. A list of calls has the
 -- LATEST FIRST, so that what holds for every list holds at every earlier point of it.
-use Prim.Native.Nat.{ℕ}
+use Prim.Native.Nat.{ℕ, _≤_}
 use mathlib.Core.Path.{_≡_}
 use mathlib.Core.List.{List, [], _∷_, _++_}
 use mathlib.Core.Option.{Option, some}
 use lib.ListN.{length, take, drop}
 use lib.Dec.{ltb}
-use Rattle.limits.specs.Outcome.{Outcome, refused, given, refuseBy, refuseIf, andThen}
+use Rattle.limits.specs.Outcome.{Outcome, refused, given, refuseBy, refuseIf, andThen, numberIn}
 use Rattle.limits.specs.declared.Refusal.{Refusal}
 use Rattle.limits.specs.declared.Refusal.the-variants.{BadStore}
 use Rattle.record.specs.Codec.{Codec}
 use Rattle.ordered_store.specs.Entries.{Key, encodeEntries, decodeEntries}
-use Rattle.ordered_store.specs.Run.{Decided, Left, fitting, run}
+use Rattle.ordered_store.specs.Run.{Decided, Left, Returns, fitting, run}
 
--- the calls of a store: how many bytes each is lent, what its arguments alone refuse, and what it decides over the entries
+-- the calls of a store: how many bytes each is lent, that its numbers are of their types, what its arguments alone refuse, and what it decides over the entries
 pub record Calls (A B : Type 0) : Type 1 where
   pub Call : Type 0
   pub lent : Call → ℕ
+  pub Typed : Call → Type 0
   pub cause : Call → Option Refusal
   pub judge : Call → List A → Outcome (Decided A B)
+
+-- what is true of every call that is made: it is lent no more than there is, and its numbers are of their types
+pub record Sent {A B : Type 0} (C : Calls A B) (m : List ℕ) (c : C .Call) : Type 0 where
+  pub lends : C .lent c ≤ length m
+  pub typed : C .Typed c
+
+abbrev pub EachSent : {A B : Type 0} (C : Calls A B) → List ℕ → List (C .Call) → Type 0
+EachSent C m [] = Unit {0}
+EachSent C m (c ∷ cs) = Sent C m c × EachSent C m cs
+
+abbrev pub EachTyped : {A B : Type 0} (C : Calls A B) → List (C .Call) → Type 0
+EachTyped C [] = Unit {0}
+EachTyped C (c ∷ cs) = C .Typed c × EachTyped C cs
 
 -- the memory that the calls are lent bytes of, and the used length between two calls
 pub record World : Type 0 where
@@ -68,3 +82,60 @@ module _ {A B : Type 0} (form : Codec A) (keyOf : A → Key) (C : Calls A B) whe
     pub holds : take (world m cs .used) (world m cs .memory) ≡ encodeEntries form (content cs)
     pub reads : decodeEntries form keyOf (take (world m cs .used) (world m cs .memory)) ≡ some (content cs)
     pub answers : storeAnswers m cs ≡ contentAnswers cs
+
+-- ---- calls that were really made
+
+-- what a caller saw of a call: the number that it returned, and what was lent beside the store, as the call was entered and as it returned
+pub record Seen (D : Type 0) : Type 0 where
+  pub number : ℕ
+  pub lent : D
+  pub left : D
+
+-- kept is what an answer leaves of what was lent beside the store
+module _ {B D : Type 0} (kept : Outcome B → D → D) where
+  -- the caller saw this answer: its number, and its values in what was lent for them
+  pub record Shows (a : Outcome B) (s : Seen D) : Type 0 where
+    pub number-is : s .number ≡ numberIn a
+    pub values-are : s .left ≡ kept a (s .lent)
+
+  -- call by call
+  abbrev pub EachShows : List (Outcome B) → List (Seen D) → Type 0
+  EachShows [] [] = Unit {0}
+  EachShows [] (s ∷ ss) = ⊥
+  EachShows (a ∷ rest) [] = ⊥
+  EachShows (a ∷ rest) (s ∷ ss) = Shows a s × EachShows rest ss
+
+module _ {A B D : Type 0} (form : Codec A) (keyOf : A → Key) (C : Calls A B) (kept : Outcome B → D → D) where
+  -- Calls of which nothing is known but what their contracts promise: each was lent the first bytes of the memory, as many as it says, and the used length, as
+  -- the last left them. The calls, the memory and the used length that they leave, and what their caller saw of each.
+  pub data Ran (m : List ℕ) : List (C .Call) → World → List (Seen D) → Type 0 where
+    start : Ran m [] (record { memory = m; used = 0 }) []
+    called : {cs : List (C .Call)} {w : World} {ss : List (Seen D)} → Ran m cs w ss
+        → (c : C .Call) (bytes : List ℕ) (used number : ℕ) (lent left : D) → Returns (lending form keyOf C c w) bytes used number → left ≡ kept (lending form keyOf C c w .answer) lent
+        → Ran m (c ∷ cs) (record { memory = bytes ++ drop (C .lent c) (w .memory); used = used }) (record { number = number; lent = lent; left = left } ∷ ss)
+
+-- ---- calls of functions
+
+-- A function was called: the call, the bytes lent for the store and the used length as it was entered, those that it left, the number returned, and what was lent
+-- beside the store, before and after.
+abbrev pub Serving : Type 0 → Type 0 → Type 1
+Serving Call D = Call → List ℕ → ℕ → List ℕ → ℕ → ℕ → D → D → Type 0
+
+module _ {A B D : Type 0} (C : Calls A B) (Served : Serving (C .Call) D) where
+  -- a list of such calls from an empty store in a memory m, the latest first: the calls, the memory and the used length that they leave, and what their caller saw of each
+  pub data Made (m : List ℕ) : List (C .Call) → World → List (Seen D) → Type 0 where
+    none-made : Made m [] (record { memory = m; used = 0 }) []
+    one-more : {cs : List (C .Call)} {w : World} {ss : List (Seen D)} → Made m cs w ss
+        → (c : C .Call) (after : List ℕ) (left number : ℕ) (lent kept : D) → Served c (take (C .lent c) (w .memory)) (w .used) after left number lent kept
+        → Made m (c ∷ cs) (record { memory = after ++ drop (C .lent c) (w .memory); used = left }) (record { number = number; lent = lent; left = kept } ∷ ss)
+
+-- what the contracts of the functions say of each call: `run`'s bytes, used length and number, its values, that the call is lent the bytes that it is entered with,
+-- and that its numbers are of their types
+pub record KeepsContracts {A B D : Type 0} (form : Codec A) (keyOf : A → Key) (C : Calls A B) (kept : Outcome B → D → D) (Served : Serving (C .Call) D) : Type 0 where
+  pub returns : {c : C .Call} {bytes : List ℕ} {used : ℕ} {after : List ℕ} {left number : ℕ} {before behind : D} → Served c bytes used after left number before behind
+      → Returns (run form keyOf (C .cause c) (C .judge c) bytes used) after left number
+  pub values : {c : C .Call} {bytes : List ℕ} {used : ℕ} {after : List ℕ} {left number : ℕ} {before behind : D} → Served c bytes used after left number before behind
+      → behind ≡ kept (run form keyOf (C .cause c) (C .judge c) bytes used .answer) before
+  pub lends-all : {c : C .Call} {bytes : List ℕ} {used : ℕ} {after : List ℕ} {left number : ℕ} {before behind : D} → Served c bytes used after left number before behind
+      → C .lent c ≡ length bytes
+  pub typed : {c : C .Call} {bytes : List ℕ} {used : ℕ} {after : List ℕ} {left number : ℕ} {before behind : D} → Served c bytes used after left number before behind → C .Typed c

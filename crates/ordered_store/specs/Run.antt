@@ -3,11 +3,12 @@
 -- the store with the change is larger than the lent bytes, and then nothing is changed. A call that is refused for 19 to 24 keeps "cleaned list": its
 -- change stands beside its refusal.
 use Prim.Native.Nat.{ℕ}
+use mathlib.Core.Path.{_≡_}
 use mathlib.Core.List.{List}
 use mathlib.Core.Option.{Option}
 use lib.ListN.{length, take}
 use lib.Dec.{ltb}
-use Rattle.limits.specs.Outcome.{Outcome, refused, given, refuseBy, refuseIf, andThen, orRefuse}
+use Rattle.limits.specs.Outcome.{Outcome, refused, given, refuseBy, refuseIf, andThen, orRefuse, numberIn}
 use Rattle.limits.specs.declared.Refusal.{Refusal}
 use Rattle.limits.specs.declared.Refusal.the-variants.{BadStore, NoRoom}
 use Rattle.edit.specs.Edit.{over}
@@ -45,3 +46,10 @@ module _ {A B : Type 0} (form : Codec A) where
 
     unfoldable pub run : Option Refusal → (List A → Outcome (Decided A B)) → List ℕ → ℕ → Left B
     run cause judge bytes used = leave bytes used (verdict cause judge bytes used)
+
+-- What the contract of a C function says of one call, l being what `run` leaves of the values as it was entered: the lent bytes and the used length as it
+-- returns, and the number returned (0 accepted, else document 01's number).
+pub record Returns {B : Type 0} (l : Left B) (bytes : List ℕ) (used : ℕ) (r : ℕ) : Type 0 where
+  pub bytes-are : bytes ≡ l .bytes
+  pub used-is : used ≡ l .used
+  pub number-is : r ≡ numberIn (l .answer)

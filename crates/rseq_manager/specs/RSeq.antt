@@ -121,6 +121,6 @@ ran L a bytes used = run entryForm keyOf (actionCause L a) (judge a) bytes used
 abbrev pub emptyFlag : ℕ → ℕ
 emptyFlag n = cond (eqb n 0) 1 0
 
--- the calls of a list
+-- the calls of a list; a first number is taken from any n
 abbrev pub calls : LimitSet → Calls Entry ℕ
-calls L = record { Call = Call; lent = λ c. c .lent; cause = λ c. actionCause L (c .action); judge = λ c. judge (c .action) }
+calls L = record { Call = Call; lent = λ c. c .lent; Typed = λ c. Unit {0}; cause = λ c. actionCause L (c .action); judge = λ c. judge (c .action) }

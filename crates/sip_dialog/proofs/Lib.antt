@@ -1,1 +1,3 @@
 pub mod Demand3
+pub mod PrackCalls
+pub mod RSeqCalls

@@ -4,6 +4,7 @@ mod creation;
 mod identifiers;
 mod images;
 mod prack;
+mod prack_lists;
 mod rseq;
 mod store_readings;
 mod stores;

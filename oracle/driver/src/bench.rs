@@ -2,6 +2,7 @@
 //! on the same bytes in one run. Each figure is the median of several rounds after a warm-up.
 
 mod dialogs;
+mod numbers;
 mod store;
 
 use dialogs::dialogs;
@@ -30,6 +31,7 @@ pub fn run() -> bool {
     table("CSeq number, leading zeros", cseq_block, cseq);
     dialogs();
     store::stores();
+    numbers::numbers();
     true
 }
 

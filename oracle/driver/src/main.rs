@@ -5,6 +5,7 @@
 //!     driver dialogs [--calls N] [--seed S]    the same for creations, changes and readings of one record
 //!     driver store [--calls N] [--seed S]      the same for N lists of calls on a store of records
 //!     driver rseq [--calls N] [--seed S]       the same for N lists of calls on an RSeq store
+//!     driver prack [--calls N] [--seed S]      the same for N lists of calls on a PRACK store
 //!     driver planted [--calls N] [--seed S]    plants one fault per operation and fails if any goes unreported
 //!     driver bench                             times both sides
 
@@ -16,6 +17,7 @@ mod dialogs;
 mod messages;
 mod operations;
 mod places;
+mod prack;
 mod random;
 mod report;
 mod rseq;
@@ -27,7 +29,7 @@ mod uris;
 
 use std::process::ExitCode;
 
-const USAGE: &str = "use: driver leaves|dialogs|store|rseq|planted [--calls N] [--seed S], driver bench";
+const USAGE: &str = "use: driver leaves|dialogs|store|rseq|prack|planted [--calls N] [--seed S], driver bench";
 
 /// What the command line asks for.
 struct Options {
@@ -47,6 +49,7 @@ fn main() -> ExitCode {
         "dialogs" => report::dialogs(options.calls, options.seed),
         "store" => report::store(options.calls, options.seed),
         "rseq" => report::rseq(options.calls, options.seed),
+        "prack" => report::prack(options.calls, options.seed),
         "planted" => report::planted(options.calls, options.seed),
         "bench" => bench::run(),
         _ => {

@@ -1,8 +1,9 @@
-//! The tables and verdicts of `leaves`, `dialogs`, `store`, `rseq` and `planted`.
+//! The tables and verdicts of `leaves`, `dialogs`, `store`, `rseq`, `prack` and `planted`.
 
 use crate::bounds;
 use crate::dialogs;
 use crate::operations;
+use crate::prack;
 use crate::rseq;
 use crate::run::{compare_all, row_name, Entry, Operation, Tally, LEAST_CALLS, LEAST_IN_ROW, LEAST_LONGEST};
 use crate::store;
@@ -48,6 +49,12 @@ pub fn store(lists: usize, seed: u64) -> bool {
 pub fn rseq(lists: usize, seed: u64) -> bool {
     println!("{lists} random lists of calls, three in four from an empty store, and the directed ones\n");
     of_kind(rseq::FAULTS, |faults| rseq::compare_all(lists, seed, faults))
+}
+
+/// The same for lists of calls on a PRACK store.
+pub fn prack(lists: usize, seed: u64) -> bool {
+    println!("{lists} random lists of calls, three in four from an empty store, and the directed ones\n");
+    of_kind(prack::FAULTS, |faults| prack::compare_all(lists, seed, faults))
 }
 
 /// The same for a kind of store: its faults, and what compares its lists with some of them put in.
@@ -229,6 +236,7 @@ pub fn planted(calls: usize, seed: u64) -> bool {
     let lists = calls / CALLS_PER_LIST;
     faults.extend(planted_in(store::FAULTS, |all| store::compare_all(lists, seed, all)));
     faults.extend(planted_in(rseq::FAULTS, |all| rseq::compare_all(lists, seed, all)));
+    faults.extend(planted_in(prack::FAULTS, |all| prack::compare_all(lists, seed, all)));
     let all = faults.len();
     let unreported: Vec<&str> = faults.into_iter().flatten().collect();
     println!(

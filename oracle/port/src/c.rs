@@ -470,4 +470,66 @@ extern "C" {
     ) -> u8;
     pub fn sip_dialog_rseq_len(store: *const u8, store_len: usize, used: usize, len: *mut usize) -> u8;
     pub fn sip_dialog_rseq_is_empty(store: *const u8, store_len: usize, used: usize, empty: *mut u8) -> u8;
+
+    // PRACK lists
+    pub fn sip_dialog_prack_register(
+        id: *const u8,
+        id_len: usize,
+        rseq: u32,
+        cseq: u32,
+        method: u8,
+        code: u16,
+        time: u64,
+        store: *mut u8,
+        store_len: usize,
+        used: *mut usize,
+    ) -> u8;
+    pub fn sip_dialog_prack_validate(
+        id: *const u8,
+        id_len: usize,
+        block: *const u8,
+        block_len: usize,
+        time: u64,
+        store: *mut u8,
+        store_len: usize,
+        used: *mut usize,
+        rseq: *mut u32,
+        cseq: *mut u32,
+        method: *mut u8,
+    ) -> u8;
+    pub fn sip_dialog_prack_is_pracked(
+        id: *const u8,
+        id_len: usize,
+        rseq: u32,
+        store: *const u8,
+        store_len: usize,
+        used: usize,
+        pracked: *mut u8,
+    ) -> u8;
+    pub fn sip_dialog_prack_get_pending(
+        id: *const u8,
+        id_len: usize,
+        time: u64,
+        store: *mut u8,
+        store_len: usize,
+        used: *mut usize,
+        out: *mut u8,
+        out_len: usize,
+        written: *mut usize,
+    ) -> u8;
+    pub fn sip_dialog_prack_remove_dialog(
+        id: *const u8,
+        id_len: usize,
+        store: *mut u8,
+        store_len: usize,
+        used: *mut usize,
+    ) -> u8;
+    pub fn sip_dialog_prack_remove_pracked(
+        id: *const u8,
+        id_len: usize,
+        rseq: u32,
+        store: *mut u8,
+        store_len: usize,
+        used: *mut usize,
+    ) -> u8;
 }

@@ -3,6 +3,7 @@
 //! kept. Byte runs are lent as slices, which cannot overlap a lent out number or each other where one is changed.
 
 mod c;
+pub mod prack;
 pub mod rseq;
 pub mod store;
 

@@ -20,7 +20,11 @@ const MOST: usize = 2001;
 const TIME: Duration = Duration::from_millis(300);
 
 /// A named way to do one call: puts back what the last one changed, then answers the call's own time.
-type Side<'a> = (&'a str, Box<dyn FnMut() -> Duration + 'a>);
+pub type Side<'a> = (&'a str, Box<dyn FnMut() -> Duration + 'a>);
+
+/// Makes both sides of so many things; the sides of a table.
+pub type Make<B> = fn(usize) -> B;
+pub type Sides<B> = for<'a> fn(&'a B) -> Vec<Side<'a>>;
 
 /// Times a put, a request, the look-ups and a sweep.
 pub fn stores() {
@@ -29,22 +33,26 @@ pub fn stores() {
         "The Rust has dialogs, not bytes, in a stand-in of `dashmap` without its locks. Both are asked for the record"
     );
     println!("in the middle; in a sweep every tenth record is Terminated. Each call is timed alone.");
-    table("put of a new Confirmed record", &SIZES_OF_PUTS, |both| put(both, 200));
-    table("put of a new Early record", &SIZES_OF_PUTS, |both| put(both, 180));
-    table("request, INVITE", &SIZES_OF_PUTS, request);
-    table("find_by_request", &SIZES, find_by_request);
-    table("find_by_call_id", &SIZES, find_by_call_id);
-    table("sweep", &SIZES, sweep);
+    let puts = ["put of a new Confirmed record", "put of a new Early record"];
+    table([puts[0], THINGS], &SIZES_OF_PUTS, Both::new, |both| put(both, 200));
+    table([puts[1], THINGS], &SIZES_OF_PUTS, Both::new, |both| put(both, 180));
+    table(["request, INVITE", THINGS], &SIZES_OF_PUTS, Both::new, request);
+    table(["find_by_request", THINGS], &SIZES, Both::new, find_by_request);
+    table(["find_by_call_id", THINGS], &SIZES, Both::new, find_by_call_id);
+    table(["sweep", THINGS], &SIZES, Both::new, sweep);
 }
 
-/// One table: a line for each number of records, with nanoseconds per call.
-fn table(title: &str, sizes: &[usize], sides: for<'a> fn(&'a Both) -> Vec<Side<'a>>) {
+/// What these stores hold.
+const THINGS: &str = "records";
+
+/// One table of a title, with a line for each number of such things: nanoseconds per call.
+pub fn table<B>([title, things]: [&str; 2], sizes: &[usize], make: Make<B>, sides: Sides<B>) {
     println!("\n{title}");
-    let sample = Both::new(1);
+    let sample = make(1);
     let names = sides(&sample).into_iter().map(|(name, _)| format!("{name:>34}"));
-    println!("{:>7} {}", "records", names.collect::<Vec<_>>().join(" "));
+    println!("{things:>7} {}", names.collect::<Vec<_>>().join(" "));
     for size in sizes {
-        let both = Both::new(*size);
+        let both = make(*size);
         let figures = medians(&mut sides(&both)).into_iter().map(|time| format!("{time:>34}"));
         println!("{size:>7} {}", figures.collect::<Vec<_>>().join(" "));
     }
@@ -77,7 +85,7 @@ fn median(mut numbers: Vec<u128>) -> u128 {
 }
 
 /// The time of one call.
-fn timed<T>(call: impl FnOnce() -> T) -> Duration {
+pub fn timed<T>(call: impl FnOnce() -> T) -> Duration {
     let start = Instant::now();
     black_box(call());
     start.elapsed()

@@ -86,6 +86,44 @@ const RSEQS_BY_ID: &[&str] = &["rseq_next", "rseq_current", "rseq_remove"];
 const FIRSTS: &[&str] = &["0", "1", "2147483647", "2147483648", "2147483653", "4294967295"];
 const HELD: &[&str] = &["1", "2147483647", "2147483648", "4294967294", "4294967295"];
 
+/// All that take a PRACK store; those that clean; those by which a text's place matters.
+const PRACKS: &[&str] = &[
+    "prack_register",
+    "prack_validate",
+    "prack_is_pracked",
+    "prack_get_pending",
+    "prack_remove_dialog",
+    "prack_remove_pracked",
+];
+const CLEANING: &[&str] = &["prack_register", "prack_validate", "prack_get_pending"];
+const PRACKS_BY_PLACE: &[&str] = &[
+    "prack_register",
+    "prack_validate",
+    "prack_get_pending",
+    "prack_remove_dialog",
+];
+
+/// How a time compares with one that is held; the first response of an RSeq.
+const AGO: &[&str] = &[
+    "it is later",
+    "now",
+    "shorter",
+    "300 s less 1 ns",
+    "300 s",
+    "300 s and 1 ns",
+    "longer",
+];
+const FIRST_OF_RSEQ: &[&str] = &[
+    "nothing held",
+    "no list",
+    "no such RSeq",
+    "acknowledged",
+    "not acknowledged",
+    "the first of several acknowledged",
+    "another of several acknowledged",
+    "none of several acknowledged",
+];
+
 /// Where an entry stands among others.
 const PLACES: &[&str] = &["the only one", "the first", "between others", "the last"];
 
@@ -305,4 +343,121 @@ pub const BOUNDS: &[Bound] = &[
     (&["rseq_next", "rseq_current"], "held number", HELD),
     (&["rseq_next", "rseq_remove"], "held, place", PLACES),
     (&["rseq_next", "rseq_remove"], "not held, place", PLACES),
+    (
+        PRACKS,
+        "entries",
+        &["0", "1", "2", "over 12", "with a text over 8,192 bytes"],
+    ),
+    (PRACKS, "said by", &["the Rust", "the run's own steps"]),
+    (PRACKS, "lent bytes", &["0"]),
+    (
+        PRACKS,
+        "used bytes",
+        &["as many as lent", "one more than lent", "the largest number"],
+    ),
+    (
+        PRACKS,
+        "store",
+        &[
+            "a byte changed",
+            "cut off",
+            "a byte behind it",
+            "two entries swapped",
+            "one text twice",
+            "eleven responses",
+            "a flag 2",
+            "a method 0 or 15",
+            "a list byte 2",
+        ],
+    ),
+    (PRACKS, "text, bytes", &["0", "8192", "8193"]),
+    (PRACKS, "text", &["UTF-8", "other bytes"]),
+    (PRACKS_BY_PLACE, "held, place", PLACES),
+    (PRACKS_BY_PLACE, "not held, place", PLACES),
+    (CLEANING, "time", &["0", "18446744073709551615"]),
+    (CLEANING, "last cleanup", &["none"]),
+    (CLEANING, "last cleanup", AGO),
+    (CLEANING, "response at a cleanup", &["acknowledged"]),
+    (CLEANING, "response at a cleanup", AGO),
+    (
+        CLEANING,
+        "result",
+        &["one byte less than lent", "as large as lent", "one byte more than lent"],
+    ),
+    (&["prack_register"], "method", &["0", "1", "14", "15", "255"]),
+    (&["prack_register"], "RSeq", &["0", "1", "4294967295"]),
+    (&["prack_register"], "CSeq", &["0", "1", "4294967295"]),
+    (&["prack_register"], "code", &["0", "100", "180", "199", "65535"]),
+    (
+        &["prack_register", "prack_get_pending"],
+        "list before",
+        &["nothing held", "none", "empty", "9", "10"],
+    ),
+    (&["prack_validate"], "block, bytes", &["0", "8192", "8193"]),
+    (
+        &["prack_validate"],
+        "RAck",
+        &[
+            "absent",
+            "not three parts",
+            "RSeq unreadable",
+            "CSeq unreadable",
+            "method unreadable",
+            "readable",
+        ],
+    ),
+    (
+        &["prack_validate"],
+        "accepted",
+        &["the only one", "the first of several"],
+    ),
+    (&["prack_validate"], "accepted, RSeq", &["0", "1", "4294967295"]),
+    (&["prack_validate"], "accepted, CSeq", &["0", "1", "4294967295"]),
+    (
+        &["prack_validate"],
+        "accepted, method",
+        &[
+            "1", "2", "3", "4", "5", "6", "7", "8", "9", "10", "11", "12", "13", "14",
+        ],
+    ),
+    (&["prack_validate"], "18 before", &["19", "20"]),
+    (
+        &["prack_validate"],
+        "left with 19",
+        &[
+            "nothing changed",
+            "a time stored",
+            "the time alone changed",
+            "responses dropped",
+        ],
+    ),
+    (
+        &["prack_validate"],
+        "left with 20",
+        &["nothing changed", "a time stored", "the time alone changed"],
+    ),
+    (
+        &["prack_validate"],
+        "left with 21",
+        &["nothing changed", "the time alone changed", "responses dropped"],
+    ),
+    (
+        &["prack_validate"],
+        "left with 22",
+        &["nothing changed", "the time alone changed", "responses dropped"],
+    ),
+    (
+        &["prack_validate"],
+        "left with 23",
+        &["nothing changed", "the time alone changed", "responses dropped"],
+    ),
+    (&["prack_validate"], "left with 24", &["nothing changed"]),
+    (&["prack_get_pending"], "lent output", &["0"]),
+    (
+        &["prack_get_pending"],
+        "output",
+        &["one byte less than lent", "as large as lent", "one byte more than lent"],
+    ),
+    (&["prack_is_pracked", "prack_remove_pracked"], "response", FIRST_OF_RSEQ),
+    (&["prack_remove_pracked"], "dropped", &["0", "1", "2", "all"]),
 ];

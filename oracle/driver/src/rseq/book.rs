@@ -3,6 +3,7 @@
 use super::call::Call;
 use super::layout::{decode, encode, entry_size, Entry};
 use crate::store::call::Id;
+use crate::store::given;
 use sip_dialog::{storage, DialogId, RSeqManager};
 
 /// The Rust's manager, and its entries in ascending order as it holds them.
@@ -64,39 +65,19 @@ impl Book {
     }
 }
 
-/// Begins the text that the Rust is given for bytes that it can't be given.
-const OTHER: char = char::MAX;
-
-/// The Rust's identifier of three texts. Its texts are UTF-8, and all that it asks of them is whether they are equal: any
-/// other bytes go in as `OTHER` and a letter for each byte, so that two texts are equal exactly if the bytes are.
+/// The Rust's identifier of three texts of any bytes.
 pub fn dialog_id(id: &Id) -> DialogId {
-    let [call_id, local, remote] = [&id[0], &id[1], &id[2]].map(|bytes| match std::str::from_utf8(bytes) {
-        Ok(text) if !text.starts_with(OTHER) => text.to_string(),
-        _ => [OTHER]
-            .into_iter()
-            .chain(bytes.iter().map(|byte| char::from(*byte)))
-            .collect(),
-    });
+    let [call_id, local, remote] = [&id[0], &id[1], &id[2]].map(|bytes| given::text_of(bytes));
     DialogId::unchecked_new(call_id, local, remote)
 }
 
-/// Whether the Rust is given all three texts as they are.
-pub fn is_given_as_is(id: &Id) -> bool {
-    texts_given(&dialog_id(id)).iter().all(|text| !text.starts_with(OTHER))
+/// What the tables say of an identifier: whether the Rust is given all three texts as they are.
+pub fn kind_of(id: &Id) -> &'static str {
+    let mut kinds = id.iter().map(|bytes| given::kind_of(bytes));
+    kinds.find(|kind| *kind != given::AS_IS).unwrap_or(given::AS_IS)
 }
 
 /// The bytes of an identifier of the Rust.
 fn texts_of(id: &DialogId) -> Id {
-    texts_given(id).map(|text| match text.strip_prefix(OTHER) {
-        None => text.as_bytes().to_vec(),
-        Some(letters) => letters
-            .chars()
-            .map(|letter| u8::try_from(letter).expect("a byte"))
-            .collect(),
-    })
-}
-
-/// The texts of an identifier of the Rust.
-fn texts_given(id: &DialogId) -> [&str; 3] {
-    [id.call_id(), id.local_tag(), id.remote_tag()]
+    [id.call_id(), id.local_tag(), id.remote_tag()].map(given::bytes_of)
 }

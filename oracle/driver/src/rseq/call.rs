@@ -96,11 +96,11 @@ impl Kind for RSeqs {
         }
     }
 
-    fn widest(call: &Call) -> u64 {
+    fn widest(call: &Call) -> [u64; 3] {
         match call {
-            Call::Next { .. } | Call::Current(_) => u64::from(u32::MAX),
-            Call::IsEmpty => u64::from(u8::MAX),
-            Call::Remove(_) | Call::Len => u64::MAX,
+            Call::Next { .. } | Call::Current(_) => [u64::from(u32::MAX); 3],
+            Call::IsEmpty => [u64::from(u8::MAX); 3],
+            Call::Remove(_) | Call::Len => [u64::MAX; 3],
         }
     }
 

@@ -1,6 +1,6 @@
 //! What a call must answer and leave: refusals 1, 3 and 18 are the run's own checks around the Rust's manager.
 
-use super::book::{dialog_id, is_given_as_is, Book};
+use super::book::{dialog_id, kind_of, Book};
 use super::call::{Call, CURRENT, NEXT, REMOVE};
 use crate::bounds;
 use crate::dialogs::creation::limit;
@@ -59,8 +59,7 @@ fn meet_store(book: &Book, call: &Call) {
         bounds::met(call.name(), "entries", "with a text over 8,192 bytes");
     }
     if let Some(id) = call.id() {
-        let given = if is_given_as_is(id) { "UTF-8" } else { "other bytes" };
-        bounds::met(call.name(), "identifier", given);
+        bounds::met(call.name(), "identifier", kind_of(id));
     }
 }
 

@@ -17,6 +17,7 @@ use crate::random::Random;
 use crate::store::run::{Fault, Run};
 use call::RSeqs;
 
+pub use calls::TEXTS;
 pub use faults::FAULTS;
 
 /// Compares so many random lists and the directed ones; these faults are put in, each by itself.

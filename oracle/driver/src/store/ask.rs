@@ -51,17 +51,17 @@ fn texts(id: &Id) -> store::Id<'_> {
     [&id[0], &id[1], &id[2]]
 }
 
-/// Lends both out numbers as a place.
-fn find(outs: &mut [u64; 2], ask: impl FnOnce(&mut Place) -> u8) -> u8 {
-    let [place, length] = outs.map(|out| out as usize);
+/// Lends the first two out numbers as a place.
+fn find(outs: &mut [u64; 3], ask: impl FnOnce(&mut Place) -> u8) -> u8 {
+    let [place, length, _] = outs.map(|out| out as usize);
     let mut found = Place { place, length };
     let number = ask(&mut found);
-    *outs = [found.place as u64, found.length as u64];
+    [outs[0], outs[1]] = [found.place as u64, found.length as u64];
     number
 }
 
 /// Lends the first out number as a size.
-fn size(outs: &mut [u64; 2], ask: impl FnOnce(&mut usize) -> u8) -> u8 {
+fn size(outs: &mut [u64; 3], ask: impl FnOnce(&mut usize) -> u8) -> u8 {
     let mut size = outs[0] as usize;
     let number = ask(&mut size);
     outs[0] = size as u64;

@@ -36,10 +36,10 @@ impl Kind for Dialogs {
         }
     }
 
-    fn widest(call: &Call) -> u64 {
+    fn widest(call: &Call) -> [u64; 3] {
         match call.name() {
-            NEXT => u64::from(u32::MAX),
-            _ => u64::MAX,
+            NEXT => [u64::from(u32::MAX); 3],
+            _ => [u64::MAX; 3],
         }
     }
 

@@ -200,7 +200,7 @@ fn first_of(book: &Book, call_id: &[u8]) -> Result<usize, u8> {
 /// Place and length of a record in the store.
 fn give_place(book: &Book, place: usize, left: &mut Left) -> Result<(), u8> {
     let before: usize = book.images[..place].iter().map(Vec::len).sum();
-    left.outs = [before as u64, book.images[place].len() as u64];
+    [left.outs[0], left.outs[1]] = [before as u64, book.images[place].len() as u64];
     Ok(())
 }
 

@@ -314,7 +314,7 @@ fn find_last(scene: &Scene, left: &mut Left) {
     for held in dialogs(&scene.before.store).iter().filter(|_| left.number == 0) {
         let length = encode(held).len();
         if scene.call.texts()[0].1 == held.id().call_id().as_bytes() {
-            left.outs = [place, length as u64];
+            [left.outs[0], left.outs[1]] = [place, length as u64];
         }
         place += length as u64;
     }

@@ -25,8 +25,8 @@ pub trait Kind: Sized + 'static {
     /// The other arguments, for print.
     fn arguments(call: &Self::Call) -> Vec<String>;
 
-    /// The largest number that fits the call's out numbers.
-    fn widest(call: &Self::Call) -> u64;
+    /// The largest number that fits each of the call's out numbers.
+    fn widest(call: &Self::Call) -> [u64; 3];
 
     /// How many bytes of output it is lent.
     fn output(_: &Self::Call) -> usize {

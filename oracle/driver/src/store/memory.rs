@@ -79,8 +79,8 @@ fn filling(random: &mut Random, length: usize) -> Vec<u8> {
 #[derive(Clone, PartialEq, Eq)]
 pub struct Left {
     pub number: u8,
-    /// The number or the least; the count or the length written; place and length.
-    pub outs: [u64; 2],
+    /// The number or the least; the count or the length written; place and length; RSeq, CSeq and method.
+    pub outs: [u64; 3],
     pub output: Vec<u8>,
     pub store: Store,
 }
@@ -91,7 +91,7 @@ impl Left {
         let output = vec![pattern as u8; K::output(call)];
         Left {
             number: 0,
-            outs: [pattern & K::widest(call); 2],
+            outs: K::widest(call).map(|widest| pattern & widest),
             output: room::guarded(&output, pattern),
             store,
         }

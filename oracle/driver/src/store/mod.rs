@@ -11,6 +11,7 @@ mod dialogs;
 mod directed;
 pub mod expect;
 mod faults;
+pub mod given;
 pub mod kind;
 pub mod lists;
 pub mod memory;

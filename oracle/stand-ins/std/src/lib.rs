@@ -10,6 +10,7 @@ pub mod time {
 
     thread_local! {
         static NOW: Cell<u64> = const { Cell::new(0) };
+        static NEXT: Cell<Option<u64>> = const { Cell::new(None) };
     }
 
     /// Sets the time, in nanoseconds.
@@ -17,14 +18,19 @@ pub mod time {
         NOW.set(nanoseconds);
     }
 
+    /// The next reading gives this time; those after it, the one that was set.
+    pub fn set_next_reading(nanoseconds: u64) {
+        NEXT.set(Some(nanoseconds));
+    }
+
     /// A time of the run's clock, in nanoseconds.
     #[derive(Debug, Clone, Copy, PartialEq, Eq, PartialOrd, Ord, Hash)]
     pub struct Instant(u64);
 
     impl Instant {
-        /// The time that was set last.
+        /// The time that was set last, or once the one set for the next reading.
         pub fn now() -> Self {
-            Instant(NOW.get())
+            Instant(NEXT.take().unwrap_or(NOW.get()))
         }
 
         /// As the real one since Rust 1.60: zero where the clock went back.
