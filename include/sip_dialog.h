@@ -1,5 +1,5 @@
 /*
- * sip_dialog: SIP dialogs (RFC 3261 section 12) as records in lent bytes, readings of reliable provisional responses (RFC 3262),
+ * sip_dialog: SIP dialogs (RFC 3261 section 12) as records in lent bytes, reliable provisional responses and their PRACKs (RFC 3262),
  * and session timers (RFC 4028). The functions are proved in Rattle; `rt staticlib sip_dialog` writes them to target/staticlib/libsip_dialog.a,
  * for x86-64.
  *
@@ -35,7 +35,7 @@ enum sip_dialog_refusal {
     SIP_DIALOG_ACCEPTED = 0,
     SIP_DIALOG_TEXT_TOO_LONG = 1,              /* a given text or block is over 8,192 bytes */
     SIP_DIALOG_MALFORMED = 2,                  /* a block, or a value given alone, isn't of its form */
-    SIP_DIALOG_BAD_STORE = 3,                  /* a store or record isn't whole images; an identifier stands twice; used over the lent length */
+    SIP_DIALOG_BAD_STORE = 3,                  /* a store isn't of its layout, or a record no whole image; an identifier stands twice; used over the lent length */
     SIP_DIALOG_MISSING_HEADER = 4,             /* an identifier part, CSeq or RSeq is absent or unreadable */
     SIP_DIALOG_INVALID_STATUS = 5,             /* status outside 100 to 299 at creation */
     SIP_DIALOG_INVALID_URI = 6,                /* a given URI is unreadable */
@@ -435,23 +435,26 @@ uint8_t sip_dialog_rseq_is_empty(const uint8_t *store, size_t store_len, size_t 
 /* ---- PRACK lists: the reliable provisional responses of a dialog that wait for their PRACK (RFC 3262), in a store of their own
    (docs/LAYOUTS.md, "The PRACK store"). A dialog is named by one text of any bytes, which may be empty. Held for it are the time of
    its last cleanup and, maybe, a list of at most ten responses; an empty list is not the same as none. The lent bytes and the used
-   length are as for a store of records; neither the text nor the block may lie in the lent store. 3: used over store_len, or used
-   bytes that aren't of the layout.
+   length are as for a store of records, but for 19 to 24 of validate; neither the text nor the block may lie in the lent store.
+   3: used over store_len, or used bytes that aren't of the layout. A dialog takes at most 212 bytes and the length of its text.
 
-   time is the caller's clock, in nanoseconds; where it goes back, no time has passed. register, validate and get_pending clean the
-   dialog's list first: where nothing is held for it, or 300 s or more after its last cleanup, they store time as that of the last
-   cleanup and drop the responses that are acknowledged or were registered more than 300 s ago. No other function cleans. */
+   time is the caller's clock, in nanoseconds, one clock for all calls on a store; where it goes back, no time has passed. register,
+   validate and get_pending clean the dialog's list first: where nothing is held for it, or 300 s or more after its last cleanup,
+   they store time as that of the last cleanup and drop the responses that are acknowledged or were registered more than 300 s ago.
+   No other function cleans. So validate, with 19 and 20 too, and get_pending of a dialog of which nothing is held make the store
+   larger, by 11 bytes and the length of its text; no cleanup takes that back, only sip_dialog_prack_remove_dialog. */
 
 /* Registers a response that was sent: not acknowledged, at the end of the dialog's list. Where ten are in it the first is dropped.
-   rseq, cseq and code are any numbers, also ones that are in the list; method is that of the request. Refuses with 1, 28, 3, 18. */
+   rseq and code are the response's; cseq and method (of enum sip_dialog_method, otherwise 28) those of the request that it answers,
+   not the PRACK's. Any numbers are taken, also ones that are in the list. Refuses with 1, 28, 3, 18 (the response doesn't fit). */
 uint8_t sip_dialog_prack_register(const uint8_t *id, size_t id_len, uint32_t rseq, uint32_t cseq, uint8_t method,
                                   uint16_t code, uint64_t time, uint8_t *store, size_t store_len, size_t *used);
 
 /* Holds the RAck of a PRACK's block against the dialog's list. The first response of its RSeq decides: it is marked as acknowledged,
    and rseq, cseq and method are the RAck's. Refuses with 1, 2, 3, 18 (the time of a dialog of which nothing is held doesn't fit; nothing is
    changed), 19 (RAck absent or unreadable), 20 (no list), 21 (no such RSeq), 22 (another CSeq), 23 (another method), 24 (already
-   acknowledged). With 19 to 24 the cleaned list stays: the store's bytes and used may then change, the other numbers keep their
-   values. */
+   acknowledged). With 19 to 24 the cleaned list stays: the store's bytes and used may then change, used up or down; the other
+   numbers keep their values. */
 uint8_t sip_dialog_prack_validate(const uint8_t *id, size_t id_len, const uint8_t *block, size_t block_len, uint64_t time,
                                   uint8_t *store, size_t store_len, size_t *used,
                                   uint32_t *rseq, uint32_t *cseq, uint8_t *method);

@@ -1,18 +1,20 @@
 -- PRACK lists about the C functions: one claim about every list of calls of them on a store, from an empty one, each lent the first bytes of the memory, as many
 -- as it says, and the used length, as the last left them. Of a call nothing is known but the contract that its function is proved to keep: `Post` of a function
 -- is what the toolchain makes of its `ensures`. Assumes nothing.
-use Prim.Native.Nat.{ℕ}
-use mathlib.Core.Path.{_≡_, refl, ap, ap₂}
+use Prim.Native.Nat.{ℕ, _≤_}
+use mathlib.Core.Path.{_≡_, refl, ap, ap₂, subst, _∙_}
+use mathlib.Core.Bool.{true}
 use mathlib.Core.List.{List}
 use mathlib.Core.Option.{Option, none, some, Option·map}
-use lib.ListN.{length}
+use lib.ListN.{length, take}
 use contract.Lifetimes.{Lfts}
 use denote.Ref.{RefT}
 use Rattle.limits.specs.Limits.{rustLimits}
-use Rattle.limits.specs.Outcome.{Outcome}
+use Rattle.limits.specs.Outcome.{Outcome, numberIn}
+use Rattle.msg.specs.Block.{isBlock}
 use Rattle.prack_headers.specs.declared.rack.RAck.{RAck}
 use Rattle.ordered_store.specs.Run.{Returns}
-use Rattle.ordered_store.specs.History.{World, contentAnswers, Seen, EachShows, Made, KeepsContracts}
+use Rattle.ordered_store.specs.History.{World, contentAnswers, Seen, EachShows, Made, one-more, KeepsContracts}
 use Rattle.ordered_store.proofs.HistoryLaws.{made-sent, made-follows}
 use Rattle.prack_list.specs.Layout.{trackedForm, TrackedFormed}
 use Rattle.prack_list.specs.Steps.{pendingOf}
@@ -20,7 +22,7 @@ use Rattle.prack_entries.specs.Entries.{keyOf}
 use Rattle.prack_entries.proofs.PlaceLaws.{exact, filled}
 use Rattle.prack_validator.specs.Validator.{Action, register, validate, isPracked, getPending, removeDialog, removePracked, Call, Value, ran, Typed, calls}
 use Rattle.prack_validator.specs.Answers.{rackAfter, lengthAfter, outputAfter}
-use Rattle.prack_validator.specs.History.{store, PrackHistory}
+use Rattle.prack_validator.specs.History.{held, store, Repeats, Sendable, PrackHistory}
 use Rattle.prack_validator.proofs.History.{keeps, prack-history}
 use Rattle.c_prack_answers.specs.Given.{rackOf, prackedAfter}
 use Rattle.sip_dialog.proofs.prack_lists.sip_dialog_prack_register.Reads as register-reads
@@ -139,3 +141,20 @@ pub prack-of-calls : (m : List ℕ) {cs : List Call} {w : World} {ss : List (See
 prack-of-calls m {cs} {w} {ss} d =
     let k = made-follows (trackedForm rustLimits) keyOf (calls rustLimits) lentAfter (TrackedFormed rustLimits) exact filled keeps m Served contracts d in
     (prack-history m cs (made-sent (trackedForm rustLimits) keyOf (calls rustLimits) lentAfter (TrackedFormed rustLimits) exact filled keeps m Served contracts d), k .1)
+
+-- 24 of the C function: after every such list of calls, while an acknowledged entry stands (after the call's own cleanup) and is the first of its RSeq, a call of
+-- `sip_dialog_prack_validate` with a PRACK of its RSeq, CSeq and method, whose texts 1 and 2 take and which is lent at least the used bytes, returns 24.
+pub repeat-returns-24 : (m : List ℕ) {cs : List Call} {w : World} {ss : List (Seen Lent)} → Made (calls rustLimits) Served m cs w ss
+    → (id block : List ℕ) (time lent : ℕ) (after : List ℕ) (left number : ℕ) (given kept : Lent)
+    → Served (record { lent = lent; action = validate id block time }) (take lent (w .memory)) (w .used) after left number given kept
+    → w .used ≤ lent → length id ≤ rustLimits .text → length block ≤ rustLimits .text → isBlock block ≡ true → Repeats rustLimits id block time (held rustLimits cs) → number ≡ 24
+repeat-returns-24 m {cs} {w} {ss} d id block time lent after left number given kept s u a b f r =
+    let c : Call = record { lent = lent; action = validate id block time } in
+    let k = prack-of-calls m d in
+    let same : w ≡ store rustLimits m cs = k .1 .0 in
+    let sent = made-sent (trackedForm rustLimits) keyOf (calls rustLimits) lentAfter (TrackedFormed rustLimits) exact filled keeps m Served contracts (one-more d c after left number given kept s) in
+    let ok : Sendable rustLimits m lent (store rustLimits m cs .used) id block =
+    record { lends = sent .0 .lends; holds = subst (λ (x : World). x .used ≤ lent) same u; text-fits = a; block-fits = b; formed = f } in
+    returns s .number-is
+    ∙ ap (λ (x : World). numberIn (ran rustLimits (validate id block time) (take lent (x .memory)) (x .used) .answer)) same
+    ∙ ap numberIn (k .0 .repeated lent id block time ok r)
