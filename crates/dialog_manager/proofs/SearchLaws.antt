@@ -14,13 +14,15 @@ use Rattle.record.specs.Store.{distinct, encodeAll, recordBefore, recordsIn, on
 use Rattle.record.proofs.CodecLaws.{Bytes, bytes-drop}
 use Rattle.record.proofs.StoreLaws.{EachFormed, decoded}
 use Rattle.record.proofs.WellFormedLaws.{image-round}
-use Rattle.image.specs.Places.{recordPlaces, idsOf}
+use Rattle.image.specs.Places.{recordPlaces, recordFrom, idsOf}
 use Rattle.image.specs.declared.RecordAt.{RecordAt}
 use Rattle.image.specs.declared.sections.IdsAt.{IdsAt}
-use Rattle.image.proofs.AnswerLaws.{RecordGot}
+use Rattle.image.proofs.AnswerLaws.{RecordGot, record-got}
 use Rattle.image.proofs.SizeLaws.{recordSize}
 use Rattle.image_writer.proofs.LieLaws.{Lie, record-lies}
 use Rattle.dialog.specs.Matching.{partIn}
+use Rattle.distinct.specs.Keys.{At}
+use Rattle.distinct.specs.Ends.{endAt}
 use Rattle.store.proofs.WalkLaws.{Step, step}
 use Rattle.book.specs.Calls.{sameIdent}
 use Rattle.book.specs.Book.{Book, storeRead}
@@ -110,6 +112,14 @@ module _ (test : Record → Bool) (s : List ℕ) (at : ℕ) (g : Left test s at)
     pub unbroken : image .read (drop at s) ≡ none → ⊥
     unbroken e = not-broken (g .fuel) (drop at s) (g .rest) filled (g .are) e
 
+    -- a record stands there
+    pub stands : At s at
+    stands = by (image .read (drop at s)) refl
+      where
+        by : (o : Option (Reading Record)) → image .read (drop at s) ≡ o → At s at
+        by none q = absurd (unbroken q)
+        by (some x) q = record { reading = x; reads = q }
+
     module _ (p : RecordAt) (r : Step s at p) where
       after : Others (g .fuel) (record { value = r .value; rest = drop (p .end) s }) (g .rest)
       after = others (g .fuel) (drop at s) (g .rest) (record { value = r .value; rest = drop (p .end) s }) filled (omega (arith, g .enough, length-drop at s)) (g .are) (r .reads)
@@ -145,6 +155,25 @@ turn s at {p} b h g =
     let r = step s at b h g in
     let v : g .value ≡ r .value = ap (λ (x : Reading Record). x .value) (Option·some-injective _ _ (sym (g .got .reads) ∙ r .reads)) in
     record { step = r; placed = g .placed ∙ ap (recordPlaces at) v }
+
+-- one record is read at a place
+pub one-record : (s : List ℕ) (at : ℕ) {p q : RecordAt} (t : Turn s at p) (u : Turn s at q) → t .step .value ≡ u .step .value
+one-record s at t u = ap (λ (x : Reading Record). x .value) (Option·some-injective _ _ (sym (t .step .reads) ∙ u .step .reads))
+
+-- the record that stands at a place, and where its image ends
+module _ (s : List ℕ) (at : ℕ) (b : Bytes s) (h : at ≤ length s) (x : At s at) where
+  abbrev pub places : RecordAt
+  places = recordPlaces at (x .reading .value)
+
+  pub standing : Turn s at places
+  standing = turn s at b h (record-got s at h (ap (recordFrom at) (x .reads)))
+
+  pub its-end : endAt s at ≡ places .end
+  unfolding endAt
+  its-end =
+      let v : standing .step .value ≡ x .reading .value = ap (λ (y : Reading Record). y .value) (Option·some-injective _ _ (sym (standing .step .reads) ∙ x .reads)) in
+      let e : endAt s at ≡ at + length (image .write (x .reading .value)) = rw (x .reads) in
+      e ∙ sym (standing .step .ends ∙ ap (λ (r : Record). at + length (image .write r)) v)
 
 -- the identifier's texts lie within the bytes
 pub ids-within : (s : List ℕ) (at : ℕ) (p : RecordAt) → Turn s at p → IdsWithin s (p .ids)

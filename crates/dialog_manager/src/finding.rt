@@ -1,7 +1,9 @@
 // The first record of a name in a store's used bytes.
+use distinct::record_end;
 use image::IdsAt;
 use image::RecordAt;
 use image::RecordReading;
+use store::ids_at;
 use text::Span;
 ghost use mathlib.Core.Path.{_≡_};
 ghost use Prim.Native.Nat.{_+_, _≤_};
@@ -31,14 +33,14 @@ pub fn search(
 {
     let mut at = 0;
     while at < bytes.len() {
-        let RecordReading::Whole(r) = image::read_record(bytes, at) else {
-            return Found::Nothing;
-        };
-        let ids = r.ids;
+        let ids = ids_at(bytes, at);
         if is_named(bytes, ids, by_tags, call_id, local_tag, remote_tag) {
+            let RecordReading::Whole(r) = image::read_record(bytes, at) else {
+                return Found::Nothing;
+            };
             return Found::At(at, r);
         }
-        at = r.end;
+        at = record_end(bytes, at);
     }
     Found::Nothing
 }

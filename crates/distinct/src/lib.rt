@@ -8,6 +8,10 @@ mod keys;
 mod merging;
 mod pairs;
 
+pub use ends::record_end;
+pub use keys::past;
+pub use keys::two;
+
 // Of bytes that are whole records: `places` are those of their images, and `scratch` is as long. Both are changed.
 pub fn is_distinct(bytes: &[u8], places: &mut [usize], scratch: &mut [usize]) -> bool
     requires { ⌜ Places (now bytes) (now places) ⌝ }

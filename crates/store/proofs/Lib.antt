@@ -1,4 +1,5 @@
 pub mod AnswerLaws
 pub mod CountLaws
+pub mod IdLaws
 pub mod TableLaws
 pub mod WalkLaws

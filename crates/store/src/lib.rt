@@ -7,6 +7,10 @@ ghost use Rattle.record.specs.Store.{decodeAll};
 ghost use Rattle.store.specs.Counting.{recordsHeld, countAnswer};
 ghost use Rattle.store.specs.Reading.{storeFrom, wholeRecords, Tabled};
 
+mod ids;
+
+pub use ids::ids_at;
+
 // How many records there are.
 pub enum StoreReading {
     Records(usize),
