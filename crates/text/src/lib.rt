@@ -67,16 +67,6 @@ pub fn is_blank(b: u8) -> bool
     b == 9
 }
 
-// Whether a value may have this byte: the tab, and the space to `~`.
-pub fn is_value(b: u8) -> bool
-    ensures { λ r. ⌜ r ≡ isValue b ⌝ }
-{
-    if b < 32 {
-        return b == 9;
-    }
-    b <= 126
-}
-
 // The small letter of a letter.
 pub fn to_lower(b: u8) -> u8
     ensures { λ r. ⌜ r ≡ lower b ⌝ }
@@ -105,14 +95,20 @@ pub fn find(s: &[u8], x: u8) -> usize
     i
 }
 
-// How many bytes that a value may have stand first.
+// How many bytes that a value may have stand first: the tab, and the space to `~`.
 pub fn value_length(s: &[u8]) -> usize
     ensures { λ r. ⌜ r ≡ span isValue (now (s .entry)) ⌝ }
     ensures { λ r. ⌜ r ≤ length (now (s .entry)) ⌝ }
 {
     let mut i = 0;
     while i < s.len() {
-        if !is_value(s[i]) {
+        let b = s[i];
+        if b < 32 {
+            if b != 9 {
+                return i;
+            }
+        }
+        if 126 < b {
             return i;
         }
         i += 1;
