@@ -1,9 +1,11 @@
 //! Times: nanoseconds per call of the port beside the Rust, or beside the stand-in where the Rust has no such function,
 //! on the same bytes in one run. Each figure is the median of several rounds after a warm-up.
 
+mod by_identifier;
 mod dialogs;
 mod numbers;
 mod store;
+mod tables;
 
 use dialogs::dialogs;
 use sip_core::{block, Headers, SipUri};
@@ -11,6 +13,7 @@ use sip_dialog::storage::private;
 use smol_str::SmolStr;
 use std::hint::black_box;
 use std::time::{Duration, Instant};
+use tables::Plan;
 
 /// Rounds per figure, and how long a round lasts.
 const ROUNDS: usize = 25;
@@ -30,8 +33,25 @@ pub fn run() -> bool {
     table("URI, a long user", uri_text, uri);
     table("CSeq number, leading zeros", cseq_block, cseq);
     dialogs();
-    store::stores();
-    numbers::numbers();
+    on_stores(&Plan::Times);
+    true
+}
+
+/// The tables of calls on stores.
+fn on_stores(plan: &Plan) {
+    store::stores(plan);
+    numbers::numbers(plan);
+}
+
+/// Names every call on a store, a line each.
+pub fn names() -> bool {
+    on_stores(&Plan::Names);
+    true
+}
+
+/// Makes one of these calls, for callgrind to count.
+pub fn one(call: [String; 3]) -> bool {
+    on_stores(&Plan::One(call));
     true
 }
 

@@ -8,6 +8,8 @@
 //!     driver prack [--calls N] [--seed S]      the same for N lists of calls on a PRACK store
 //!     driver planted [--calls N] [--seed S]    plants one fault per operation and fails if any goes unreported
 //!     driver bench                             times both sides
+//!     driver calls                             names the calls on stores that `bench` times
+//!     driver call TABLE SIZE SIDE              makes one of them, for callgrind
 
 mod answer;
 mod bench;
@@ -40,7 +42,13 @@ struct Options {
 
 /// Runs the command; exit 0 where all is well, 1 where it is not, 2 for bad usage.
 fn main() -> ExitCode {
-    let Some(options) = options(std::env::args().skip(1)) else {
+    let words: Vec<String> = std::env::args().skip(1).collect();
+    if let [command, call @ ..] = &words[..] {
+        if let ("call", Ok(call)) = (command.as_str(), <[String; 3]>::try_from(call.to_vec())) {
+            return ExitCode::from(u8::from(!bench::one(call)));
+        }
+    }
+    let Some(options) = options(words.into_iter()) else {
         eprintln!("{USAGE}");
         return ExitCode::from(2);
     };
@@ -52,6 +60,7 @@ fn main() -> ExitCode {
         "prack" => report::prack(options.calls, options.seed),
         "planted" => report::planted(options.calls, options.seed),
         "bench" => bench::run(),
+        "calls" => bench::names(),
         _ => {
             eprintln!("{USAGE}");
             return ExitCode::from(2);

@@ -66,7 +66,7 @@ pub fn parsed_request(block: &[u8]) -> Request {
 }
 
 /// A response of the stand-in over these headers.
-fn parsed_response(block: &[u8]) -> Response {
+pub fn parsed_response(block: &[u8]) -> Response {
     response_of(200, block)
 }
 

@@ -1,7 +1,7 @@
 //! Times of calls on PRACK and RSeq stores of N dialogs, beside the Rust's `PrackValidator` and `RSeqManager` with the same
 //! contents, timed as those on a store of records.
 
-use super::store::{table, timed, Side};
+use super::tables::{table, timed, Plan, Side};
 use crate::messages::request;
 use port::prack::{self, Response};
 use port::rseq;
@@ -22,26 +22,30 @@ const SIZES: [usize; 4] = [1, 10, 100, 1000];
 const THINGS: &str = "dialogs";
 
 /// Times registering, a PRACK, what waits, and the next RSeq.
-pub fn numbers() {
-    println!("\nPRACK and RSeq stores. Each dialog has one response that waits, or one RSeq number; both sides are asked for");
-    println!(
-        "the dialog in the middle. The Rust has the run's clock and number source, and the stand-in of `dashmap`."
-    );
+pub fn numbers(plan: &Plan) {
+    if let Plan::Times = plan {
+        println!("\nPRACK and RSeq stores. Each dialog has one response that waits, or one RSeq number; both sides are asked for");
+        println!(
+            "the dialog in the middle. The Rust has the run's clock and number source, and the stand-in of `dashmap`."
+        );
+    }
     table(
+        plan,
         ["prack_register of a second response", THINGS],
         &SIZES,
         Pracks::new,
         register,
     );
-    table(["prack_validate, accepted", THINGS], &SIZES, Pracks::new, validate);
+    table(plan, ["prack_validate, accepted", THINGS], &SIZES, Pracks::new, validate);
     table(
+        plan,
         ["prack_get_pending of one response", THINGS],
         &SIZES,
         Pracks::new,
         get_pending,
     );
-    table(["rseq_next of a held number", THINGS], &SIZES, RSeqs::new, next);
-    table(["rseq_next of a new dialog", THINGS], &SIZES, RSeqs::new, next_new);
+    table(plan, ["rseq_next of a held number", THINGS], &SIZES, RSeqs::new, next);
+    table(plan, ["rseq_next of a new dialog", THINGS], &SIZES, RSeqs::new, next_new);
 }
 
 /// The time of all calls: nothing is due.
@@ -272,7 +276,7 @@ fn next(both: &RSeqs) -> Vec<Side<'_>> {
 
 /// A dialog without a number gets one, which is taken back between calls.
 fn next_new(both: &RSeqs) -> Vec<Side<'_>> {
-    sides_of_next(both, both.size, |id| drop(both.manager.remove(id)))
+    sides_of_next(both, both.size, |id| both.manager.remove(id))
 }
 
 /// Both sides of a next; how the Rust's number is put back.

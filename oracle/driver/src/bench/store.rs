@@ -2,102 +2,69 @@
 //! alone, after what the one before it changed has been put back; the clock's own time is taken off.
 
 use super::dialogs::{made, parsed_request};
+use super::by_identifier;
+use super::tables::{table, timed, Plan, Side, Sides};
 use crate::dialogs::encode;
 use port::store::{self, Place, Store};
 use sip_core::Request;
 use sip_dialog::storage::{hold, set_remote_cseq};
 use sip_dialog::{Dialog, DialogManager};
 use std::hint::black_box;
-use std::time::{Duration, Instant};
+use std::time::Duration;
 
 /// How many records the store has. With 10,000 neither side takes a put, and the Rust's update of a record is one.
 const SIZES: [usize; 5] = [1, 10, 100, 1000, 10_000];
 const SIZES_OF_PUTS: [usize; 5] = [1, 10, 100, 1000, 9999];
 
-/// The fewest and the most calls for a figure, and about how long they may take.
-const FEWEST: usize = 31;
-const MOST: usize = 2001;
-const TIME: Duration = Duration::from_millis(300);
+/// A put, the request entry, the calls by identifier, the look-ups, a sweep, the count and all identifiers.
+pub fn stores(plan: &Plan) {
+    if let Plan::Times = plan {
+        println!("\nStores. A port call reads the whole store, as its contract asks, and remembers nothing between calls.");
+        println!("The Rust has dialogs, not bytes, in a stand-in of `dashmap` without its locks. Both are asked for the record");
+        println!("in the middle; in a sweep every tenth record is Terminated. Each call is timed alone, and no buffer is");
+        println!("cleared for it: its store is as the call before found it, and output holds what that one wrote.");
+    }
+    changes(plan);
+    let look_ups: [(&str, Sides<Both>); 6] = [
+        ("find_by_request", find_by_request),
+        ("find_by_call_id", find_by_call_id),
+        ("get", by_identifier::get),
+        ("count", count),
+        ("all_ids", all_ids),
+        ("sweep", sweep),
+    ];
+    for (title, sides) in look_ups {
+        table(plan, [title, THINGS], &SIZES, Both::new, sides);
+    }
+}
 
-/// A named way to do one call: puts back what the last one changed, then answers the call's own time.
-pub type Side<'a> = (&'a str, Box<dyn FnMut() -> Duration + 'a>);
-
-/// Makes both sides of so many things; the sides of a table.
-pub type Make<B> = fn(usize) -> B;
-pub type Sides<B> = for<'a> fn(&'a B) -> Vec<Side<'a>>;
-
-/// Times a put, a request, the look-ups and a sweep.
-pub fn stores() {
-    println!("\nStores. A port call reads the whole store, as its contract asks, and remembers nothing between calls.");
-    println!(
-        "The Rust has dialogs, not bytes, in a stand-in of `dashmap` without its locks. Both are asked for the record"
-    );
-    println!("in the middle; in a sweep every tenth record is Terminated. Each call is timed alone.");
-    let puts = ["put of a new Confirmed record", "put of a new Early record"];
-    table([puts[0], THINGS], &SIZES_OF_PUTS, Both::new, |both| put(both, 200));
-    table([puts[1], THINGS], &SIZES_OF_PUTS, Both::new, |both| put(both, 180));
-    table(["request, INVITE", THINGS], &SIZES_OF_PUTS, Both::new, request);
-    table(["find_by_request", THINGS], &SIZES, Both::new, find_by_request);
-    table(["find_by_call_id", THINGS], &SIZES, Both::new, find_by_call_id);
-    table(["sweep", THINGS], &SIZES, Both::new, sweep);
+/// The calls that change a record or bring one in.
+fn changes(plan: &Plan) {
+    let changes: [(&str, Sides<Both>); 8] = [
+        ("put of a new Confirmed record", |both| put(both, 200)),
+        ("put of a new Early record", |both| put(both, 180)),
+        ("request, INVITE", request),
+        ("response, 200 on a Confirmed record", by_identifier::response),
+        ("next_local_cseq", by_identifier::next_local_cseq),
+        ("set_session_expires", by_identifier::set_session_expires),
+        ("terminate", by_identifier::terminate),
+        ("remove", by_identifier::remove),
+    ];
+    for (title, sides) in changes {
+        table(plan, [title, THINGS], &SIZES_OF_PUTS, Both::new, sides);
+    }
 }
 
 /// What these stores hold.
 const THINGS: &str = "records";
 
-/// One table of a title, with a line for each number of such things: nanoseconds per call.
-pub fn table<B>([title, things]: [&str; 2], sizes: &[usize], make: Make<B>, sides: Sides<B>) {
-    println!("\n{title}");
-    let sample = make(1);
-    let names = sides(&sample).into_iter().map(|(name, _)| format!("{name:>34}"));
-    println!("{things:>7} {}", names.collect::<Vec<_>>().join(" "));
-    for size in sizes {
-        let both = make(*size);
-        let figures = medians(&mut sides(&both)).into_iter().map(|time| format!("{time:>34}"));
-        println!("{size:>7} {}", figures.collect::<Vec<_>>().join(" "));
-    }
-}
-
-/// The median time of one call of each side, in nanoseconds. The sides take turns, so that both meet the same load; each
-/// makes a call untimed before, so that the caches hold its own bytes.
-fn medians(sides: &mut [Side]) -> Vec<u128> {
-    let start = Instant::now();
-    for (_, call) in sides.iter_mut() {
-        call();
-    }
-    let rounds = (TIME.as_nanos() / start.elapsed().as_nanos().max(1)) as usize;
-    let mut times = vec![Vec::new(); sides.len()];
-    for _ in 0..rounds.clamp(FEWEST, MOST) {
-        for (index, (_, call)) in sides.iter_mut().enumerate() {
-            call();
-            times[index].push(call().as_nanos());
-        }
-    }
-    let clock = median((0..MOST).map(|_| timed(|| ()).as_nanos()).collect());
-    let less_clock = |times| median(times).saturating_sub(clock);
-    times.into_iter().map(less_clock).collect()
-}
-
-/// The number in the middle.
-fn median(mut numbers: Vec<u128>) -> u128 {
-    numbers.sort_unstable();
-    numbers[numbers.len() / 2]
-}
-
-/// The time of one call.
-pub fn timed<T>(call: impl FnOnce() -> T) -> Duration {
-    let start = Instant::now();
-    black_box(call());
-    start.elapsed()
-}
-
 /// The same dialogs as a store with room for one more, and in a manager; the block of a request that names the middle one.
-struct Both {
-    size: usize,
-    bytes: Vec<u8>,
-    used: usize,
-    manager: DialogManager,
-    block: Vec<u8>,
+pub struct Both {
+    pub size: usize,
+    pub bytes: Vec<u8>,
+    pub used: usize,
+    pub manager: DialogManager,
+    pub block: Vec<u8>,
     parsed: Request,
 }
 
@@ -139,7 +106,7 @@ fn block(number: usize) -> Vec<u8> {
 }
 
 /// The dialog of that block, as it was before the later request.
-fn dialog(number: usize, status: u16) -> Dialog {
+pub fn dialog(number: usize, status: u16) -> Dialog {
     let mut dialog = made(&block(number), status);
     set_remote_cseq(&mut dialog, 7);
     dialog
@@ -257,11 +224,40 @@ fn find_by_call_id(both: &Both) -> Vec<Side<'_>> {
 }
 
 /// The time of a look-up of the port.
-fn find(look_up: impl FnOnce(&mut Place) -> u8) -> Duration {
+pub fn find(look_up: impl FnOnce(&mut Place) -> u8) -> Duration {
     let mut found = Place { place: 0, length: 0 };
     let time = timed(|| assert_eq!(look_up(&mut found), 0, "found"));
     black_box(found);
     time
+}
+
+/// How many records there are.
+fn count(both: &Both) -> Vec<Side<'_>> {
+    vec![
+        (
+            "Rattle",
+            Box::new(|| {
+                let mut number = 0;
+                timed(|| assert_eq!(store::count(black_box(&both.bytes), both.used, &mut number), 0, "read"))
+            }),
+        ),
+        ("Rust count", Box::new(|| timed(|| black_box(&both.manager).count()))),
+    ]
+}
+
+/// The identifiers of all records: written one after another, or copied into a list.
+fn all_ids(both: &Both) -> Vec<Side<'_>> {
+    let mut out = vec![0; both.used];
+    vec![
+        (
+            "Rattle",
+            Box::new(move || {
+                let mut length = 0;
+                timed(|| assert_eq!(store::all_ids(&both.bytes, both.used, &mut out, &mut length), 0, "written"))
+            }),
+        ),
+        ("Rust all_ids", Box::new(|| timed(|| black_box(&both.manager).all_ids()))),
+    ]
 }
 
 /// Every tenth record is Terminated and swept; they are put back between calls.
