@@ -12,7 +12,8 @@ pub record LimitSet : Type 0 where
   pub tag : ℕ
   -- a URI's estimate (01, "Contact"; refusal 7)
   pub uri : ℕ
-  -- routes of a route set (01, "Routes"; refusal 8)
+  -- routes of a route set (01, "Routes"; refusal 8). The 50 of a record image (01, "Record image") is a figure of its own,
+  -- a numeral in record/specs/Record.antt: it is part of the image's form, and no limit that is asked for.
   pub routes : ℕ
   -- Early records of one Call-ID, and records of a store (refusals 17 and 16)
   pub earlyPerCallId : ℕ

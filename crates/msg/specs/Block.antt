@@ -1,6 +1,6 @@
 -- The header block of document 01, "Block": lines `name:value` CRLF; names of letters, digits, `-`, at least one; values of
 -- bytes 9 and 32 to 126, space and tab trimmed at both ends. An empty block is valid. RFC 3261 section 7.3.1 also has folded
--- lines, other bytes and short names; here they are refused or not known.
+-- lines and other bytes, and section 7.3.3 short names; here they are refused or not known.
 use Prim.Native.Nat.{ℕ, zero, suc, _+_}
 use mathlib.Core.Bool.{Bool, true, false, cond, not, _&&_, _||_}
 use mathlib.Core.List.{List, [], _∷_}

@@ -47,7 +47,7 @@ pub record Sendable (L : LimitSet) (m : List ℕ) (lent used : ℕ) (id block : 
 pub record PrackHistory (L : LimitSet) (m : List ℕ) (cs : List Call) : Type 0 where
   -- the store holds what the definitions give, and each call answered what they answer
   pub follows : Follows (trackedForm L) keyOf (calls L) m cs
-  -- "at most ten"
+  -- "The eleventh entry drops the oldest"
   pub few : (id : List ℕ) (t : Tracked) (list : List Pending) → heldFor id (held L cs) ≡ some t → t .list ≡ some list → length list ≤ L .pending
   -- 24
   pub repeated : (lent : ℕ) (id block : List ℕ) (time : ℕ) → Sendable L m lent (store L m cs .used) id block → Repeats L id block time (held L cs)

@@ -1,7 +1,8 @@
 -- PrackValidator (RFC 3262 section 3: a PRACK is held against the reliable provisional responses that wait for one), on a lent store of its own. Document 01,
 -- "Intervals, PRACK, RSeq" and "Turned back": registering, validating (refused too) and `get_pending` clean, no other call does; 19 to 24 keep the cleaned
 -- list; 18 comes before 19 where what the cleanup adds has no bytes left, and then nothing is changed. A PRACK that matches no response that waits is refused,
--- as in the RFC; which of 20 to 24 is given is the Rust's.
+-- as in the RFC; which of 20 to 24 is given is the Rust's. Departures from the RFC (any RSeq registered in any order, up to ten that wait, 300 s that each is
+-- kept, a repeated PRACK refused): docs/DIFFERENCES.md, "RFC 3262, PRACK lists".
 use Prim.Native.Nat.{ℕ, _<_}
 use mathlib.Core.Bool.{Bool, not}
 use mathlib.Core.List.{List, [], _∷_}

@@ -91,7 +91,7 @@ pub fn validate(id: &[u8], block: &[u8], time: u64, bytes: &mut [u8], used: usiz
     }
 }
 
-// PrackValidator::is_pracked: 1, 3. No where nothing is held.
+// PrackValidator::is_pracked: 1, 3. False where nothing is held for the text.
 pub fn is_pracked(id: &[u8], rseq: u32, bytes: &[u8], used: usize) -> Pracked
     ensures { λ r. ⌜ r ≡ prackedOf (ran rustLimits (isPracked (now (id .entry)) rseq) (now (bytes .entry)) used .answer) ⌝ }
     ensures { λ _. ⌜ now (bytes .entry) ≡ ran rustLimits (isPracked (now (id .entry)) rseq) (now (bytes .entry)) used .bytes ⌝ }
