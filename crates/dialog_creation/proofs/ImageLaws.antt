@@ -19,7 +19,7 @@ use Rattle.output.specs.Output.{fitted, leaves, writtenFrom}
 use Rattle.output.specs.declared.Written.{Written}
 use Rattle.output.specs.declared.Written.the-variants as written
 use Rattle.uri.specs.SipUri.{sips}
-use Rattle.headers.specs.declared.dialog_id.DialogId.{DialogId}
+use Rattle.dialog_id.specs.declared.DialogId.{DialogId}
 use Rattle.record.specs.Record.{Numbers, isFilled, isSips}
 use Rattle.image_writer.specs.Parts.{Parts, partsOf, imageOf, Front, frontOf, fittedBefore}
 use Rattle.image_writer.proofs.FieldLaws.{accepted}

@@ -16,10 +16,10 @@ use Rattle.text.specs.Text.{Piece}
 use Rattle.output.specs.Output.{fitted, leaves, writtenFrom}
 use Rattle.output.specs.declared.Written.the-variants as written
 use Rattle.msg.specs.Status.{inClass}
-use Rattle.headers.specs.DialogId.{Identifier, dialogIdFrom, idFrom, fromName, toName}
+use Rattle.dialog_id.specs.DialogId.{Identifier, dialogIdFrom, idFrom, fromName, toName}
 use Rattle.headers.specs.SessionExpires.{expiresNamed}
-use Rattle.headers.specs.declared.dialog_id.DialogId.{DialogId}
-use Rattle.headers.specs.declared.dialog_id.IdPart.the-variants as part
+use Rattle.dialog_id.specs.declared.DialogId.{DialogId}
+use Rattle.dialog_id.specs.declared.IdPart.the-variants as part
 use Rattle.route_set.specs.Routes.{contactOf, routesOf}
 use Rattle.route_section.specs.Section.{sectionOf, routeTexts, sectionIn}
 use Rattle.route_section.proofs.SectionLaws.{section-size}

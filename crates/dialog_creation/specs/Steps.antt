@@ -7,11 +7,11 @@ use lib.ListN.{length}
 use Rattle.limits.specs.Limits.{LimitSet}
 use Rattle.limits.specs.Outcome.{Outcome, refused, given, refuseBy, andThen}
 use Rattle.text.specs.Text.{Piece}
-use Rattle.headers.specs.DialogId.{Identifier, identifierOf, fromName, toName}
+use Rattle.dialog_id.specs.DialogId.{Identifier, identifierOf, fromName, toName}
 use Rattle.headers.specs.SessionExpires.{Interval, expiresNamed}
 use Rattle.headers.specs.declared.session_timer.Expires.{Expires}
 use Rattle.headers.specs.declared.session_timer.Expires.the-variants as expires
-use Rattle.headers.specs.declared.dialog_id.DialogId.{DialogId}
+use Rattle.dialog_id.specs.declared.DialogId.{DialogId}
 use Rattle.route_set.specs.Routes.{routesOf}
 use Rattle.record.specs.Record.{State, Side, uac, uas, Numbers, isSips}
 use Rattle.record.specs.NumbersForm.{meaning, stateFrom}

@@ -11,7 +11,7 @@ use crate::readings::read_rest;
 use crate::readings::state_for;
 use crate::readings::target;
 use crate::writing::write_image;
-use headers::IdPart;
+use dialog_id::IdPart;
 use limits::Check;
 use limits::Refusal;
 use output::Written;

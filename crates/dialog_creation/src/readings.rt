@@ -1,6 +1,6 @@
 // What a creation reads from the two messages: the identifier, the state, the target, the numbers, and the size of the routes' section.
+use dialog_id::IdPart;
 use headers::Expires;
-use headers::IdPart;
 use limits::Check;
 use limits::Limits;
 use limits::Refusal;
@@ -19,7 +19,7 @@ ghost use Prim.Native.Nat.{_≤_};
 ghost use lib.ListN.{length};
 ghost use Rattle.limits.specs.Limits.{rustLimits};
 ghost use Rattle.limits.specs.Outcome.{checkOf};
-ghost use Rattle.headers.specs.DialogId.{idFrom};
+ghost use Rattle.dialog_id.specs.DialogId.{idFrom};
 ghost use Rattle.route_set.specs.Routes.{contactOf};
 ghost use Rattle.prack_headers.specs.Sequence.{numberAnswer};
 ghost use Rattle.record.specs.NumbersForm.{meaning, stateIn, numberIn, sideIn, outcomeIn};
@@ -66,9 +66,9 @@ pub fn identifier(we_are_uac: bool, response: &[u8]) -> IdPart
     ensures { λ r. ⌜ r ≡ idFrom (identifierFor «we_are_uac» (now (response .entry))) ⌝ }
 {
     if we_are_uac {
-        return headers::read_id(response, b"From", b"To");
+        return dialog_id::read_id(response, b"From", b"To");
     }
-    headers::read_id(response, b"To", b"From")
+    dialog_id::read_id(response, b"To", b"From")
 }
 
 // Early by 100 to 199, Confirmed by 200 to 299.

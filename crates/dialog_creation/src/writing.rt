@@ -1,5 +1,5 @@
 // A new record's image, written where it fits.
-use headers::DialogId;
+use dialog_id::DialogId;
 use image_writer::write_front;
 use output::Written;
 use record::Numbers;

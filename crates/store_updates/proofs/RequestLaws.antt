@@ -13,8 +13,8 @@ use Rattle.limits.specs.declared.Refusal.the-variants.{TextTooLong}
 use Rattle.limits.proofs.Laws.{stopped}
 use Rattle.text.specs.Answers.{tooLong}
 use Rattle.msg.specs.Block.{blockCause}
-use Rattle.headers.specs.DialogId.{identifierOf, fromName, toName}
-use Rattle.headers.specs.declared.dialog_id.DialogId.{DialogId}
+use Rattle.dialog_id.specs.DialogId.{identifierOf, fromName, toName}
+use Rattle.dialog_id.specs.declared.DialogId.{DialogId}
 use Rattle.output.specs.Output.{leaves, writtenFrom}
 use Rattle.output.specs.declared.Written.{Written}
 use Rattle.output.specs.declared.Written.the-variants as written

@@ -1,9 +1,9 @@
 // The request entry: the record that a request names, changed by it.
 use crate::finding::Standing;
 use crate::finding::locate;
+use dialog_id::DialogId;
+use dialog_id::IdAnswer;
 use dialog_updates::request_at;
-use headers::DialogId;
-use headers::IdAnswer;
 use limits::Check;
 use limits::Refusal;
 use output::Written;

@@ -4,7 +4,7 @@ use Rattle.dialog_creation.proofs.readings.identifier.Statement.{statem
 use Rattle.dialog_creation.proofs.readings.identifier.Tie as tie
 use Rattle.dialog_creation.proofs.readings.identifier.Reads as reads
 use Rattle.dialog_creation.proofs.readings.identifier.Lts as lts
-use Rattle.headers.proofs.read_id.Reads as read-id-reads
+use Rattle.dialog_id.proofs.read_id.Reads as read-id-reads
 
 slice-aggregate-read-id : tie.Need-slice-aggregate-read-id
 slice-aggregate-read-id c = search needs

@@ -1,4 +1,4 @@
--- `headers::plain_length` meets its contract: at each turn the whole run is the bytes passed and the run of the rest.
+-- `dialog_id::plain_length` meets its contract: at each turn the whole run is the bytes passed and the run of the rest.
 -- Assumes nothing.
 use Prim.Native.Nat.{_+_, _-_, _≤_}
 use mathlib.Core.Path.{_≡_, sym, ap, _∙_}
@@ -8,10 +8,10 @@ use borrow.Author.Needs.{needs}
 use borrow.Author.Tests.{not-true, not-false}
 use lib.ListN.{length, drop}
 use Rattle.text.specs.Text.{span}
-use Rattle.headers.specs.DialogId.{isPlain}
+use Rattle.dialog_id.specs.DialogId.{isPlain}
 use Rattle.text.proofs.Runs.{span-done, span-stop, span-next}
-use Rattle.headers.proofs.dialog_id.plain_length.Statement.{statement}
-use Rattle.headers.proofs.dialog_id.plain_length.Tie as tie
+use Rattle.dialog_id.proofs.plain_length.Statement.{statement}
+use Rattle.dialog_id.proofs.plain_length.Tie as tie
 
 abbrev Inv-loop : tie.InvT-loop
 Inv-loop s i₀ i = (i ≤ length s) × (span isPlain s ≡ i + span isPlain (drop i s))

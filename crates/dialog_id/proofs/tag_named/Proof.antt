@@ -1,4 +1,4 @@
--- `headers::tag_named` meets its contract: the tag of the value that the look-up found, moved to its place in the block. Assumes nothing.
+-- `dialog_id::tag_named` meets its contract: the tag of the value that the look-up found, moved to its place in the block. Assumes nothing.
 use Prim.Native.Nat.{_+_, _-_, _≤_}
 use mathlib.Core.Path.{_≡_, sym, ap, _∙_}
 use mathlib.Core.List.{List}
@@ -6,14 +6,14 @@ use Prim.Native.Nat.{ℕ}
 use lib.ListN.{length, take, drop, length-take}
 use Rattle.msg.specs.Block.{firstNamed, linesOf}
 use Rattle.msg.proofs.LookupLaws.{Says, found-at, said-fits, no-line}
 use Rattle.headers.specs.Tag.{tagOf, partOf}
-use Rattle.headers.specs.DialogId.{tagNamed}
+use Rattle.dialog_id.specs.DialogId.{tagNamed}
 use Rattle.headers.proofs.TagLaws.{tag-placed, tag-says}
-use Rattle.headers.proofs.IdLaws.{tag-in, tag-moved, no-part}
+use Rattle.dialog_id.proofs.IdLaws.{tag-in, tag-moved, no-part}
 use native.Mathlib.Omega.{arith}
 use borrow.Author.Needs.{needs}
-use Rattle.headers.proofs.dialog_id.tag_named.Statement.{statement}
-use Rattle.headers.proofs.dialog_id.tag_named.Tie as tie
+use Rattle.dialog_id.proofs.tag_named.Statement.{statement}
+use Rattle.dialog_id.proofs.tag_named.Tie as tie
 
 -- what the look-up said of the block
 found : (c : tie.After-struct-known) → Says (c .before .before .before .before .before .before .before .args .block .now) (firstNamed (c .before .before .before .before .before .before .before .args .name .now) (linesOf (c .before .before .before .before .before .before .before .args .block .now))) (c .before .before .v .given .0 .0) (c .before .before .v .given .0 .1 .0)

@@ -1,14 +1,14 @@
--- `headers::DialogId::new` meets its contract: the causes, in their order. Assumes nothing.
+-- `dialog_id::DialogId::new` meets its contract: the causes, in their order. Assumes nothing.
 use mathlib.Core.Path.{_≡_, sym, ap, _∙_}
 use Rattle.limits.proofs.Laws.{passed, stopped}
 use Rattle.limits.specs.Limits.{rustLimits}
 use Rattle.limits.specs.Outcome.{checkOf, orElse}
-use Rattle.headers.specs.DialogId.{partCause, identifierCause}
-use Rattle.headers.proofs.IdLaws.{long-call-id, long-local, long-remote, lengths-pass}
+use Rattle.dialog_id.specs.DialogId.{partCause, identifierCause}
+use Rattle.dialog_id.proofs.IdLaws.{long-call-id, long-local, long-remote, lengths-pass}
 use native.Mathlib.Omega.{arith}
 use borrow.Author.Needs.{needs}
-use Rattle.headers.proofs.dialog_id.DialogId.new.Statement.{statement}
-use Rattle.headers.proofs.dialog_id.DialogId.new.Tie as tie
+use Rattle.dialog_id.proofs.DialogId.new.Statement.{statement}
+use Rattle.dialog_id.proofs.DialogId.new.Tie as tie
 
 -- past the lengths, the causes of the three parts
 parts : (c : tie.Else3) → identifierCause rustLimits (c .before .before .before .before .before .before .before .before .before .args .call-id .now) (c .before .before .before .before .before .before .before .before .before .args .local-tag .now) (c .before .before .before .before .before .before .before .before .before .args .remote-tag .now)

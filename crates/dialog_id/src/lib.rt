@@ -1,6 +1,6 @@
 // A dialog's identifier: the check of given parts, and the readings from a header block.
-use crate::tag::Part;
-use crate::tag::find_tag;
+use headers::Part;
+use headers::find_tag;
 use limits::Check;
 use limits::Limits;
 use limits::Refusal;
@@ -12,8 +12,8 @@ ghost use Rattle.limits.specs.Outcome.{checkOf};
 ghost use Prim.Native.Nat.{_≤_};
 ghost use lib.ListN.{length};
 ghost use Rattle.text.specs.Text.{all, span};
 ghost use Rattle.headers.specs.Tag.{partOf};
-ghost use Rattle.headers.specs.DialogId.{isPlain, partCause, identifierCause, tagNamed, identifierOf, fromRequest, fromResponseUac, fromResponseUas, idFrom, idAnswer};
+ghost use Rattle.dialog_id.specs.DialogId.{isPlain, partCause, identifierCause, tagNamed, identifierOf, fromRequest, fromResponseUac, fromResponseUas, idFrom, idAnswer};
 
 // Where the three parts stand in a header block.
 pub struct DialogId {

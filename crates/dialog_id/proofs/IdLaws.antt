@@ -16,12 +16,12 @@ use Rattle.text.specs.declared.Span.{Span}
 use Rattle.msg.specs.Block.{HeaderLine, foundOf, valueOf, blockCause}
 use Rattle.msg.specs.declared.Found.the-variants as found
 use Rattle.msg.proofs.LookupLaws.{Says, said-text}
 use Rattle.headers.specs.Tag.{tagOf, partOf}
 use Rattle.headers.specs.declared.tag.Part.the-variants.{At, Nothing}
-use Rattle.headers.specs.declared.dialog_id.DialogId.{DialogId}
-use Rattle.headers.specs.declared.dialog_id.IdPart.the-variants as id
-use Rattle.headers.specs.declared.dialog_id.IdAnswer.the-variants as answer
-use Rattle.headers.specs.DialogId.{partCause, identifierCause, tagIn, Identifier, identifier, identifierOf, readIdentifier, dialogIdFrom, idFrom, idAnswer}
+use Rattle.dialog_id.specs.declared.DialogId.{DialogId}
+use Rattle.dialog_id.specs.declared.IdPart.the-variants as id
+use Rattle.dialog_id.specs.declared.IdAnswer.the-variants as answer
+use Rattle.dialog_id.specs.DialogId.{partCause, identifierCause, tagIn, Identifier, identifier, identifierOf, readIdentifier, dialogIdFrom, idFrom, idAnswer}
 
 module _ (L : LimitSet) (c l r : List ℕ) where
   pub long-call-id : tooLong L c ≡ true → identifierCause L c l r ≡ some TextTooLong

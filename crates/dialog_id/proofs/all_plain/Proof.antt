@@ -1,14 +1,14 @@
--- `headers::all_plain` meets its contract: the run of allowed bytes is the whole text. Assumes nothing.
+-- `dialog_id::all_plain` meets its contract: the run of allowed bytes is the whole text. Assumes nothing.
 use native.Mathlib.Omega.{arith}
 use borrow.Author.Needs.{needs}
 use Prim.Native.Nat.{ℕ}
 use mathlib.Core.Path.{ap, _∙_}
 use lib.ListN.{length}
 use lib.Dec.{eqb}
-use Rattle.headers.specs.DialogId.{isPlain}
+use Rattle.dialog_id.specs.DialogId.{isPlain}
 use Rattle.text.proofs.Runs.{all-span}
-use Rattle.headers.proofs.dialog_id.all_plain.Statement.{statement}
-use Rattle.headers.proofs.dialog_id.all_plain.Tie as tie
+use Rattle.dialog_id.proofs.all_plain.Statement.{statement}
+use Rattle.dialog_id.proofs.all_plain.Tie as tie
 
 plain-length-requires : tie.Need-plain-length-requires
 plain-length-requires c κs = search needs

@@ -1,14 +1,14 @@
--- `headers::DialogId::from_request` meets its contract: the causes in their order, then the identifier. Assumes nothing.
+-- `dialog_id::DialogId::from_request` meets its contract: the causes in their order, then the identifier. Assumes nothing.
 use mathlib.Core.Path.{_≡_, sym, ap, _∙_}
 use Rattle.limits.proofs.Laws.{passed, stopped}
 use Rattle.limits.specs.Limits.{rustLimits}
 use Rattle.msg.specs.Block.{blockCause}
-use Rattle.headers.specs.DialogId.{fromName, toName, identifierOf, readIdentifier, idAnswer}
-use Rattle.headers.proofs.IdLaws.{id-clear, id-missing, id-read}
+use Rattle.dialog_id.specs.DialogId.{fromName, toName, identifierOf, readIdentifier, idAnswer}
+use Rattle.dialog_id.proofs.IdLaws.{id-clear, id-missing, id-read}
 use native.Mathlib.Omega.{arith}
 use borrow.Author.Needs.{needs}
-use Rattle.headers.proofs.dialog_id.DialogId.from_request.Statement.{statement}
-use Rattle.headers.proofs.dialog_id.DialogId.from_request.Tie as tie
+use Rattle.dialog_id.proofs.DialogId.from_request.Statement.{statement}
+use Rattle.dialog_id.proofs.DialogId.from_request.Tie as tie
 
 check-block-requires : tie.Need-check-block-requires
 check-block-requires c κs = search needs

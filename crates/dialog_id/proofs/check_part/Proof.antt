@@ -1,11 +1,11 @@
--- `headers::check_part` meets its contract: the three causes, in their order. Assumes nothing.
+-- `dialog_id::check_part` meets its contract: the three causes, in their order. Assumes nothing.
 use mathlib.Core.Path.{sym, _∙_}
 use borrow.Author.Tests.{eq-eqb, ne-eqb, lt-ltb, le-ltb, not-true, not-false}
-use Rattle.headers.specs.DialogId.{partCause}
+use Rattle.dialog_id.specs.DialogId.{partCause}
 use native.Mathlib.Omega.{arith}
 use borrow.Author.Needs.{needs}
-use Rattle.headers.proofs.dialog_id.check_part.Statement.{statement}
-use Rattle.headers.proofs.dialog_id.check_part.Tie as tie
+use Rattle.dialog_id.proofs.check_part.Statement.{statement}
+use Rattle.dialog_id.proofs.check_part.Tie as tie
 
 returns : tie.Need-returns
 unfolding partCause

@@ -1,14 +1,14 @@
--- `headers::read_id` meets its contract: the three parts, one after another. Assumes nothing.
+-- `dialog_id::read_id` meets its contract: the three parts, one after another. Assumes nothing.
 use mathlib.Core.Path.{_≡_, sym, ap, _∙_}
 use mathlib.Core.Option.{none}
 use Rattle.msg.specs.Block.{firstNamed, linesOf, valueNamed}
 use Rattle.msg.proofs.LookupLaws.{no-line}
-use Rattle.headers.specs.DialogId.{callIdName, tagNamed, identifierOf, idFrom}
-use Rattle.headers.proofs.IdLaws.{all-three, no-local, no-remote, no-part}
+use Rattle.dialog_id.specs.DialogId.{callIdName, tagNamed, identifierOf, idFrom}
+use Rattle.dialog_id.proofs.IdLaws.{all-three, no-local, no-remote, no-part}
 use native.Mathlib.Omega.{arith}
 use borrow.Author.Needs.{needs}
-use Rattle.headers.proofs.dialog_id.read_id.Statement.{statement}
-use Rattle.headers.proofs.dialog_id.read_id.Tie as tie
+use Rattle.dialog_id.proofs.read_id.Statement.{statement}
+use Rattle.dialog_id.proofs.read_id.Tie as tie
 
 slice-aggregate-find : tie.Need-slice-aggregate-find
 slice-aggregate-find c = search needs

@@ -14,12 +14,12 @@ use Rattle.limits.specs.declared.Refusal.the-variants.{MissingHeader, Identifie
 use Rattle.text.specs.Text.{within, all, Piece, moved}
 use Rattle.text.specs.Answers.{lengthCause, spanOf}
 use Rattle.msg.specs.Block.{blockCause, valueNamed}
 use Rattle.headers.specs.Tag.{tagOf}
-use Rattle.headers.specs.declared.dialog_id.DialogId.{DialogId}
-use Rattle.headers.specs.declared.dialog_id.IdPart.{IdPart}
-use Rattle.headers.specs.declared.dialog_id.IdPart.the-variants as part
-use Rattle.headers.specs.declared.dialog_id.IdAnswer.{IdAnswer}
-use Rattle.headers.specs.declared.dialog_id.IdAnswer.the-variants as answer
+use Rattle.dialog_id.specs.declared.DialogId.{DialogId}
+use Rattle.dialog_id.specs.declared.IdPart.{IdPart}
+use Rattle.dialog_id.specs.declared.IdPart.the-variants as part
+use Rattle.dialog_id.specs.declared.IdAnswer.{IdAnswer}
+use Rattle.dialog_id.specs.declared.IdAnswer.the-variants as answer
 
 -- ---- the check of given parts
 

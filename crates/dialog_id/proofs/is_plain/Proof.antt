@@ -1,9 +1,9 @@
--- `headers::is_plain` meets its contract. Assumes nothing.
+-- `dialog_id::is_plain` meets its contract. Assumes nothing.
 use borrow.Author.Tests.{le-leb, lt-leb}
 use native.Mathlib.Omega.{arith}
 use borrow.Author.Needs.{needs}
-use Rattle.headers.proofs.dialog_id.is_plain.Statement.{statement}
-use Rattle.headers.proofs.dialog_id.is_plain.Tie as tie
+use Rattle.dialog_id.proofs.is_plain.Statement.{statement}
+use Rattle.dialog_id.proofs.is_plain.Tie as tie
 
 returns : tie.Need-returns
 returns c = rw (lt-leb 32 (c .before .args .b) (omega arith))
