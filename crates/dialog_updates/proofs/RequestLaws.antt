@@ -20,7 +20,7 @@ use Rattle.record.specs.Changes.{withNumbers}
 use Rattle.record.specs.Record.{Numbers, Record}
 use Rattle.record.specs.Rules.{Kind, requestStep}
 use Rattle.dialog.specs.Updates.{kindOf, retargeted, requestUpdate}
-use Rattle.dialog.specs.ImageUpdates.{usedRecord, imageAfter}
+use Rattle.dialog_changes.specs.ImageUpdates.{usedRecord, imageAfter}
 use Rattle.dialog.proofs.RefusalLaws.{no-causes, no-cause}
 use Rattle.dialog_updates.specs.Messages.{requested}
 

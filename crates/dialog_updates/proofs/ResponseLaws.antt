@@ -24,7 +24,7 @@ use Rattle.routes_edit.specs.Rerouted.{renewedBy}
 use Rattle.record.specs.Changes.{withNumbers, withTarget, withRoutes}
 use Rattle.record.specs.Record.{Side, Numbers, Record}
 use Rattle.dialog.specs.Updates.{retargeted, confirms, routesOr, sideOf, intervalFrom, answered, responseUpdate}
-use Rattle.dialog.specs.ImageUpdates.{usedRecord, imageAfter}
+use Rattle.dialog_changes.specs.ImageUpdates.{usedRecord, imageAfter}
 use Rattle.dialog_updates.specs.Messages.{responded}
 
 -- ---- the interval

@@ -1,7 +1,7 @@
 // Dialog::update_from_request.
 use crate::revision::revise;
 use dialog::ImageAnswer;
-use dialog::read_used;
+use dialog_changes::read_used;
 use image::RecordAt;
 use limits::Check;
 use limits::Refusal;

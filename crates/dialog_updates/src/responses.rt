@@ -2,7 +2,7 @@
 use crate::revision::renew;
 use crate::revision::revise;
 use dialog::ImageAnswer;
-use dialog::read_used;
+use dialog_changes::read_used;
 use headers::Expires;
 use headers::Refresher;
 use image::RecordAt;

@@ -21,8 +21,8 @@ use Rattle.record.proofs.CodecLaws.{Bytes}
 use Rattle.record.proofs.NumberLaws.{meaning-same}
 use Rattle.image.specs.declared.RecordAt.{RecordAt}
 use Rattle.dialog.specs.Updates.{responseUpdate, terminateUpdate, localUpdate, intervalUpdate}
-use Rattle.dialog.specs.declared.updates.Raised.{Raised}
-use Rattle.dialog.specs.declared.updates.Raised.the-variants as raised
+use Rattle.dialog_changes.specs.declared.Raised.{Raised}
+use Rattle.dialog_changes.specs.declared.Raised.the-variants as raised
 use Rattle.dialog_updates.specs.AtPlace.{stepped}
 use Rattle.book.specs.Calls.{Ident, response, terminate, localNumber, interval, number, Answer}
 use Rattle.book.specs.Book.{identCause, updateCause, revised}

@@ -14,8 +14,8 @@ use Rattle.output.specs.declared.Written.{Written}
 use Rattle.image.specs.Places.{recordPlaces, recordFrom}
 use Rattle.image.specs.declared.RecordReading.the-variants.{Whole}
 use Rattle.image_edit.specs.Changes.{readAt}
-use Rattle.dialog.specs.declared.updates.Raised.{Raised}
-use Rattle.dialog.specs.declared.updates.Raised.the-variants as raised
+use Rattle.dialog_changes.specs.declared.Raised.{Raised}
+use Rattle.dialog_changes.specs.declared.Raised.the-variants as raised
 use Rattle.book.specs.Calls.{Ident, ident, Update, request, response, terminate, localNumber, interval, update}
 use Rattle.book.specs.Book.{storeRead, isOf, firstPlace}
 use Rattle.book.specs.Store.{Left, run}

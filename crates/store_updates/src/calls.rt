@@ -1,7 +1,7 @@
 // The calls that name their record by its identifier.
 use crate::finding::Standing;
 use crate::finding::locate;
-use dialog::Raised;
+use dialog_changes::Raised;
 use dialog_manager::check_identifier;
 use dialog_updates::response_at;
 use image::RecordAt;

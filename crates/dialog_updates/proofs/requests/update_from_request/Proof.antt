@@ -4,7 +4,7 @@ use mathlib.Core.Path.{_≡_, refl, sym, ap, _∙_}
 use lib.ListN.{length, take}
 use Rattle.limits.specs.Limits.{rustLimits}
 use Rattle.dialog.specs.Updates.{kindOf, requestUpdate}
-use Rattle.dialog.proofs.ImageUpdateLaws.{One, one-used, used-refused}
+use Rattle.dialog_changes.proofs.ImageUpdateLaws.{One, one-used, used-refused}
 use Rattle.dialog_updates.specs.AtPlace.{stepped}
 use Rattle.dialog_updates.specs.Messages.{requested}
 use Rattle.dialog_updates.proofs.PlaceLaws.{stepped-one, refused-leaves, result-as}
@@ -15,7 +15,7 @@ use Rattle.dialog_updates.proofs.requests.update_from_request.Statement
 use Rattle.dialog_updates.proofs.requests.update_from_request.Tie as tie
 use Rattle.dialog_updates.proofs.requests.update_from_request.Reads as reads
 use Rattle.dialog_updates.proofs.requests.update_from_request.Lts as lts
-use Rattle.dialog.proofs.read_used.Reads as read-used-reads
+use Rattle.dialog_changes.proofs.read_used.Reads as read-used-reads
 use Rattle.dialog_updates.proofs.requests.request_at.Reads as request-at-reads
 use Rattle.msg.proofs.check_block.Reads as check-block-reads
 use Rattle.text.proofs.too_long.Reads as too-long-reads

@@ -6,7 +6,7 @@ use Rattle.limits.specs.Limits.{rustLimits}
 use Rattle.limits.specs.Outcome.{Outcome, given}
 use Rattle.record.specs.Record.{Record}
 use Rattle.dialog.specs.Updates.{responseUpdate}
-use Rattle.dialog.proofs.ImageUpdateLaws.{One, one-used, used-refused}
+use Rattle.dialog_changes.proofs.ImageUpdateLaws.{One, one-used, used-refused}
 use Rattle.dialog_updates.specs.AtPlace.{stepped}
 use Rattle.dialog_updates.specs.Messages.{responded}
 use Rattle.dialog_updates.proofs.PlaceLaws.{stepped-one, refused-leaves, result-as}
@@ -18,7 +18,7 @@ use Rattle.dialog_updates.proofs.responses.update_from_response.Stateme
 use Rattle.dialog_updates.proofs.responses.update_from_response.Tie as tie
 use Rattle.dialog_updates.proofs.responses.update_from_response.Reads as reads
 use Rattle.dialog_updates.proofs.responses.update_from_response.Lts as lts
-use Rattle.dialog.proofs.read_used.Reads as read-used-reads
+use Rattle.dialog_changes.proofs.read_used.Reads as read-used-reads
 use Rattle.dialog_updates.proofs.responses.response_at.Reads as response-at-reads
 use Rattle.msg.proofs.check_block.Reads as check-block-reads
 

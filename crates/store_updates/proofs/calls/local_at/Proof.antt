@@ -12,7 +12,7 @@ use Rattle.record.specs.Rules.{localStep}
 use Rattle.image_edit.specs.Changes.{changed}
 use Rattle.image_edit.proofs.ImageCuts.{Held, held-used}
 use Rattle.dialog.specs.Updates.{localUpdate}
-use Rattle.dialog.specs.declared.updates.Raised.the-variants as raised
+use Rattle.dialog_changes.specs.declared.Raised.the-variants as raised
 use Rattle.dialog_updates.specs.AtPlace.{stepped}
 use Rattle.dialog_updates.proofs.PlaceLaws.{numbers-read, stepped-given, result-as}
 use Rattle.store_updates.specs.Entries.{raisedWith}

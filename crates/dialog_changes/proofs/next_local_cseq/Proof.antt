@@ -1,4 +1,4 @@
--- `dialog::next_local_cseq` meets its contract: 3, then the numbers of the one record changed. Assumes nothing.
+-- `dialog_changes::next_local_cseq` meets its contract: 3, then the numbers of the one record changed. Assumes nothing.
 use borrow.Author.Needs.{needs}
 use mathlib.Core.Path.{_≡_, sym, ap, _∙_}
 use Rattle.limits.specs.Outcome.{given}
@@ -7,11 +7,11 @@ use Rattle.record.specs.NumbersForm.{meaning}
 use Rattle.record.specs.Changes.{withNumbers}
 use Rattle.record.specs.Rules.{localStep}
 use Rattle.record.specs.Record.{Numbers}
 use Rattle.dialog.specs.Updates.{localUpdate}
-use Rattle.dialog.specs.ImageUpdates.{localRaised}
-use Rattle.dialog.proofs.ImageUpdateLaws.{One, one-used, used-refused, meaning-read, after-refused, step-taken, raised-refused, raised-not, raised-to}
-use Rattle.dialog.proofs.updates.next_local_cseq.Statement.{statement}
-use Rattle.dialog.proofs.updates.next_local_cseq.Tie as tie
+use Rattle.dialog_changes.specs.ImageUpdates.{localRaised}
+use Rattle.dialog_changes.proofs.ImageUpdateLaws.{One, one-used, used-refused, meaning-read, after-refused, step-taken, raised-refused, raised-not, raised-to}
+use Rattle.dialog_changes.proofs.next_local_cseq.Statement.{statement}
+use Rattle.dialog_changes.proofs.next_local_cseq.Tie as tie
 
 -- the one record, its new local number, and what the change of the numbers answered and left
 the-one : (c : tie.After-update-numbers) → One (c .before .before .before .before .before .before .before .before .before .before .args .bytes .now) (c .before .before .before .before .before .before .before .before .before .before .args .used) (c .before .before .before .before .before .r .given .0 .0)

@@ -1,6 +1,6 @@
-// Updates of one record, given as its image in lent bytes with room behind it. Each answers the image's new length.
-use crate::readings::ImageAnswer;
-use crate::readings::read_image;
+// The updates of one record that no message makes, on its image in lent bytes with room behind it. Each answers the image's new length.
+use dialog::ImageAnswer;
+use dialog::read_image;
 use image::RecordAt;
 use limits::Refusal;
 use output::Written;
@@ -15,9 +15,9 @@ ghost use Rattle.output.specs.Output.{fitted, leaves, writtenFrom};
 ghost use Rattle.record.specs.Changes.{withNumbers};
 ghost use Rattle.record.specs.NumbersForm.{meaning};
 ghost use Rattle.image_edit.specs.Changes.{changed};
 ghost use Rattle.dialog.specs.OneImage.{oneRecord, imageAnswer};
-ghost use Rattle.dialog.specs.ImageUpdates.{usedRecord, terminated, confirmed, localRaised, raisedRecord, raisedAnswer, intervalSet};
+ghost use Rattle.dialog_changes.specs.ImageUpdates.{usedRecord, terminated, confirmed, localRaised, raisedRecord, raisedAnswer, intervalSet};
 ghost use Rattle.dialog.specs.declared.readings.ImageAnswer.the-variants.{Of};
 
 // What `next_local_cseq` answers: the new number, and the image's new length.
 pub enum Raised {

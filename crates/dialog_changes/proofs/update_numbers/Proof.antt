@@ -1,9 +1,9 @@
--- `dialog::update_numbers` meets its contract: the one record is the record at 0. Assumes nothing.
+-- `dialog_changes::update_numbers` meets its contract: the one record is the record at 0. Assumes nothing.
 use native.Mathlib.Omega.{arith}
 use borrow.Author.Needs.{needs}
-use Rattle.dialog.proofs.ImageUpdateLaws.{one-used}
-use Rattle.dialog.proofs.updates.update_numbers.Statement.{statement}
-use Rattle.dialog.proofs.updates.update_numbers.Tie as tie
+use Rattle.dialog_changes.proofs.ImageUpdateLaws.{one-used}
+use Rattle.dialog_changes.proofs.update_numbers.Statement.{statement}
+use Rattle.dialog_changes.proofs.update_numbers.Tie as tie
 
 revise-numbers-requires : tie.Need-revise-numbers-requires
 revise-numbers-requires c κs =

@@ -1,21 +1,21 @@
--- `dialog::set_session_expires` meets its contract: 3, 13, 14, then the numbers of the one record changed. Assumes nothing.
+-- `dialog_changes::set_session_expires` meets its contract: 3, 13, 14, then the numbers of the one record changed. Assumes nothing.
 use native.Mathlib.Omega.{arith}
 use borrow.Author.Needs.{needs}
 use mathlib.Core.Path.{_≡_, refl, sym, ap, _∙_}
-use Rattle.dialog.proofs.ImageUpdateLaws.{used-refused, one-used, meaning-read, after-refused, step-refused, step-taken}
+use Rattle.dialog_changes.proofs.ImageUpdateLaws.{used-refused, one-used, meaning-read, after-refused, step-refused, step-taken}
 use Rattle.dialog.specs.Updates.{intervalUpdate}
 use Rattle.record.specs.NumbersForm.{meaning, outcomeIn}
 use Rattle.record.specs.Rules.{intervalStep}
 use Rattle.record.specs.Changes.{withNumbers}
 use Rattle.record.specs.Record.{Record, Numbers}
 use Rattle.limits.specs.Outcome.{Outcome, given, andThen}
 use Rattle.limits.specs.Limits.{rustLimits}
-use Rattle.dialog.proofs.updates.set_session_expires.Statement.{statement}
-use Rattle.dialog.proofs.updates.set_session_expires.Tie as tie
-use Rattle.dialog.proofs.updates.set_session_expires.Reads as reads
-use Rattle.dialog.proofs.updates.set_session_expires.Lts as lts
-use Rattle.dialog.proofs.updates.read_used.Reads as read-used-reads
-use Rattle.dialog.proofs.updates.update_numbers.Reads as update-numbers-reads
+use Rattle.dialog_changes.proofs.set_session_expires.Statement.{statement}
+use Rattle.dialog_changes.proofs.set_session_expires.Tie as tie
+use Rattle.dialog_changes.proofs.set_session_expires.Reads as reads
+use Rattle.dialog_changes.proofs.set_session_expires.Lts as lts
+use Rattle.dialog_changes.proofs.read_used.Reads as read-used-reads
+use Rattle.dialog_changes.proofs.update_numbers.Reads as update-numbers-reads
 use Rattle.record.proofs.numbers.Numbers.set_session_expires.Reads as set-session-expires-reads
 
 read-used-requires : tie.Need-read-used-requires

@@ -1,15 +1,15 @@
--- `dialog::read_used` meets its contract. Assumes nothing.
+-- `dialog_changes::read_used` meets its contract. Assumes nothing.
 use native.Mathlib.Omega.{arith}
 use borrow.Author.Needs.{needs}
 use mathlib.Core.Path.{_≡_, refl, sym, ap, _∙_}
 use lib.Seq.{length-take-le}
-use Rattle.dialog.proofs.ImageUpdateLaws.{over-used, within-used}
+use Rattle.dialog_changes.proofs.ImageUpdateLaws.{over-used, within-used}
 use Rattle.dialog.specs.OneImage.{imageAnswer}
-use Rattle.dialog.proofs.updates.read_used.Statement.{statement}
-use Rattle.dialog.proofs.updates.read_used.Tie as tie
-use Rattle.dialog.proofs.updates.read_used.Reads as reads
-use Rattle.dialog.proofs.updates.read_used.Lts as lts
-use Rattle.dialog.proofs.readings.read_image.Reads as read-image-reads
+use Rattle.dialog_changes.proofs.read_used.Statement.{statement}
+use Rattle.dialog_changes.proofs.read_used.Tie as tie
+use Rattle.dialog_changes.proofs.read_used.Reads as reads
+use Rattle.dialog_changes.proofs.read_used.Lts as lts
+use Rattle.dialog.proofs.read_image.Reads as read-image-reads
 
 returns : tie.Need-returns
 returns c = over-used (c .before .before .args .bytes .now) (c .before .before .args .used) (omega arith)

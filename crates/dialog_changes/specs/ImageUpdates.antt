@@ -10,10 +10,10 @@ use Rattle.limits.specs.Outcome.{Outcome, refused, given, refuseIf, andThen}
 use Rattle.limits.specs.declared.Refusal.the-variants.{BadStore, NoRoom}
 use Rattle.output.specs.Output.{fitted}
 use Rattle.record.specs.Record.{Record, image}
 use Rattle.dialog.specs.OneImage.{oneRecord}
 use Rattle.dialog.specs.Updates.{confirmUpdate, terminateUpdate, localUpdate, intervalUpdate}
-use Rattle.dialog.specs.declared.updates.Raised.{Raised}
-use Rattle.dialog.specs.declared.updates.Raised.the-variants as raised
+use Rattle.dialog_changes.specs.declared.Raised.{Raised}
+use Rattle.dialog_changes.specs.declared.Raised.the-variants as raised
 
 -- the record of the used bytes: 3
 abbrev pub usedRecord : List ℕ → ℕ → Outcome Record

@@ -1,21 +1,21 @@
--- `dialog::terminate` meets its contract: 3, then the numbers of the one record changed. Assumes nothing.
+-- `dialog_changes::terminate` meets its contract: 3, then the numbers of the one record changed. Assumes nothing.
 use native.Mathlib.Omega.{arith}
 use borrow.Author.Needs.{needs}
 use mathlib.Core.Path.{_≡_, refl, sym, ap, _∙_}
-use Rattle.dialog.proofs.ImageUpdateLaws.{meaning-read}
-use Rattle.dialog.proofs.ImageUpdateLaws.{used-refused, one-used, after-refused, step-taken}
+use Rattle.dialog_changes.proofs.ImageUpdateLaws.{meaning-read}
+use Rattle.dialog_changes.proofs.ImageUpdateLaws.{used-refused, one-used, after-refused, step-taken}
 use Rattle.dialog.specs.Updates.{terminateUpdate}
 use Rattle.record.specs.NumbersForm.{meaning}
 use Rattle.record.specs.Changes.{withNumbers}
 use Rattle.record.specs.Rules.{terminateStep}
 use Rattle.record.specs.Record.{Record, Numbers}
 use Rattle.limits.specs.Outcome.{given}
-use Rattle.dialog.proofs.updates.terminate.Statement.{statement}
-use Rattle.dialog.proofs.updates.terminate.Tie as tie
-use Rattle.dialog.proofs.updates.terminate.Reads as reads
-use Rattle.dialog.proofs.updates.terminate.Lts as lts
-use Rattle.dialog.proofs.updates.read_used.Reads as read-used-reads
-use Rattle.dialog.proofs.updates.update_numbers.Reads as update-numbers-reads
+use Rattle.dialog_changes.proofs.terminate.Statement.{statement}
+use Rattle.dialog_changes.proofs.terminate.Tie as tie
+use Rattle.dialog_changes.proofs.terminate.Reads as reads
+use Rattle.dialog_changes.proofs.terminate.Lts as lts
+use Rattle.dialog_changes.proofs.read_used.Reads as read-used-reads
+use Rattle.dialog_changes.proofs.update_numbers.Reads as update-numbers-reads
 use Rattle.record.proofs.numbers.Numbers.terminate.Reads as terminate-reads
 
 read-used-requires : tie.Need-read-used-requires

@@ -1,21 +1,21 @@
--- `dialog::confirm` meets its contract: 3, then the numbers of the one record changed. Assumes nothing.
+-- `dialog_changes::confirm` meets its contract: 3, then the numbers of the one record changed. Assumes nothing.
 use native.Mathlib.Omega.{arith}
 use borrow.Author.Needs.{needs}
 use mathlib.Core.Path.{_≡_, refl, sym, ap, _∙_}
-use Rattle.dialog.proofs.ImageUpdateLaws.{meaning-read}
-use Rattle.dialog.proofs.ImageUpdateLaws.{used-refused, one-used, after-refused, step-taken}
+use Rattle.dialog_changes.proofs.ImageUpdateLaws.{meaning-read}
+use Rattle.dialog_changes.proofs.ImageUpdateLaws.{used-refused, one-used, after-refused, step-taken}
 use Rattle.dialog.specs.Updates.{confirmUpdate}
 use Rattle.record.specs.NumbersForm.{meaning}
 use Rattle.record.specs.Changes.{withNumbers}
 use Rattle.record.specs.Rules.{confirmStep}
 use Rattle.record.specs.Record.{Record, Numbers}
 use Rattle.limits.specs.Outcome.{given}
-use Rattle.dialog.proofs.updates.confirm.Statement.{statement}
-use Rattle.dialog.proofs.updates.confirm.Tie as tie
-use Rattle.dialog.proofs.updates.confirm.Reads as reads
-use Rattle.dialog.proofs.updates.confirm.Lts as lts
-use Rattle.dialog.proofs.updates.read_used.Reads as read-used-reads
-use Rattle.dialog.proofs.updates.update_numbers.Reads as update-numbers-reads
+use Rattle.dialog_changes.proofs.confirm.Statement.{statement}
+use Rattle.dialog_changes.proofs.confirm.Tie as tie
+use Rattle.dialog_changes.proofs.confirm.Reads as reads
+use Rattle.dialog_changes.proofs.confirm.Lts as lts
+use Rattle.dialog_changes.proofs.read_used.Reads as read-used-reads
+use Rattle.dialog_changes.proofs.update_numbers.Reads as update-numbers-reads
 use Rattle.record.proofs.numbers.Numbers.confirm.Reads as confirm-reads
 
 read-used-requires : tie.Need-read-used-requires
