@@ -1,4 +1,4 @@
--- `record_edit::revise_all` meets its contract: measured before a byte is written. Assumes nothing.
+-- `record_renewal::revise_all` meets its contract: measured before a byte is written. Assumes nothing.
 use mathlib.Core.Path.{_≡_, refl, sym, ap, _∙_}
 use mathlib.Core.Bool.{Bool, true, _||_}
 use mathlib.Core.List.{List, [], _∷_, _++_}
@@ -22,16 +22,16 @@ use Rattle.route_set.specs.Routes.{routesOf}
 use Rattle.route_section.specs.Section.{routeTexts, sectionOf, sectionIn}
 use Rattle.routes_edit.specs.Rerouted.{renewedBy}
 use Rattle.routes_edit.proofs.RoutesLaws.{Measured, measured, in-order, used-after}
-use Rattle.record_edit.specs.Revised.{renewed}
-use Rattle.record_edit.proofs.RevisedLaws.{all-within, all-size, all-edit}
+use Rattle.record_gaps.specs.Revised.{renewed}
+use Rattle.record_gaps.proofs.RevisedLaws.{all-within, all-size, all-edit}
 use native.Mathlib.Omega.{arith}
 use borrow.Author.Needs.{needs}
-use Rattle.record_edit.proofs.routes.revise_all.Statement.{statement}
-use Rattle.record_edit.proofs.routes.revise_all.Tie as tie
-use Rattle.record_edit.proofs.routes.revise_all.Reads as reads
-use Rattle.record_edit.proofs.routes.revise_all.Lts as lts
+use Rattle.record_renewal.proofs.revise_all.Statement.{statement}
+use Rattle.record_renewal.proofs.revise_all.Tie as tie
+use Rattle.record_renewal.proofs.revise_all.Reads as reads
+use Rattle.record_renewal.proofs.revise_all.Lts as lts
 use Rattle.image_writer.proofs.numbers_size.Reads as numbers-size-reads
-use Rattle.record_edit.proofs.routes.change_all.Reads as change-all-reads
+use Rattle.record_renewal.proofs.change_all.Reads as change-all-reads
 
 -- the record among the used bytes, and the routes that were measured
 stood : (c : tie.After-slice-known) → Held (take (c .before .args .used) (c .before .args .bytes .now)) (c .before .args .at) (c .before .args .r)

@@ -1,4 +1,4 @@
--- `record_edit::write_head` meets its contract: the state byte and the target beside each other, and the map before them. Assumes nothing.
+-- `record_gaps::write_head` meets its contract: the state byte and the target beside each other, and the map before them. Assumes nothing.
 use mathlib.Core.Path.{_≡_, sym, ap, _∙_}
 use mathlib.Core.Bool.{Bool, _||_}
 use mathlib.Core.List.{List, [], _∷_, _++_}
@@ -11,10 +11,10 @@ use Rattle.record.specs.NumbersForm.{meaning}
 use Rattle.image_edit.specs.Maps.{mapFrom}
 use native.Mathlib.Omega.{arith}
 use borrow.Author.Needs.{needs}
-use Rattle.record_edit.proofs.head.write_head.Statement.{statement}
-use Rattle.record_edit.proofs.head.write_head.Tie as tie
-use Rattle.record_edit.proofs.head.write_head.Reads as reads
-use Rattle.record_edit.proofs.head.write_head.Lts as lts
+use Rattle.record_gaps.proofs.head.write_head.Statement.{statement}
+use Rattle.record_gaps.proofs.head.write_head.Tie as tie
+use Rattle.record_gaps.proofs.head.write_head.Reads as reads
+use Rattle.record_gaps.proofs.head.write_head.Lts as lts
 use Rattle.image_edit.proofs.either.Reads as either-reads
 use Rattle.image_edit.proofs.new_map.Reads as new-map-reads
 use Rattle.image_writer.proofs.write_byte.Reads as write-byte-reads

@@ -1,4 +1,4 @@
--- `record_edit::write_tail` meets its contract: the numbers, and the routes in the bytes behind them. Assumes nothing.
+-- `record_renewal::write_tail` meets its contract: the numbers, and the routes in the bytes behind them. Assumes nothing.
 use mathlib.Core.Path.{_≡_, sym, ap, _∙_}
 use mathlib.Core.Bool.{true}
 use mathlib.Core.List.{List}
@@ -14,10 +14,10 @@ use Rattle.route_section.specs.Section.{sectionIn}
 use Rattle.routes_edit.proofs.RoutesLaws.{lent-put}
 use native.Mathlib.Omega.{arith}
 use borrow.Author.Needs.{needs}
-use Rattle.record_edit.proofs.routes.write_tail.Statement.{statement}
-use Rattle.record_edit.proofs.routes.write_tail.Tie as tie
-use Rattle.record_edit.proofs.routes.write_tail.Reads as reads
-use Rattle.record_edit.proofs.routes.write_tail.Lts as lts
+use Rattle.record_renewal.proofs.write_tail.Statement.{statement}
+use Rattle.record_renewal.proofs.write_tail.Tie as tie
+use Rattle.record_renewal.proofs.write_tail.Reads as reads
+use Rattle.record_renewal.proofs.write_tail.Lts as lts
 use Rattle.image_writer.proofs.write_numbers.Reads as write-numbers-reads
 use Rattle.route_section.proofs.write_routes.Reads as write-routes-reads
 

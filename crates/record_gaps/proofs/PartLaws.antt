@@ -8,7 +8,7 @@ use lib.Seq.{length-take-le, take-at, drop-at}
 use Rattle.edit.specs.Edit.{putAt, over}
 use Rattle.edit.proofs.EditLaws.{put-put}
 use Rattle.image_edit.proofs.CutLaws.{splice-cut}
-use Rattle.record_edit.proofs.MoveLaws.{put-before}
+use Rattle.record_gaps.proofs.MoveLaws.{put-before}
 
 -- a section of a list, by its place and its length
 pub part-at : (f m b : List ℕ) (i n : ℕ) {l : List ℕ} → l ≡ f ++ (m ++ b) → length f ≡ i → length m ≡ n → take n (drop i l) ≡ m

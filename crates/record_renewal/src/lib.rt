@@ -1,13 +1,13 @@
-// The same with the routes of a block, reversed: what a 2xx does that confirms an Early record. `count` and `size` are those that
+// The changes of `record_edit` with the routes of a block, reversed: what a 2xx does that confirms an Early record. `count` and `size` are those that
 // `measure_routes` answers of the block, which was checked.
-use crate::gaps::open_gaps;
-use crate::head::write_head;
 use image::RecordAt;
 use image_writer::numbers_size;
 use image_writer::write_numbers;
 use limits::Refusal;
 use output::Written;
 use record::Numbers;
+use record_gaps::open_gaps;
+use record_gaps::write_head;
 use route_section::write_routes;
 use routes_edit::change_numbers_and_routes;
 ghost use mathlib.Core.Path.{_≡_};
@@ -27,7 +27,7 @@ ghost use Rattle.image_edit.specs.Changes.{readAt, changed};
 ghost use Rattle.route_section.specs.Section.{sectionIn, sectionFrom};
 ghost use Rattle.route_section.specs.declared.Section.the-variants.{Of};
 ghost use Rattle.routes_edit.specs.Rerouted.{renewedBy};
-ghost use Rattle.record_edit.specs.Revised.{renewed};
+ghost use Rattle.record_gaps.specs.Revised.{renewed};
 
 // Other numbers and other routes: 18. Answers the new used length.
 pub fn revise_numbers_and_routes(

@@ -1,4 +1,4 @@
--- `record_edit::open_gaps` meets its contract: in either order both parts come to their places. Assumes nothing.
+-- `record_gaps::open_gaps` meets its contract: in either order both parts come to their places. Assumes nothing.
 use native.Mathlib.Omega.{arith}
 use mathlib.Core.Path.{_≡_, sym, ap, _∙_}
 use mathlib.Core.Logic.{⊎-elim}
@@ -6,13 +6,13 @@ use mathlib.Core.List.{List}
 use Prim.Native.Nat.{ℕ, _+_, _-_}
 use lib.ListN.{length, take, drop}
 use Rattle.edit.specs.Edit.{putAt}
-use Rattle.record_edit.proofs.MoveLaws.{left-first, right-first}
+use Rattle.record_gaps.proofs.MoveLaws.{left-first, right-first}
 use native.Mathlib.Omega.{arith}
 use borrow.Author.Needs.{needs}
-use Rattle.record_edit.proofs.gaps.open_gaps.Statement.{statement}
-use Rattle.record_edit.proofs.gaps.open_gaps.Tie as tie
-use Rattle.record_edit.proofs.gaps.open_gaps.Reads as reads
-use Rattle.record_edit.proofs.gaps.open_gaps.Lts as lts
+use Rattle.record_gaps.proofs.gaps.open_gaps.Statement.{statement}
+use Rattle.record_gaps.proofs.gaps.open_gaps.Tie as tie
+use Rattle.record_gaps.proofs.gaps.open_gaps.Reads as reads
+use Rattle.record_gaps.proofs.gaps.open_gaps.Lts as lts
 use Rattle.edit.proofs.move_left.Reads as move-left-reads
 use Rattle.edit.proofs.move_right.Reads as move-right-reads
 use Rattle.edit.proofs.shift.Reads as shift-reads

@@ -22,8 +22,8 @@ use Rattle.image_edit.proofs.NumbersLaws.{image-cut, state-is, end-is, routes-i
 use Rattle.image_edit.proofs.TargetLaws.{start-is, length-is}
 use Rattle.route_section.specs.Section.{sectionOf}
 use Rattle.routes_edit.proofs.RoutesLaws.{tailBytes, record-end, routes-map}
-use Rattle.record_edit.specs.Revised.{revised}
-use Rattle.record_edit.proofs.PartLaws.{part-at, merged, around}
+use Rattle.record_gaps.specs.Revised.{revised}
+use Rattle.record_gaps.proofs.PartLaws.{part-at, merged, around}
 
 -- the two URIs that stay
 abbrev pub others : Record → List ℕ
