@@ -82,14 +82,14 @@ fn created(w: Written, bytes: &[u8]) -> usize {
 // A request, whose block is shown.
 pub fn request(place: &[u8], method: &[u8], block: &[u8], bytes: &mut [u8], used: usize) -> usize {
     ask_block(place, method, block);
-    let w = dialog_updates::update_from_request(method, block, bytes, used);
+    let w = dialog_requests::update_from_request(method, block, bytes, used);
     updated(w, bytes, used)
 }
 
 // The same of a whole message, whose block is not shown.
 pub fn message(place: &[u8], method: &[u8], block: &[u8], bytes: &mut [u8], used: usize) -> usize {
     ask(place, method, b"");
-    let w = dialog_updates::update_from_request(method, block, bytes, used);
+    let w = dialog_requests::update_from_request(method, block, bytes, used);
     updated(w, bytes, used)
 }
 
@@ -101,14 +101,14 @@ pub fn response(place: &[u8], status: u16, block: &[u8], bytes: &mut [u8], used:
     show(b" of {");
     show_block(block);
     show(b"}: ");
-    let w = dialog_updates::update_from_response(status, block, bytes, used);
+    let w = dialog_responses::update_from_response(status, block, bytes, used);
     updated(w, bytes, used)
 }
 
 // The same of a whole message, whose block is not shown.
 pub fn answer(place: &[u8], status: u16, block: &[u8], bytes: &mut [u8], used: usize) -> usize {
     ask_number(place, b"", status as u64);
-    let w = dialog_updates::update_from_response(status, block, bytes, used);
+    let w = dialog_responses::update_from_response(status, block, bytes, used);
     updated(w, bytes, used)
 }
 

@@ -163,7 +163,7 @@ pub extern "C" fn sip_dialog_image_update_from_request(
     ensures { λ _. ⌜ now (image .exit) ≡ leaves (requested rustLimits (now (method .entry)) (now (block .entry)) (now (image .entry)) (now (used .entry))) (now (image .entry)) ⌝ }
 {
     give_written(
-        dialog_updates::update_from_request(method, block, image, *used),
+        dialog_requests::update_from_request(method, block, image, *used),
         used,
     )
 }
@@ -180,7 +180,7 @@ pub extern "C" fn sip_dialog_image_update_from_response(
     ensures { λ _. ⌜ now (image .exit) ≡ leaves (responded rustLimits status (now (block .entry)) (now (image .entry)) (now (used .entry))) (now (image .entry)) ⌝ }
 {
     give_written(
-        dialog_updates::update_from_response(status, block, image, *used),
+        dialog_responses::update_from_response(status, block, image, *used),
         used,
     )
 }

@@ -3,7 +3,7 @@ use crate::finding::Standing;
 use crate::finding::locate;
 use dialog_changes::Raised;
 use dialog_manager::check_identifier;
-use dialog_updates::response_at;
+use dialog_responses::response_at;
 use image::RecordAt;
 use limits::Check;
 use output::Written;

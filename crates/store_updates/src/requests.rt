@@ -3,7 +3,7 @@ use crate::finding::Standing;
 use crate::finding::locate;
 use dialog_id::DialogId;
 use dialog_id::IdAnswer;
-use dialog_updates::request_at;
+use dialog_requests::request_at;
 use limits::Check;
 use limits::Refusal;
 use output::Written;

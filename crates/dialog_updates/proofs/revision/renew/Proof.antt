@@ -13,9 +13,8 @@ use Rattle.route_set.specs.Routes.{routesOf}
 use Rattle.routes_edit.specs.Rerouted.{renewedBy}
 use Rattle.record_gaps.specs.Revised.{renewed}
 use Rattle.dialog.specs.Updates.{retargeted}
-use Rattle.dialog_updates.proofs.ContactLaws.{no-contact, contact-within, contact-target}
+use Rattle.dialog_updates.proofs.ContactLaws.{no-contact, contact-within, contact-target, target-kept}
 use Rattle.dialog_updates.proofs.PlaceLaws.{changed-as, result-as}
-use Rattle.dialog_updates.proofs.ResponseLaws.{target-kept}
 use native.Mathlib.Omega.{arith}
 use borrow.Author.Needs.{needs}
 use Rattle.dialog_updates.proofs.revision.renew.Statement.{statement}

@@ -9,7 +9,7 @@ use Rattle.limits.proofs.Laws.{passed}
 use Rattle.text.specs.Answers.{tooLong}
 use Rattle.msg.specs.Block.{blockCause}
 use Rattle.record.proofs.CodecLaws.{bytes-all}
-use Rattle.dialog_updates.proofs.RequestLaws.{short-block}
+use Rattle.dialog_updates.proofs.BlockLaws.{short-block}
 use Rattle.store_updates.specs.Entries.{Ready}
 use Rattle.store_updates.proofs.RequestLaws.{request-long, request-bad, request-turned, request-done}
 use borrow.Author.Needs.{needs}
