@@ -1,21 +1,21 @@
--- `listing_text::write_interval` meets its contract: three columns. Assumes nothing.
+-- `listing_lines::write_interval` meets its contract: three columns. Assumes nothing.
 use native.Mathlib.Omega.{arith}
 use borrow.Author.Needs.{needs}
 use mathlib.Core.Path.{_≡_, refl, sym, ap, _∙_}
 use mathlib.Core.Option.{Option}
 use Prim.Native.Nat.{ℕ}
-use Rattle.listing_text.proofs.LineLaws.{three-columns}
-use Rattle.listing_text.specs.Steps.{spaced, ended, intervalPart}
-use Rattle.listing_text.specs.Listing.{orDash}
+use Rattle.listing_lines.proofs.LineLaws.{three-columns}
+use Rattle.listing_lines.specs.Steps.{spaced, ended, intervalPart}
+use Rattle.listing_lines.specs.Listing.{orDash}
 use Rattle.record.specs.NumbersForm.{numberIn}
 use Rattle.output.specs.Decimal.{decimalOf}
-use Rattle.listing_text.proofs.line.write_interval.Statement.{statement}
-use Rattle.listing_text.proofs.line.write_interval.Tie as tie
-use Rattle.listing_text.proofs.line.write_interval.Reads as reads
-use Rattle.listing_text.proofs.line.write_interval.Lts as lts
-use Rattle.listing_text.proofs.line.refresh_second.Reads as refresh-second-reads
-use Rattle.listing_text.proofs.line.write_number.Reads as write-number-reads
-use Rattle.listing_text.proofs.line.write_optional.Reads as write-optional-reads
+use Rattle.listing_lines.proofs.write_interval.Statement.{statement}
+use Rattle.listing_lines.proofs.write_interval.Tie as tie
+use Rattle.listing_lines.proofs.write_interval.Reads as reads
+use Rattle.listing_lines.proofs.write_interval.Lts as lts
+use Rattle.listing_lines.proofs.refresh_second.Reads as refresh-second-reads
+use Rattle.listing_lines.proofs.write_number.Reads as write-number-reads
+use Rattle.listing_lines.proofs.write_optional.Reads as write-optional-reads
 
 refresh-second-requires : tie.Need-refresh-second-requires
 refresh-second-requires c κs = search needs

@@ -1,15 +1,15 @@
--- `listing_text::write_optional` meets its contract. Assumes nothing.
+-- `listing_lines::write_optional` meets its contract. Assumes nothing.
 use native.Mathlib.Omega.{arith}
 use borrow.Author.Needs.{needs}
 use mathlib.Core.Path.{_≡_, refl, sym, ap, _∙_}
 use mathlib.Core.List.{[], _∷_}
-use Rattle.listing_text.proofs.LineLaws.{column}
-use Rattle.listing_text.proofs.line.write_optional.Statement.{statement}
-use Rattle.listing_text.proofs.line.write_optional.Tie as tie
-use Rattle.listing_text.proofs.line.write_optional.Reads as reads
-use Rattle.listing_text.proofs.line.write_optional.Lts as lts
-use Rattle.listing_text.proofs.line.write_number.Reads as write-number-reads
-use Rattle.listing_text.proofs.line.write_text.Reads as write-text-reads
+use Rattle.listing_lines.proofs.LineLaws.{column}
+use Rattle.listing_lines.proofs.write_optional.Statement.{statement}
+use Rattle.listing_lines.proofs.write_optional.Tie as tie
+use Rattle.listing_lines.proofs.write_optional.Reads as reads
+use Rattle.listing_lines.proofs.write_optional.Lts as lts
+use Rattle.listing_lines.proofs.write_number.Reads as write-number-reads
+use Rattle.listing_lines.proofs.write_text.Reads as write-text-reads
 
 enum-known-n : tie.Need-enum-known-n
 enum-known-n c = search needs

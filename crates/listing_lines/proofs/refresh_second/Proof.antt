@@ -1,11 +1,11 @@
--- `listing_text::refresh_second` meets its contract: the half of a number that is there. Assumes nothing.
+-- `listing_lines::refresh_second` meets its contract: the half of a number that is there. Assumes nothing.
 use native.Mathlib.Omega.{arith}
 use borrow.Author.Needs.{needs}
 use mathlib.Core.Path.{_≡_, refl, sym, ap, _∙_}
-use Rattle.listing_text.proofs.line.refresh_second.Statement.{statement}
-use Rattle.listing_text.proofs.line.refresh_second.Tie as tie
-use Rattle.listing_text.proofs.line.refresh_second.Reads as reads
-use Rattle.listing_text.proofs.line.refresh_second.Lts as lts
+use Rattle.listing_lines.proofs.refresh_second.Statement.{statement}
+use Rattle.listing_lines.proofs.refresh_second.Tie as tie
+use Rattle.listing_lines.proofs.refresh_second.Reads as reads
+use Rattle.listing_lines.proofs.refresh_second.Lts as lts
 
 enum-known-seconds : tie.Need-enum-known-seconds
 enum-known-seconds c = search needs

@@ -10,8 +10,8 @@ use lib.ListN.{length, length-append}
 use Rattle.edit.specs.Edit.{putAt, over}
 use Rattle.edit.proofs.EditLaws.{Wrote, wrote-then, wrote-three}
 use Rattle.record.specs.Record.{Numbers}
-use Rattle.listing_text.specs.Listing.{columnsOf, lineOf}
-use Rattle.listing_text.specs.Steps.{headPart, sequencePart, intervalPart}
+use Rattle.listing_lines.specs.Listing.{columnsOf, lineOf}
+use Rattle.listing_lines.specs.Steps.{headPart, sequencePart, intervalPart}
 
 -- a text and the byte after it, where the text is a column of at most m bytes
 pub column : (at m v : ℕ) (piece s bytes : List ℕ) {r : ℕ} {o : List ℕ} → piece ≡ s → length piece ≤ m → r ≡ at + length piece + 1 → o ≡ putAt at (piece ++ (v ∷ [])) bytes

@@ -10,8 +10,8 @@ ghost use lib.ListN.{length};
 ghost use Rattle.edit.specs.Edit.{over, putAt};
 ghost use Rattle.output.specs.Decimal.{decimalOf};
 ghost use Rattle.record.specs.NumbersForm.{meaning, stateIn, numberIn};
-ghost use Rattle.listing_text.specs.Listing.{stateLetter, sideText, orDash, refreshSecond, columnsOf, lineOf};
-ghost use Rattle.listing_text.specs.Steps.{headPart, sequencePart, intervalPart};
+ghost use Rattle.listing_lines.specs.Listing.{stateLetter, sideText, orDash, refreshSecond, columnsOf, lineOf};
+ghost use Rattle.listing_lines.specs.Steps.{headPart, sequencePart, intervalPart};
 
 // The line of a record at a position, over the front of out. Its length.
 pub fn write_line(

@@ -1,14 +1,14 @@
--- `listing_text::write_side` meets its contract. Assumes nothing.
+-- `listing_lines::write_side` meets its contract. Assumes nothing.
 use native.Mathlib.Omega.{arith}
 use borrow.Author.Needs.{needs}
 use mathlib.Core.Path.{_≡_, refl, sym, ap, _∙_}
 use mathlib.Core.List.{[], _∷_}
-use Rattle.listing_text.proofs.LineLaws.{column}
-use Rattle.listing_text.proofs.line.write_side.Statement.{statement}
-use Rattle.listing_text.proofs.line.write_side.Tie as tie
-use Rattle.listing_text.proofs.line.write_side.Reads as reads
-use Rattle.listing_text.proofs.line.write_side.Lts as lts
-use Rattle.listing_text.proofs.line.write_text.Reads as write-text-reads
+use Rattle.listing_lines.proofs.LineLaws.{column}
+use Rattle.listing_lines.proofs.write_side.Statement.{statement}
+use Rattle.listing_lines.proofs.write_side.Tie as tie
+use Rattle.listing_lines.proofs.write_side.Reads as reads
+use Rattle.listing_lines.proofs.write_side.Lts as lts
+use Rattle.listing_lines.proofs.write_text.Reads as write-text-reads
 
 slice-aggregate-write-text : tie.Need-slice-aggregate-write-text
 slice-aggregate-write-text c = search needs

@@ -1,19 +1,19 @@
--- `listing_text::write_number` meets its contract: the digits are the number in decimal. Assumes nothing.
+-- `listing_lines::write_number` meets its contract: the digits are the number in decimal. Assumes nothing.
 use native.Mathlib.Omega.{arith}
 use borrow.Author.Needs.{needs}
 use mathlib.Core.Path.{_≡_, refl, sym, ap, _∙_}
 use mathlib.Core.List.{List}
 use Prim.Native.Nat.{ℕ, _+_, _≤_}
 use lib.ListN.{length, take}
-use Rattle.listing_text.proofs.LineLaws.{column}
+use Rattle.listing_lines.proofs.LineLaws.{column}
 use Rattle.output.proofs.DecimalLaws.{decimal-is, twenty-digits}
 use Rattle.output.specs.Decimal.{decimalOf}
-use Rattle.listing_text.proofs.line.write_number.Statement.{statement}
-use Rattle.listing_text.proofs.line.write_number.Tie as tie
-use Rattle.listing_text.proofs.line.write_number.Reads as reads
-use Rattle.listing_text.proofs.line.write_number.Lts as lts
+use Rattle.listing_lines.proofs.write_number.Statement.{statement}
+use Rattle.listing_lines.proofs.write_number.Tie as tie
+use Rattle.listing_lines.proofs.write_number.Reads as reads
+use Rattle.listing_lines.proofs.write_number.Lts as lts
 use Rattle.io.proofs.decimal.Reads as decimal-reads
-use Rattle.listing_text.proofs.line.write_text.Reads as write-text-reads
+use Rattle.listing_lines.proofs.write_text.Reads as write-text-reads
 
 decimal-requires : tie.Need-decimal-requires
 decimal-requires c κs = search needs

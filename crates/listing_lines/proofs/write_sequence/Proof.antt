@@ -1,17 +1,17 @@
--- `listing_text::write_sequence` meets its contract: three columns. Assumes nothing.
+-- `listing_lines::write_sequence` meets its contract: three columns. Assumes nothing.
 use native.Mathlib.Omega.{arith}
 use borrow.Author.Needs.{needs}
-use Rattle.listing_text.proofs.LineLaws.{three-columns}
-use Rattle.listing_text.specs.Steps.{spaced}
-use Rattle.listing_text.specs.Listing.{orDash}
+use Rattle.listing_lines.proofs.LineLaws.{three-columns}
+use Rattle.listing_lines.specs.Steps.{spaced}
+use Rattle.listing_lines.specs.Listing.{orDash}
 use Rattle.record.specs.NumbersForm.{numberIn}
 use Rattle.output.specs.Decimal.{decimalOf}
-use Rattle.listing_text.proofs.line.write_sequence.Statement.{statement}
-use Rattle.listing_text.proofs.line.write_sequence.Tie as tie
-use Rattle.listing_text.proofs.line.write_sequence.Reads as reads
-use Rattle.listing_text.proofs.line.write_sequence.Lts as lts
-use Rattle.listing_text.proofs.line.write_number.Reads as write-number-reads
-use Rattle.listing_text.proofs.line.write_optional.Reads as write-optional-reads
+use Rattle.listing_lines.proofs.write_sequence.Statement.{statement}
+use Rattle.listing_lines.proofs.write_sequence.Tie as tie
+use Rattle.listing_lines.proofs.write_sequence.Reads as reads
+use Rattle.listing_lines.proofs.write_sequence.Lts as lts
+use Rattle.listing_lines.proofs.write_number.Reads as write-number-reads
+use Rattle.listing_lines.proofs.write_optional.Reads as write-optional-reads
 
 write-number-requires : tie.Need-write-number-requires
 write-number-requires c κs = search needs

@@ -1,18 +1,18 @@
--- `listing_text::write_head` meets its contract: three columns. Assumes nothing.
+-- `listing_lines::write_head` meets its contract: three columns. Assumes nothing.
 use native.Mathlib.Omega.{arith}
 use borrow.Author.Needs.{needs}
-use Rattle.listing_text.proofs.LineLaws.{three-columns}
-use Rattle.listing_text.specs.Steps.{spaced}
-use Rattle.listing_text.specs.Listing.{stateLetter, sideText}
+use Rattle.listing_lines.proofs.LineLaws.{three-columns}
+use Rattle.listing_lines.specs.Steps.{spaced}
+use Rattle.listing_lines.specs.Listing.{stateLetter, sideText}
 use Rattle.record.specs.NumbersForm.{stateIn}
 use Rattle.output.specs.Decimal.{decimalOf}
-use Rattle.listing_text.proofs.line.write_head.Statement.{statement}
-use Rattle.listing_text.proofs.line.write_head.Tie as tie
-use Rattle.listing_text.proofs.line.write_head.Reads as reads
-use Rattle.listing_text.proofs.line.write_head.Lts as lts
-use Rattle.listing_text.proofs.line.write_number.Reads as write-number-reads
-use Rattle.listing_text.proofs.line.write_side.Reads as write-side-reads
-use Rattle.listing_text.proofs.line.write_state.Reads as write-state-reads
+use Rattle.listing_lines.proofs.write_head.Statement.{statement}
+use Rattle.listing_lines.proofs.write_head.Tie as tie
+use Rattle.listing_lines.proofs.write_head.Reads as reads
+use Rattle.listing_lines.proofs.write_head.Lts as lts
+use Rattle.listing_lines.proofs.write_number.Reads as write-number-reads
+use Rattle.listing_lines.proofs.write_side.Reads as write-side-reads
+use Rattle.listing_lines.proofs.write_state.Reads as write-state-reads
 
 write-number-requires : tie.Need-write-number-requires
 write-number-requires c κs = search needs

@@ -7,7 +7,7 @@ use mathlib.Core.Option.{Option, none, some}
 use Rattle.output.specs.Decimal.{decimalOf}
 use Rattle.record.specs.Record.{State, Record}
 use Rattle.record.specs.Store.{recordsIn}
-use Rattle.listing_text.specs.Listing.{stateLetter, sideText, orDash, refreshSecond, linesFrom}
+use Rattle.listing_lines.specs.Listing.{stateLetter, sideText, orDash, refreshSecond, linesFrom}
 
 -- a column and a space, or a line feed
 abbrev pub spaced : List ℕ → List ℕ

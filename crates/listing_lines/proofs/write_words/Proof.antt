@@ -1,16 +1,16 @@
--- `listing_text::write_words` meets its contract: a word and a number, with a space between them. Assumes nothing.
+-- `listing_lines::write_words` meets its contract: a word and a number, with a space between them. Assumes nothing.
 use native.Mathlib.Omega.{arith}
 use borrow.Author.Needs.{needs}
 use mathlib.Core.Path.{_≡_, refl, sym, ap, subst, _∙_}
 use mathlib.Core.List.{[], _∷_}
-use Rattle.listing_text.proofs.LineLaws.{column, words-written}
+use Rattle.listing_lines.proofs.LineLaws.{column, words-written}
 use Rattle.output.specs.Decimal.{decimalOf}
-use Rattle.listing_text.proofs.line.write_words.Statement.{statement}
-use Rattle.listing_text.proofs.line.write_words.Tie as tie
-use Rattle.listing_text.proofs.line.write_words.Reads as reads
-use Rattle.listing_text.proofs.line.write_words.Lts as lts
-use Rattle.listing_text.proofs.line.write_number.Reads as write-number-reads
-use Rattle.listing_text.proofs.line.write_text.Reads as write-text-reads
+use Rattle.listing_lines.proofs.write_words.Statement.{statement}
+use Rattle.listing_lines.proofs.write_words.Tie as tie
+use Rattle.listing_lines.proofs.write_words.Reads as reads
+use Rattle.listing_lines.proofs.write_words.Lts as lts
+use Rattle.listing_lines.proofs.write_number.Reads as write-number-reads
+use Rattle.listing_lines.proofs.write_text.Reads as write-text-reads
 
 write-text-requires : tie.Need-write-text-requires
 write-text-requires c κs = search needs

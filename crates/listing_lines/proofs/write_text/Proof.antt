@@ -1,13 +1,13 @@
--- `listing_text::write_text` meets its contract: the text, then the byte after it. Assumes nothing.
+-- `listing_lines::write_text` meets its contract: the text, then the byte after it. Assumes nothing.
 use native.Mathlib.Omega.{arith}
 use borrow.Author.Needs.{needs}
 use mathlib.Core.Path.{_≡_, refl, sym, ap, _∙_}
 use mathlib.Core.List.{[], _∷_}
 use Rattle.edit.proofs.EditLaws.{wrote-then}
-use Rattle.listing_text.proofs.line.write_text.Statement.{statement}
-use Rattle.listing_text.proofs.line.write_text.Tie as tie
-use Rattle.listing_text.proofs.line.write_text.Reads as reads
-use Rattle.listing_text.proofs.line.write_text.Lts as lts
+use Rattle.listing_lines.proofs.write_text.Statement.{statement}
+use Rattle.listing_lines.proofs.write_text.Tie as tie
+use Rattle.listing_lines.proofs.write_text.Reads as reads
+use Rattle.listing_lines.proofs.write_text.Lts as lts
 use Rattle.edit.proofs.put.Reads as put-reads
 
 put-requires : tie.Need-put-requires

@@ -1,16 +1,16 @@
--- `listing_text::write_line` meets its contract: three parts of three columns are the line. Assumes nothing.
+-- `listing_lines::write_line` meets its contract: three parts of three columns are the line. Assumes nothing.
 use native.Mathlib.Omega.{arith}
 use borrow.Author.Needs.{needs}
-use Rattle.listing_text.proofs.LineLaws.{three-columns, line-written}
-use Rattle.listing_text.specs.Steps.{headPart, sequencePart, intervalPart}
+use Rattle.listing_lines.proofs.LineLaws.{three-columns, line-written}
+use Rattle.listing_lines.specs.Steps.{headPart, sequencePart, intervalPart}
 use Rattle.record.specs.NumbersForm.{meaning}
-use Rattle.listing_text.proofs.line.write_line.Statement.{statement}
-use Rattle.listing_text.proofs.line.write_line.Tie as tie
-use Rattle.listing_text.proofs.line.write_line.Reads as reads
-use Rattle.listing_text.proofs.line.write_line.Lts as lts
-use Rattle.listing_text.proofs.line.write_head.Reads as write-head-reads
-use Rattle.listing_text.proofs.line.write_interval.Reads as write-interval-reads
-use Rattle.listing_text.proofs.line.write_sequence.Reads as write-sequence-reads
+use Rattle.listing_lines.proofs.write_line.Statement.{statement}
+use Rattle.listing_lines.proofs.write_line.Tie as tie
+use Rattle.listing_lines.proofs.write_line.Reads as reads
+use Rattle.listing_lines.proofs.write_line.Lts as lts
+use Rattle.listing_lines.proofs.write_head.Reads as write-head-reads
+use Rattle.listing_lines.proofs.write_interval.Reads as write-interval-reads
+use Rattle.listing_lines.proofs.write_sequence.Reads as write-sequence-reads
 
 write-head-requires : tie.Need-write-head-requires
 write-head-requires c κs = search needs

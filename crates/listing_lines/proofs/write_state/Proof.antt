@@ -1,14 +1,14 @@
--- `listing_text::write_state` meets its contract. Assumes nothing.
+-- `listing_lines::write_state` meets its contract. Assumes nothing.
 use native.Mathlib.Omega.{arith}
 use borrow.Author.Needs.{needs}
 use mathlib.Core.Path.{_≡_, refl, sym, ap, _∙_}
 use mathlib.Core.List.{[], _∷_}
-use Rattle.listing_text.proofs.LineLaws.{column}
-use Rattle.listing_text.proofs.line.write_state.Statement.{statement}
-use Rattle.listing_text.proofs.line.write_state.Tie as tie
-use Rattle.listing_text.proofs.line.write_state.Reads as reads
-use Rattle.listing_text.proofs.line.write_state.Lts as lts
-use Rattle.listing_text.proofs.line.write_text.Reads as write-text-reads
+use Rattle.listing_lines.proofs.LineLaws.{column}
+use Rattle.listing_lines.proofs.write_state.Statement.{statement}
+use Rattle.listing_lines.proofs.write_state.Tie as tie
+use Rattle.listing_lines.proofs.write_state.Reads as reads
+use Rattle.listing_lines.proofs.write_state.Lts as lts
+use Rattle.listing_lines.proofs.write_text.Reads as write-text-reads
 
 enum-told : tie.Need-enum-told
 enum-told c = search needs
