@@ -1,4 +1,4 @@
--- `finding::locate` meets its contract: 3, then what the search found. Assumes nothing.
+-- `store_entries::locate` meets its contract: 3, then what the search found. Assumes nothing.
 use mathlib.Core.Path.{sym, subst, _∙_}
 use lib.ListN.{take}
 use lib.Seq.{length-take-le}

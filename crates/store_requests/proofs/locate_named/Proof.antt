@@ -1,4 +1,4 @@
--- `requests::locate_named` meets its contract: the record of the identifier that the block names. Assumes nothing.
+-- `store_requests::locate_named` meets its contract: the record of the identifier that the block names. Assumes nothing.
 use native.Mathlib.Omega.{arith}
 use mathlib.Core.Path.{sym, ap, _∙_}
 use mathlib.Core.Option.{Option}

@@ -1,4 +1,4 @@
--- `requests::locate_parts` meets its contract: the parts of the block are the texts. Assumes nothing.
+-- `store_requests::locate_parts` meets its contract: the parts of the block are the texts. Assumes nothing.
 use native.Mathlib.Nat.{add-sub-cancel-left}
 use borrow.Author.Needs.{needs}
 use Rattle.store_requests.proofs.locate_parts.Statement.{statement}

@@ -1,4 +1,4 @@
--- `requests::nowhere` meets its contract: 3, 15. Assumes nothing.
+-- `store_requests::nowhere` meets its contract: 3, 15. Assumes nothing.
 use mathlib.Core.Path.{sym, _∙_}
 use Rattle.dialog_manager.proofs.LookupLaws.{kept}
 use Rattle.store_entries.proofs.LocateLaws.{nowhere-unread, nowhere-read}

@@ -1,4 +1,4 @@
--- `requests::request` meets its contract: 1, 2, 3, 15, then the step on the record in its place. Assumes nothing.
+-- `store_requests::request` meets its contract: 1, 2, 3, 15, then the step on the record in its place. Assumes nothing.
 use mathlib.Core.Path.{_≡_, sym, subst, _∙_}
 use mathlib.Core.Bool.{false}
 use mathlib.Core.Option.{none}

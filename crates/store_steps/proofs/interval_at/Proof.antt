@@ -1,4 +1,4 @@
--- `calls::interval_at` meets its contract: the record's numbers changed in its place. Assumes nothing.
+-- `store_steps::interval_at` meets its contract: the record's numbers changed in its place. Assumes nothing.
 use mathlib.Core.Path.{_≡_, sym, ap, _∙_}
 use lib.ListN.{length, take}
 use Rattle.limits.specs.Limits.{rustLimits}

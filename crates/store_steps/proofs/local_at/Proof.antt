@@ -1,4 +1,4 @@
--- `calls::local_at` meets its contract: the record's numbers changed in its place, and its new local number. Assumes nothing.
+-- `store_steps::local_at` meets its contract: the record's numbers changed in its place, and its new local number. Assumes nothing.
 use Prim.Native.Nat.{ℕ}
 use mathlib.Core.Path.{_≡_, sym, ap, _∙_}
 use mathlib.Core.List.{List}

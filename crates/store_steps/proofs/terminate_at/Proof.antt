@@ -1,4 +1,4 @@
--- `calls::terminate_at` meets its contract: the record's numbers changed in its place. Assumes nothing.
+-- `store_steps::terminate_at` meets its contract: the record's numbers changed in its place. Assumes nothing.
 use mathlib.Core.Path.{sym, ap, _∙_}
 use lib.ListN.{length, take}
 use Rattle.limits.specs.Outcome.{given}
