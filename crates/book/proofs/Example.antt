@@ -8,7 +8,7 @@ use Rattle.text.specs.Text.{span, all, trimmed, alike, split, filled, words}
 use Rattle.msg.specs.Block.{lineAt, linesAfter, linesFrom, firstNamed, blockCause}
 use Rattle.uri.specs.HeaderUri.{inBrackets, cutUri, headerUri}
 use Rattle.uri.specs.SipUri.{hostText, isBracketed, isHostText, portNumber, portOf, withHost, withUser, withScheme, sipUri}
-use Rattle.headers.specs.DialogId.{tagNamed, identifierOf}
+use Rattle.dialog_id.specs.DialogId.{tagNamed, identifierOf}
 use Rattle.headers.specs.Tag.{isTag, firstTag}
 use Rattle.route_set.specs.Routes.{contactOf}
 use Rattle.prack_headers.specs.Sequence.{readIn}

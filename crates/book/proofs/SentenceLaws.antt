@@ -16,7 +16,7 @@ use Rattle.limits.specs.Outcome.{Outcome, refused, given, refuseBy, refuseIf, a
 use Rattle.limits.specs.declared.Refusal.{Refusal}
 use Rattle.limits.specs.declared.Refusal.the-variants.{BadStore, NotFound, TooManyDialogs, TooManyEarlyDialogs, NoRoom}
 use Rattle.text.specs.Text.{equal}
-use Rattle.headers.specs.DialogId.{Identifier, identifierOf, fromName, toName}
+use Rattle.dialog_id.specs.DialogId.{Identifier, identifierOf, fromName, toName}
 use Rattle.distinct.proofs.Sames.{both, equal-same, equal-is}
 use Rattle.record.specs.Codec.{writeAll}
 use Rattle.record.specs.Record.{State, early, confirmed, terminated, Record, image}

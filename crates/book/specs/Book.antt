@@ -15,7 +15,7 @@ use Rattle.limits.specs.declared.Refusal.the-variants.{BadStore, NotFound, TooM
 use Rattle.text.specs.Text.{equal}
 use Rattle.text.specs.Answers.{lengthCause}
 use Rattle.msg.specs.Block.{blockCause}
-use Rattle.headers.specs.DialogId.{Identifier, identifierOf, fromName, toName}
+use Rattle.dialog_id.specs.DialogId.{Identifier, identifierOf, fromName, toName}
 use Rattle.output.specs.Output.{fitted}
 use Rattle.record.specs.Codec.{text}
 use Rattle.record.specs.Record.{State, early, confirmed, terminated, Record, image}

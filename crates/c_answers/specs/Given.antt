@@ -22,8 +22,8 @@ use Rattle.text.specs.declared.Next.{Next}
 use Rattle.text.specs.declared.Next.the-variants as next
 use Rattle.headers.specs.declared.tag.PartAnswer.{PartAnswer}
 use Rattle.headers.specs.declared.tag.PartAnswer.the-variants as partAnswer
-use Rattle.headers.specs.declared.dialog_id.IdAnswer.{IdAnswer}
-use Rattle.headers.specs.declared.dialog_id.IdAnswer.the-variants as idAnswer
+use Rattle.dialog_id.specs.declared.IdAnswer.{IdAnswer}
+use Rattle.dialog_id.specs.declared.IdAnswer.the-variants as idAnswer
 use Rattle.uri.specs.declared.UriAnswer.{UriAnswer}
 use Rattle.uri.specs.declared.UriAnswer.the-variants as uriAnswer
 use Rattle.uri.specs.declared.Estimate.{Estimate}

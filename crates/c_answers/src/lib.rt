@@ -1,6 +1,6 @@
 // Answers handed over to a C caller: the number is returned, and the values go to the lent numbers.
+use dialog_id::IdAnswer;
 use headers::ExpiresAnswer;
-use headers::IdAnswer;
 use headers::PartAnswer;
 use headers::Refresher;
 use limits::Check;

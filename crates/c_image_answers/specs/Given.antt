@@ -18,8 +18,8 @@ use Rattle.dialog.specs.declared.readings.Refresh.{Refresh}
 use Rattle.dialog.specs.declared.readings.Refresh.the-variants as refresh
 use Rattle.dialog.specs.declared.matching.Matches.{Matches}
 use Rattle.dialog.specs.declared.matching.Matches.the-variants as matches
-use Rattle.dialog.specs.declared.updates.Raised.{Raised}
-use Rattle.dialog.specs.declared.updates.Raised.the-variants as raised
+use Rattle.dialog_changes.specs.declared.Raised.{Raised}
+use Rattle.dialog_changes.specs.declared.Raised.the-variants as raised
 use Rattle.c_answers.specs.Given.{Gives, IdNumbers, flag, leastAfter}
 
 -- ---- plain values

@@ -20,8 +20,8 @@ use Rattle.store.specs.Counting.{recordsHeld, countAnswer}
 use Rattle.store.specs.declared.Held.{Held}
 use Rattle.store.specs.declared.Held.the-variants as held
 use Rattle.dialog.specs.Updates.{localUpdate}
-use Rattle.dialog.specs.declared.updates.Raised.{Raised}
-use Rattle.dialog.specs.declared.updates.Raised.the-variants as raised
+use Rattle.dialog_changes.specs.declared.Raised.{Raised}
+use Rattle.dialog_changes.specs.declared.Raised.the-variants as raised
 use Rattle.book.specs.Calls.{Ident, localNumber, Call, update, read, count, allIds, Value, noValue, number, imageAt, Answer}
 use Rattle.book.specs.Calls as calls
 use Rattle.book.specs.Book.{Book, storeRead, size, find, alter, unchanged, Taken, apply, argumentCause, readingCause, revised, judge, reply, identifiersOf}

@@ -16,7 +16,7 @@ use Rattle.text.specs.Answers.{tooLong, lengthCause}
 use Rattle.msg.specs.Block.{valueNamed}
 use Rattle.msg.proofs.LookupLaws.{Placed}
 use Rattle.headers.specs.Tag.{tagOf}
-use Rattle.headers.specs.DialogId.{Identifier, callIdName, fromName, toName, tagIn, tagNamed, identifier, identifierOf}
+use Rattle.dialog_id.specs.DialogId.{Identifier, callIdName, fromName, toName, tagIn, tagNamed, identifier, identifierOf}
 use Rattle.headers.specs.SessionExpires.{expiresNamed}
 use Rattle.headers.proofs.TagLaws.{tag-placed}
 use Rattle.route_set.specs.Routes.{routesOf, inOrder}

@@ -1,7 +1,6 @@
 pub mod CreatedLaws
 pub mod FormedLaws
 pub mod ImageRouteLaws
-pub mod ImageUpdateLaws
 pub mod MatchLaws
 pub mod OneImageLaws
 pub mod PieceLaws

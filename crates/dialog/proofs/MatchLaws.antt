@@ -16,10 +16,10 @@ use Rattle.limits.proofs.Laws.{passed, stopped}
 use Rattle.text.specs.Text.{Piece, equal}
 use Rattle.msg.specs.Block.{blockCause}
 use Rattle.msg.proofs.LookupLaws.{Placed}
-use Rattle.headers.specs.DialogId.{Identifier, identifierOf, fromName, toName, readIdentifier, dialogIdFrom, idAnswer, fromRequest}
-use Rattle.headers.specs.declared.dialog_id.DialogId.{DialogId}
-use Rattle.headers.specs.declared.dialog_id.IdAnswer.the-variants as id
-use Rattle.headers.proofs.IdLaws.{id-clear}
+use Rattle.dialog_id.specs.DialogId.{Identifier, identifierOf, fromName, toName, readIdentifier, dialogIdFrom, idAnswer, fromRequest}
+use Rattle.dialog_id.specs.declared.DialogId.{DialogId}
+use Rattle.dialog_id.specs.declared.IdAnswer.the-variants as id
+use Rattle.dialog_id.proofs.IdLaws.{id-clear}
 use Rattle.record.specs.Codec.{Reading}
 use Rattle.record.specs.Record.{Record, image}
 use Rattle.record.proofs.CodecLaws.{Bytes}

@@ -16,7 +16,7 @@ use Rattle.uri.specs.HeaderUri.{ReadUri, headerUri, pieceOf}
 use Rattle.uri.proofs.Laws.{Found, found}
 use Rattle.route_set.specs.Routes.{contactName, uriIn, contactOf}
 use Rattle.headers.specs.Tag.{tagOf}
-use Rattle.headers.specs.DialogId.{Identifier, callIdName, tagIn, tagNamed, identifier, identifierOf}
+use Rattle.dialog_id.specs.DialogId.{Identifier, callIdName, tagIn, tagNamed, identifier, identifierOf}
 use Rattle.headers.proofs.TagLaws.{tag-placed}
 
 -- the value of a header

@@ -16,7 +16,7 @@ use Rattle.text.specs.Answers.{lengthCause}
 use Rattle.msg.specs.Block.{isBlock}
 use Rattle.msg.specs.Status.{inClass}
 use Rattle.uri.specs.SipUri.{UriParts, sipUri, overEstimate}
-use Rattle.headers.specs.DialogId.{Identifier, identifierOf, fromName, toName}
+use Rattle.dialog_id.specs.DialogId.{Identifier, identifierOf, fromName, toName}
 use Rattle.headers.specs.SessionExpires.{Interval, expiresNamed}
 use Rattle.route_set.specs.Routes.{contactOf, routesOf, inOrder}
 use Rattle.prack_headers.specs.Sequence.{cseqNumber}

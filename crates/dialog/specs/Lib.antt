@@ -1,6 +1,5 @@
 pub mod Creation
 pub mod ImageRoutes
-pub mod ImageUpdates
 pub mod Matching
 pub mod OneImage
 pub mod Updates

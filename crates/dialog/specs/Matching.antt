@@ -10,7 +10,7 @@ use Rattle.limits.specs.Outcome.{Outcome, refused, given, refuseBy, andThen}
 use Rattle.text.specs.Text.{equal}
 use Rattle.text.specs.declared.Span.{Span}
 use Rattle.msg.specs.Block.{blockCause}
-use Rattle.headers.specs.DialogId.{Identifier, identifierOf, fromName, toName}
+use Rattle.dialog_id.specs.DialogId.{Identifier, identifierOf, fromName, toName}
 use Rattle.record.specs.Record.{Record}
 use Rattle.dialog.specs.OneImage.{oneRecord}
 use Rattle.dialog.specs.declared.matching.Matches.{Matches}

@@ -1,8 +1,8 @@
 // Whether a request belongs to a record, given as its image.
 use crate::readings::ImageAnswer;
 use crate::readings::read_image;
-use headers::DialogId;
-use headers::IdAnswer;
+use dialog_id::DialogId;
+use dialog_id::IdAnswer;
 use image::IdsAt;
 use limits::Check;
 use limits::Refusal;

@@ -16,10 +16,10 @@ use Rattle.text.specs.Text.{Piece}
 use Rattle.output.specs.Output.{fitted, leaves, writtenFrom}
 use Rattle.output.specs.declared.Written.the-variants as written
 use Rattle.msg.specs.Status.{inClass}
-use Rattle.headers.specs.DialogId.{Identifier, dialogIdFrom, idFrom, fromName, toName}
+use Rattle.dialog_id.specs.DialogId.{Identifier, dialogIdFrom, idFrom, fromName, toName}
 use Rattle.headers.specs.SessionExpires.{expiresNamed}
-use Rattle.headers.specs.declared.dialog_id.DialogId.{DialogId}
-use Rattle.headers.specs.declared.dialog_id.IdPart.the-variants as part
+use Rattle.dialog_id.specs.declared.DialogId.{DialogId}
+use Rattle.dialog_id.specs.declared.IdPart.the-variants as part
 use Rattle.route_set.specs.Routes.{contactOf, routesOf}
 use Rattle.route_section.specs.Section.{sectionOf, routeTexts, sectionIn}
 use Rattle.route_section.proofs.SectionLaws.{section-size}
@@ -35,10 +35,12 @@ use Rattle.dialog.specs.Updates.{textOr, intervalFrom}
 use Rattle.dialog.proofs.PlacedLaws.{PlacedId, identifier-placed}
 use Rattle.dialog.proofs.ReadLaws.{contact-within}
 use Rattle.dialog_creation.specs.NewImage.{madeImage}
-use Rattle.dialog_creation.specs.Steps.{sideFor, peerOf, identifierFor, checkedOf, firstState, numbersIn, Remainder, remainderBy, remainderOf, remainderIn, partsFor}
-use Rattle.dialog_creation.specs.declared.readings.FirstState.the-variants as first
-use Rattle.dialog_creation.specs.declared.readings.Rest.{Rest}
-use Rattle.dialog_creation.specs.declared.readings.Rest.the-variants as rest
+use Rattle.creation_checks.specs.Given.{checkedOf}
+use Rattle.creation_readings.specs.Steps.{sideFor, peerOf, identifierFor, firstState, numbersIn, Remainder, remainderBy, remainderOf, remainderIn}
+use Rattle.creation_writing.specs.NewParts.{partsFor}
+use Rattle.creation_readings.specs.declared.FirstState.the-variants as first
+use Rattle.creation_readings.specs.declared.Rest.{Rest}
+use Rattle.creation_readings.specs.declared.Rest.the-variants as rest
 
 -- ---- the answer of a refusal
 

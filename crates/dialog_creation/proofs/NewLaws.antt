@@ -15,7 +15,8 @@ use Rattle.record.specs.Record.{Side}
 use Rattle.dialog.specs.Creation.{Creation, textsCause, formCause, uriCause, madeBy, created}
 use Rattle.dialog.proofs.RefusalLaws.{no-causes, no-cause}
 use Rattle.dialog_creation.specs.NewImage.{newImage, madeImage}
-use Rattle.dialog_creation.specs.Steps.{sideFor, creationOf, checkedOf}
+use Rattle.creation_checks.specs.Given.{creationOf, checkedOf}
+use Rattle.creation_readings.specs.Steps.{sideFor}
 
 -- ---- 1, 2, 6
 

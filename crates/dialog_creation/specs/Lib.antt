@@ -1,2 +1,1 @@
 pub mod NewImage
-pub mod Steps

@@ -1,17 +1,17 @@
 // Dialog::new_uac and Dialog::new_uas: a new record's image from a request and its response.
-use crate::checks::check_estimates;
-use crate::checks::check_forms;
-use crate::checks::check_texts;
-use crate::checks::check_uris;
-use crate::readings::FirstState;
-use crate::readings::Rest;
-use crate::readings::identifier;
-use crate::readings::peer_block;
-use crate::readings::read_rest;
-use crate::readings::state_for;
-use crate::readings::target;
-use crate::writing::write_image;
-use headers::IdPart;
+use creation_checks::check_estimates;
+use creation_checks::check_forms;
+use creation_checks::check_texts;
+use creation_checks::check_uris;
+use creation_readings::FirstState;
+use creation_readings::Rest;
+use creation_readings::identifier;
+use creation_readings::peer_block;
+use creation_readings::read_rest;
+use creation_readings::state_for;
+use creation_readings::target;
+use creation_writing::write_image;
+use dialog_id::IdPart;
 use limits::Check;
 use limits::Refusal;
 use output::Written;
@@ -22,11 +22,8 @@ ghost use Rattle.limits.specs.Limits.{rustLimits};
 ghost use Rattle.output.specs.Output.{leaves, writtenFrom};
 ghost use Rattle.record.specs.Record.{uac, uas};
 ghost use Rattle.dialog_creation.specs.NewImage.{newImage, madeImage};
-ghost use Rattle.dialog_creation.specs.Steps.{sideFor, creationOf, checkedOf};
-
-mod checks;
-mod readings;
-mod writing;
+ghost use Rattle.creation_checks.specs.Given.{creationOf, checkedOf};
+ghost use Rattle.creation_readings.specs.Steps.{sideFor};
 
 // The record of a dialog that our request opens, by the response to it, as an image over the front of `out`. The method is measured and no
 // more: 1, 2, 6, 4, 5, 7, 8, 4, 9, 10, 13 with 90, 14, 18.

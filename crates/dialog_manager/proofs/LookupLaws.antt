@@ -24,8 +24,8 @@ use Rattle.image.proofs.AnswerLaws.{record-got}
 use Rattle.store.specs.Counting.{recordsHeld, countAnswer}
 use Rattle.store.specs.declared.Held.the-variants as held
 use Rattle.msg.specs.Block.{blockCause}
-use Rattle.headers.specs.DialogId.{identifierOf, fromName, toName}
-use Rattle.headers.specs.declared.dialog_id.DialogId.{DialogId}
+use Rattle.dialog_id.specs.DialogId.{identifierOf, fromName, toName}
+use Rattle.dialog_id.specs.declared.DialogId.{DialogId}
 use Rattle.dialog.specs.Matching.{partIn}
 use Rattle.dialog.proofs.MatchLaws.{Asked}
 use Rattle.book.specs.Calls.{Ident, ident, Reading, findByCallId, findByRequest, read, Value, imageAt}

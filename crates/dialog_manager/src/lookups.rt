@@ -2,8 +2,8 @@
 use crate::placing::Place;
 use crate::placing::place_of;
 use crate::placing::place_of_request;
-use headers::DialogId;
-use headers::IdAnswer;
+use dialog_id::DialogId;
+use dialog_id::IdAnswer;
 use limits::Check;
 use limits::Refusal;
 use store::Held;

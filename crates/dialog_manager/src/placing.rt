@@ -1,7 +1,7 @@
 // The place of a record in the used bytes of a store that was read.
 use crate::finding::Found;
 use crate::finding::search;
-use headers::DialogId;
+use dialog_id::DialogId;
 use limits::Refusal;
 ghost use mathlib.Core.Path.{_≡_};
 ghost use mathlib.Core.Bool.{true};

@@ -1,15 +1,19 @@
--- The Contact's URI lies in the block where the look-up says. Assumes nothing.
+-- The Contact's URI lies in the block where the look-up says; where there is none, the target is kept. Assumes nothing.
 use Prim.Native.Nat.{ℕ, _+_, _-_, _≤_}
 use native.Mathlib.Omega.{arith}
 use mathlib.Core.Path.{_≡_, refl, sym, ap, subst, _∙_}
 use mathlib.Core.List.{List}
 use mathlib.Core.Option.{Option, none, some}
 use lib.ListN.{length, take, drop}
+use Rattle.limits.specs.Outcome.{Outcome, refused, given}
 use Rattle.text.specs.Text.{Piece}
 use Rattle.text.specs.Answers.{spanOf}
 use Rattle.text.specs.declared.Span.{Span}
 use Rattle.route_set.specs.Routes.{contactOf, contactFrom}
 use Rattle.route_set.specs.declared.routes.Contact.the-variants as contact
+use Rattle.routes_edit.specs.Rerouted.{renewedBy}
+use Rattle.record.specs.Changes.{withNumbers, withTarget}
+use Rattle.record.specs.Record.{Numbers, Record}
 use Rattle.dialog.specs.Updates.{textOr}
 use Rattle.dialog.proofs.PlacedLaws.{contact-placed}
 
@@ -38,3 +42,8 @@ contact-target block old c e = by (contactOf block) refl e
         let s : spanOf p ≡ c = cc in
         let n : p .place + length (p .text) - p .place ≡ length (p .text) = omega arith in
         subst (λ (x : Span). p .text ≡ take (x .start + x .length - x .start) (drop (x .start) block)) s (sym (contact-placed block p q .there) ∙ ap (λ (m : ℕ). take m (drop (p .place) block)) (sym n))
+
+-- the target kept: by the routes that were read, since the record is then one with them
+pub target-kept : (x : Numbers) (o : Outcome (List Piece)) (v : Record) {t : List ℕ} → t ≡ renewedBy x o v .target → withTarget t (renewedBy x o v) ≡ renewedBy x o v
+target-kept x (refused cause) v e = ap (λ (u : List ℕ). withTarget u (withNumbers x v)) e
+target-kept x (given ps) v e = ap (λ (u : List ℕ). withTarget u (renewedBy x (given ps) v)) e

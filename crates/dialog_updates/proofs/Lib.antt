@@ -1,4 +1,3 @@
+pub mod BlockLaws
 pub mod ContactLaws
 pub mod PlaceLaws
-pub mod RequestLaws
-pub mod ResponseLaws

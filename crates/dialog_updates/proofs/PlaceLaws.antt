@@ -17,8 +17,8 @@ use Rattle.record.proofs.NumberLaws.{meaning-same}
 use Rattle.image.specs.declared.RecordAt.{RecordAt}
 use Rattle.image_edit.specs.Changes.{changed}
 use Rattle.image_edit.proofs.ImageCuts.{Held, held-used, changed-held}
-use Rattle.dialog.specs.ImageUpdates.{imageAfter}
-use Rattle.dialog.proofs.ImageUpdateLaws.{One, changed-one}
+use Rattle.dialog_changes.specs.ImageUpdates.{imageAfter}
+use Rattle.dialog_changes.proofs.ImageUpdateLaws.{One, changed-one}
 use Rattle.dialog_updates.specs.AtPlace.{steppedBy, stepped}
 
 -- ---- at a place

@@ -7,7 +7,7 @@ use Rattle.limits.specs.Outcome.{Outcome, given, orElse, refuseBy}
 use Rattle.text.specs.Answers.{lengthCause}
 use Rattle.msg.specs.Block.{blockCause}
 use Rattle.dialog.specs.Updates.{kindOf, requestUpdate, responseUpdate}
-use Rattle.dialog.specs.ImageUpdates.{imageAfter}
+use Rattle.dialog_changes.specs.ImageUpdates.{imageAfter}
 
 -- 1 (method, block), 2, 3, 4, 9; ACK: 11; others: 10, 11, 12; 18
 unfoldable pub requested : LimitSet → List ℕ → List ℕ → List ℕ → ℕ → Outcome (List ℕ)

@@ -1,9 +1,6 @@
-// Requests and responses on a record, given as its image in lent bytes: the image is changed in its place.
-mod requests;
-mod responses;
+// What requests and responses on a record have in common, given as its image in lent bytes or at a place of a store: what they answer and leave, as
+// definitions with their laws (specs/ and proofs/), and the change in its place. The calls are in `dialog_requests` and `dialog_responses`.
 mod revision;
 
-pub use requests::request_at;
-pub use requests::update_from_request;
-pub use responses::response_at;
-pub use responses::update_from_response;
+pub use revision::renew;
+pub use revision::revise;

@@ -2,10 +2,10 @@
 use image::RecordAt;
 use output::Written;
 use record::Numbers;
-use record_edit::revise_all;
 use record_edit::revise_numbers;
-use record_edit::revise_numbers_and_routes;
 use record_edit::revise_numbers_and_target;
+use record_renewal::revise_all;
+use record_renewal::revise_numbers_and_routes;
 use route_set::Contact;
 ghost use mathlib.Core.Path.{_≡_};
 ghost use Prim.Native.Nat.{_≤_, _<_};

@@ -1,3 +1,2 @@
 pub mod ExpiresLaws
-pub mod IdLaws
 pub mod TagLaws

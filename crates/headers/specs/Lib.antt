@@ -1,3 +1,2 @@
-pub mod DialogId
 pub mod SessionExpires
 pub mod Tag

@@ -1,12 +1,7 @@
-// Readings of header values: tags and identifiers, Session-Expires.
-mod dialog_id;
+// Readings of header values: tags, Session-Expires.
 mod session_timer;
 mod tag;
 
-pub use dialog_id::DialogId;
-pub use dialog_id::IdAnswer;
-pub use dialog_id::IdPart;
-pub use dialog_id::read_id;
 pub use session_timer::Expires;
 pub use session_timer::ExpiresAnswer;
 pub use session_timer::Refresher;

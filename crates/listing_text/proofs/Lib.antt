@@ -1,4 +1,3 @@
-pub mod LineLaws
 pub mod ListLaws
 pub mod StoreLaws
 pub mod RoomLaws

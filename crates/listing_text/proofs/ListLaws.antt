@@ -17,8 +17,8 @@ use Rattle.image.specs.Places.{recordFrom, recordPlaces}
 use Rattle.image.specs.declared.RecordAt.{RecordAt}
 use Rattle.image.specs.declared.RecordReading.the-variants.{Whole, Broken}
 use Rattle.image.proofs.AnswerLaws.{RecordGot, record-got, record-not}
-use Rattle.listing_text.specs.Listing.{columns, columnsOf, lineOf, linesFrom}
-use Rattle.listing_text.specs.Steps.{recordsOf, listed, listedLines}
+use Rattle.listing_lines.specs.Listing.{columns, columnsOf, lineOf, linesFrom}
+use Rattle.listing_lines.specs.Steps.{recordsOf, listed, listedLines}
 
 -- ---- the line of a record
 

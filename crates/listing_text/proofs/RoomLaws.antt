@@ -15,7 +15,7 @@ use Rattle.output.specs.Output.{fitted, writtenFrom}
 use Rattle.output.specs.declared.Written.the-variants.{Length}
 use Rattle.record.specs.Record.{Record}
 use Rattle.record.specs.Store.{decodeAll}
-use Rattle.listing_text.specs.Listing.{listing, listingOf}
+use Rattle.listing_lines.specs.Listing.{listing, listingOf}
 
 -- by what each of the three causes comes to
 by-room : (room n : ℕ) (s : List ℕ) (b : Bool) → ltb room (length s) ≡ b → writtenFrom (refuseBy (causeIf b NoRoom) (given s)) ≡ Length n → n ≤ room

@@ -15,8 +15,8 @@ use Rattle.record.specs.Record.{Record, isGiven}
 use Rattle.record.specs.Store.{distinct, recordsIn, onlyDistinct, decodeAll}
 use Rattle.store.specs.Reading.{storeFrom}
 use Rattle.store.specs.declared.StoreReading.the-variants.{Records, Broken}
-use Rattle.listing_text.specs.Listing.{linesFrom, totalLine, listingOf, listing}
-use Rattle.listing_text.specs.Steps.{recordsOf, listed, listedLines}
+use Rattle.listing_lines.specs.Listing.{linesFrom, totalLine, listingOf, listing}
+use Rattle.listing_lines.specs.Steps.{recordsOf, listed, listedLines}
 
 -- ---- what the reading of the store answered
 

@@ -3,8 +3,8 @@ use edit::put;
 use image::RecordReading;
 use limits::Limits;
 use limits::Refusal;
-use line::write_line;
-use line::write_words;
+use listing_lines::write_line;
+use listing_lines::write_words;
 use output::Written;
 use store::StoreReading;
 ghost use mathlib.Core.Path.{_≡_};
@@ -16,10 +16,8 @@ ghost use Rattle.limits.specs.Limits.{rustLimits};
 ghost use Rattle.output.specs.Output.{leaves, writtenFrom};
 ghost use Rattle.record.specs.Record.{isGiven};
 ghost use Rattle.record.specs.Store.{recordsIn};
-ghost use Rattle.listing_text.specs.Listing.{listing, refusedLine};
-ghost use Rattle.listing_text.specs.Steps.{listedLines};
-
-mod line;
+ghost use Rattle.listing_lines.specs.Listing.{listing, refusedLine};
+ghost use Rattle.listing_lines.specs.Steps.{listedLines};
 
 // Positions are counted from here.
 const FIRST_POSITION: usize = 1;

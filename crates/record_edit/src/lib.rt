@@ -1,7 +1,5 @@
-// A record's numbers, with or without its target and its routes, changed in its place in lent bytes: 18 where the result is larger than they are.
+// A record's numbers, with or without its target, changed in its place in lent bytes: 18 where the result is larger than they are.
 // The caller has read the record.
-use crate::gaps::open_gaps;
-use crate::head::write_head;
 use image::RecordAt;
 use image_edit::change_numbers;
 use image_writer::numbers_size;
@@ -9,6 +7,8 @@ use image_writer::write_numbers;
 use limits::Refusal;
 use output::Written;
 use record::Numbers;
+use record_gaps::open_gaps;
+use record_gaps::write_head;
 ghost use mathlib.Core.Path.{_≡_};
 ghost use Prim.Native.Nat.{_≤_, _<_};
 ghost use lib.ListN.{length, take};
@@ -19,14 +19,7 @@ ghost use Rattle.record.specs.NumbersForm.{meaning};
 ghost use Rattle.image.specs.Places.{recordFrom};
 ghost use Rattle.image.specs.declared.RecordReading.the-variants.{Whole};
 ghost use Rattle.image_edit.specs.Changes.{readAt, changed};
-ghost use Rattle.record_edit.specs.Revised.{revised};
-
-mod gaps;
-mod head;
-mod routes;
-
-pub use routes::revise_all;
-pub use routes::revise_numbers_and_routes;
+ghost use Rattle.record_gaps.specs.Revised.{revised};
 
 // Other numbers for the record whose image begins at a place of the used bytes: 18. Answers the new used length.
 pub fn revise_numbers(

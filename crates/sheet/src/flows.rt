@@ -1,5 +1,5 @@
 // Whole messages of the RFCs' call flows: the identifier, CSeq, Contact and Session-Expires of each.
-use headers::DialogId;
+use dialog_id::DialogId;
 use sheet_lines::ask;
 use sheet_lines::end_line;
 use sheet_lines::show;

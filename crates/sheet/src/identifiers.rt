@@ -1,5 +1,5 @@
 // A dialog's identifier from given parts.
-use headers::DialogId;
+use dialog_id::DialogId;
 use sheet_lines::ask;
 use sheet_lines::ask_size;
 use sheet_lines::end_line;

@@ -2,8 +2,8 @@
 use crate::records::show_cause;
 use crate::records::show_record;
 use dialog::Matches;
-use dialog::Raised;
 use dialog::Refresh;
+use dialog_changes::Raised;
 use output::Written;
 use sheet_lines::ask;
 use sheet_lines::ask_block;
@@ -82,14 +82,14 @@ fn created(w: Written, bytes: &[u8]) -> usize {
 // A request, whose block is shown.
 pub fn request(place: &[u8], method: &[u8], block: &[u8], bytes: &mut [u8], used: usize) -> usize {
     ask_block(place, method, block);
-    let w = dialog_updates::update_from_request(method, block, bytes, used);
+    let w = dialog_requests::update_from_request(method, block, bytes, used);
     updated(w, bytes, used)
 }
 
 // The same of a whole message, whose block is not shown.
 pub fn message(place: &[u8], method: &[u8], block: &[u8], bytes: &mut [u8], used: usize) -> usize {
     ask(place, method, b"");
-    let w = dialog_updates::update_from_request(method, block, bytes, used);
+    let w = dialog_requests::update_from_request(method, block, bytes, used);
     updated(w, bytes, used)
 }
 
@@ -101,32 +101,32 @@ pub fn response(place: &[u8], status: u16, block: &[u8], bytes: &mut [u8], used:
     show(b" of {");
     show_block(block);
     show(b"}: ");
-    let w = dialog_updates::update_from_response(status, block, bytes, used);
+    let w = dialog_responses::update_from_response(status, block, bytes, used);
     updated(w, bytes, used)
 }
 
 // The same of a whole message, whose block is not shown.
 pub fn answer(place: &[u8], status: u16, block: &[u8], bytes: &mut [u8], used: usize) -> usize {
     ask_number(place, b"", status as u64);
-    let w = dialog_updates::update_from_response(status, block, bytes, used);
+    let w = dialog_responses::update_from_response(status, block, bytes, used);
     updated(w, bytes, used)
 }
 
 pub fn confirm(place: &[u8], bytes: &mut [u8], used: usize) -> usize {
     ask(place, b"confirm", b"");
-    let w = dialog::confirm(bytes, used);
+    let w = dialog_changes::confirm(bytes, used);
     updated(w, bytes, used)
 }
 
 pub fn terminate(place: &[u8], bytes: &mut [u8], used: usize) -> usize {
     ask(place, b"terminate", b"");
-    let w = dialog::terminate(bytes, used);
+    let w = dialog_changes::terminate(bytes, used);
     updated(w, bytes, used)
 }
 
 pub fn interval(place: &[u8], seconds: u64, bytes: &mut [u8], used: usize) -> usize {
     ask_number(place, b"set_session_expires ", seconds);
-    let w = dialog::set_session_expires(bytes, used, seconds);
+    let w = dialog_changes::set_session_expires(bytes, used, seconds);
     updated(w, bytes, used)
 }
 
@@ -151,7 +151,7 @@ fn updated(w: Written, bytes: &[u8], used: usize) -> usize {
 
 pub fn next_local(place: &[u8], bytes: &mut [u8], used: usize) -> usize {
     ask(place, b"next_local_cseq", b"");
-    match dialog::next_local_cseq(bytes, used) {
+    match dialog_changes::next_local_cseq(bytes, used) {
         Raised::To(number, n) => {
             show_decimal(number as u64);
             show(b"; ");

@@ -1,8 +1,8 @@
 // How a line of the sheets is written: where the example stands, what is asked, and each kind of answer.
 mod parts;
 
+use dialog_id::IdAnswer;
 use headers::ExpiresAnswer;
-use headers::IdAnswer;
 use headers::PartAnswer;
 use headers::Refresher;
 use limits::Check;

@@ -2,12 +2,12 @@
 use c_answers::check_number;
 use c_answers::give_id;
 use c_answers::give_part;
-use headers::DialogId;
+use dialog_id::DialogId;
 ghost use mathlib.Core.Path.{_≡_};
 ghost use Rattle.limits.specs.Limits.{rustLimits};
 ghost use Rattle.limits.specs.Outcome.{checkOf};
 ghost use Rattle.headers.specs.Tag.{partAnswer, extractTag};
-ghost use Rattle.headers.specs.DialogId.{identifierCause, idAnswer, fromRequest, fromResponseUac, fromResponseUas};
+ghost use Rattle.dialog_id.specs.DialogId.{identifierCause, idAnswer, fromRequest, fromResponseUac, fromResponseUas};
 ghost use Rattle.c_answers.specs.Given.{PartGives, IdGives, checkNumber};
 
 // The tag of a From or To value: 1, 2, 4.

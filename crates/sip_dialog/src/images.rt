@@ -17,7 +17,7 @@ ghost use Rattle.output.specs.Output.{writtenFrom, leaves};
 ghost use Rattle.dialog.specs.OneImage.{oneRecord, imageAnswer, refreshOf, refreshAnswer};
 ghost use Rattle.dialog.specs.ImageRoutes.{imageRoute};
 ghost use Rattle.dialog.specs.Matching.{matchesRequest, matchesAnswer};
-ghost use Rattle.dialog.specs.ImageUpdates.{confirmed, terminated, localRaised, raisedRecord, raisedAnswer, intervalSet};
+ghost use Rattle.dialog_changes.specs.ImageUpdates.{confirmed, terminated, localRaised, raisedRecord, raisedAnswer, intervalSet};
 ghost use Rattle.dialog_updates.specs.Messages.{requested, responded};
 ghost use Rattle.c_answers.specs.Given.{LookupGives, WrittenGives};
 ghost use Rattle.c_image_answers.specs.Given.{ImageIdGives, StateGives, UrisGives, NumbersGives, RouteCountGives, MatchesGives, RefreshGives, RaisedGives, SetGives};
@@ -163,7 +163,7 @@ pub extern "C" fn sip_dialog_image_update_from_request(
     ensures { λ _. ⌜ now (image .exit) ≡ leaves (requested rustLimits (now (method .entry)) (now (block .entry)) (now (image .entry)) (now (used .entry))) (now (image .entry)) ⌝ }
 {
     give_written(
-        dialog_updates::update_from_request(method, block, image, *used),
+        dialog_requests::update_from_request(method, block, image, *used),
         used,
     )
 }
@@ -180,7 +180,7 @@ pub extern "C" fn sip_dialog_image_update_from_response(
     ensures { λ _. ⌜ now (image .exit) ≡ leaves (responded rustLimits status (now (block .entry)) (now (image .entry)) (now (used .entry))) (now (image .entry)) ⌝ }
 {
     give_written(
-        dialog_updates::update_from_response(status, block, image, *used),
+        dialog_responses::update_from_response(status, block, image, *used),
         used,
     )
 }
@@ -191,7 +191,7 @@ pub extern "C" fn sip_dialog_image_confirm(image: &mut [u8], used: &mut usize) -
     ensures { λ r. ⌜ WrittenGives (writtenFrom (confirmed (now (image .entry)) (now (used .entry)))) (now (used .entry)) r (now (used .exit)) ⌝ }
     ensures { λ _. ⌜ now (image .exit) ≡ leaves (confirmed (now (image .entry)) (now (used .entry))) (now (image .entry)) ⌝ }
 {
-    give_written(dialog::confirm(image, *used), used)
+    give_written(dialog_changes::confirm(image, *used), used)
 }
 
 // Every state becomes Terminated: 3.
@@ -200,7 +200,7 @@ pub extern "C" fn sip_dialog_image_terminate(image: &mut [u8], used: &mut usize)
     ensures { λ r. ⌜ WrittenGives (writtenFrom (terminated (now (image .entry)) (now (used .entry)))) (now (used .entry)) r (now (used .exit)) ⌝ }
     ensures { λ _. ⌜ now (image .exit) ≡ leaves (terminated (now (image .entry)) (now (used .entry))) (now (image .entry)) ⌝ }
 {
-    give_written(dialog::terminate(image, *used), used)
+    give_written(dialog_changes::terminate(image, *used), used)
 }
 
 // The next local number, kept in the image: 3, 18.
@@ -213,7 +213,7 @@ pub extern "C" fn sip_dialog_image_next_local_cseq(
     ensures { λ r. ⌜ RaisedGives (raisedAnswer (raisedRecord (now (image .entry)) (now (used .entry)))) (record { used = now (used .entry); number = now (number .entry) }) r (record { used = now (used .exit); number = now (number .exit) }) ⌝ }
     ensures { λ _. ⌜ now (image .exit) ≡ leaves (localRaised (now (image .entry)) (now (used .entry))) (now (image .entry)) ⌝ }
 {
-    give_raised(dialog::next_local_cseq(image, *used), used, number)
+    give_raised(dialog_changes::next_local_cseq(image, *used), used, number)
 }
 
 // A new session interval in seconds: 3, 13 with the least, 14, 18.
@@ -228,7 +228,7 @@ pub extern "C" fn sip_dialog_image_set_session_expires(
     ensures { λ _. ⌜ now (image .exit) ≡ leaves (intervalSet rustLimits seconds (now (image .entry)) (now (used .entry))) (now (image .entry)) ⌝ }
 {
     give_set(
-        dialog::set_session_expires(image, *used, seconds),
+        dialog_changes::set_session_expires(image, *used, seconds),
         used,
         least,
     )

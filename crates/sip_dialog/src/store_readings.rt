@@ -6,7 +6,7 @@ ghost use mathlib.Core.Path.{_≡_};
 ghost use lib.ListN.{length};
 ghost use Rattle.limits.specs.Limits.{rustLimits};
 ghost use Rattle.output.specs.Output.{writtenFrom, leaves};
-ghost use Rattle.listing_text.specs.Listing.{listing};
+ghost use Rattle.listing_lines.specs.Listing.{listing};
 ghost use Rattle.book.specs.Calls.{ident, read, get, findByRequest, findByCallId, allIds};
 ghost use Rattle.book.specs.Store.{outputAfter};
 ghost use Rattle.book.specs.Returned.{Returns, numberAfter, placeAfter, lengthAfter};

@@ -35,7 +35,7 @@ pub extern "C" fn sip_dialog_request(
 ) -> u8
     ensures { λ r. ⌜ Returns (leftBy (λ n. update n (request (now (method .entry)) (now (block .entry)))) (now (store .entry)) (now (used .entry))) (now (store .exit)) (now (used .exit)) r ⌝ }
 {
-    give_written(store_updates::request(method, block, store, *used), used)
+    give_written(store_requests::request(method, block, store, *used), used)
 }
 
 // Dialog::update_from_response of the record of an identifier: 1, 2, 3, 15, 18.

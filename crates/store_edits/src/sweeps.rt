@@ -17,7 +17,7 @@ ghost use Rattle.book.specs.Returned.{writtenIn};
 ghost use Rattle.dialog_manager.specs.Search.{Stored};
 ghost use Rattle.store_edits.specs.Edits.{sweeping, livingIn};
 
-// DialogManager::sweep: 3. The records that stay keep their order.
+// DialogManager::cleanup_terminated: 3. The records that stay keep their order.
 pub fn sweep(bytes: &mut [u8], used: usize) -> Written
     ensures { λ r. ⌜ r ≡ writtenIn (run rustLimits (sweeping (length (now (bytes .entry)))) (now (bytes .entry)) used) ⌝ }
     ensures { λ _. ⌜ now (bytes .exit) ≡ run rustLimits (sweeping (length (now (bytes .entry)))) (now (bytes .entry)) used .bytes ⌝ }

@@ -21,20 +21,16 @@ use Rattle.record.proofs.CodecLaws.{Bytes}
 use Rattle.record.proofs.NumberLaws.{meaning-same}
 use Rattle.image.specs.declared.RecordAt.{RecordAt}
 use Rattle.dialog.specs.Updates.{responseUpdate, terminateUpdate, localUpdate, intervalUpdate}
-use Rattle.dialog.specs.declared.updates.Raised.{Raised}
-use Rattle.dialog.specs.declared.updates.Raised.the-variants as raised
+use Rattle.dialog_changes.specs.declared.Raised.{Raised}
+use Rattle.dialog_changes.specs.declared.Raised.the-variants as raised
 use Rattle.dialog_updates.specs.AtPlace.{stepped}
 use Rattle.book.specs.Calls.{Ident, response, terminate, localNumber, interval, number, Answer}
 use Rattle.book.specs.Book.{identCause, updateCause, revised}
 use Rattle.book.specs.Store.{Left}
-use Rattle.book.specs.History.{Permitted}
 use Rattle.book.specs.Returned.{writtenBy, raisedBy, raisedIn}
-use Rattle.store_updates.specs.Entries.{updating, usedRaised, spotIn, standingOf, raisedWith}
-use Rattle.store_updates.specs.declared.finding.Standing.the-variants as standing
-use Rattle.store_updates.proofs.EntryLaws.{Done, leftBy, arguments-done, turned, step-left, step-done, not-standing}
-
-pub permitted : Permitted rustLimits
-permitted = record { text = omega arith; routes = omega arith; seconds = omega arith }
+use Rattle.store_entries.specs.Entries.{updating, usedRaised, spotIn, standingOf, raisedWith}
+use Rattle.store_entries.specs.declared.Standing.the-variants as standing
+use Rattle.store_entries.proofs.EntryLaws.{permitted, Done, leftBy, arguments-done, turned, step-left, step-done, not-standing}
 
 module _ (i : Ident) (bytes : List ℕ) (used : ℕ) where
   abbrev pub Ended : Written → List ℕ → Type 0

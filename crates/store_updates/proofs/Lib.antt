@@ -1,5 +1,2 @@
 pub mod CallLaws
-pub mod EntryLaws
-pub mod LocateLaws
-pub mod RequestLaws
 pub mod SizeLaws

@@ -10,16 +10,17 @@ use Rattle.limits.specs.Outcome.{Outcome, orElse}
 use Rattle.limits.proofs.Laws.{passed, stopped}
 use Rattle.output.specs.Output.{leaves, writtenFrom}
 use Rattle.dialog.specs.Creation.{Creation, textsCause, formCause, uriCause}
-use Rattle.dialog_creation.specs.Steps.{sideFor, creationOf}
+use Rattle.creation_checks.specs.Given.{creationOf}
+use Rattle.creation_readings.specs.Steps.{sideFor}
 use Rattle.dialog_creation.proofs.MadeLaws.{refusal}
 use Rattle.dialog_creation.proofs.NewLaws.{texts-refused, forms-refused, uris-refused, texts-short, checks-passed}
 use Rattle.dialog_creation.proofs.create.Statement.{statement}
 use Rattle.dialog_creation.proofs.create.Tie as tie
 use Rattle.dialog_creation.proofs.create.Reads as reads
 use Rattle.dialog_creation.proofs.create.Lts as lts
-use Rattle.dialog_creation.proofs.checks.check_forms.Reads as check-forms-reads
-use Rattle.dialog_creation.proofs.checks.check_texts.Reads as check-texts-reads
-use Rattle.dialog_creation.proofs.checks.check_uris.Reads as check-uris-reads
+use Rattle.creation_checks.proofs.check_forms.Reads as check-forms-reads
+use Rattle.creation_checks.proofs.check_texts.Reads as check-texts-reads
+use Rattle.creation_checks.proofs.check_uris.Reads as check-uris-reads
 use Rattle.dialog_creation.proofs.make.Reads as make-reads
 
 -- what was given, and the causes that were passed

@@ -11,13 +11,13 @@ use Rattle.dialog_creation.proofs.make.Statement.{statement}
 use Rattle.dialog_creation.proofs.make.Tie as tie
 use Rattle.dialog_creation.proofs.make.Reads as reads
 use Rattle.dialog_creation.proofs.make.Lts as lts
-use Rattle.dialog_creation.proofs.checks.check_estimates.Reads as check-estimates-reads
-use Rattle.dialog_creation.proofs.readings.identifier.Reads as identifier-reads
-use Rattle.dialog_creation.proofs.readings.peer_block.Reads as peer-block-reads
-use Rattle.dialog_creation.proofs.readings.read_rest.Reads as read-rest-reads
-use Rattle.dialog_creation.proofs.readings.state_for.Reads as state-for-reads
-use Rattle.dialog_creation.proofs.readings.target.Reads as target-reads
-use Rattle.dialog_creation.proofs.writing.write_image.Reads as write-image-reads
+use Rattle.creation_checks.proofs.check_estimates.Reads as check-estimates-reads
+use Rattle.creation_readings.proofs.identifier.Reads as identifier-reads
+use Rattle.creation_readings.proofs.peer_block.Reads as peer-block-reads
+use Rattle.creation_readings.proofs.read_rest.Reads as read-rest-reads
+use Rattle.creation_readings.proofs.state_for.Reads as state-for-reads
+use Rattle.creation_readings.proofs.target.Reads as target-reads
+use Rattle.creation_writing.proofs.write_image.Reads as write-image-reads
 
 -- the identifier that was read
 id-named : (c : tie.After-known-told) → Named (c .before .before .before .before .before .before .before .before .before .args .we-are-uac) (c .before .before .before .before .before .before .before .before .before .args .response .now) (c .before .id .given .0 .0)

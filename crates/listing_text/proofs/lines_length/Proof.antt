@@ -5,7 +5,7 @@ use mathlib.Core.Path.{_≡_, refl, sym, ap, subst, _∙_}
 use mathlib.Core.List.{List, [], _++_}
 use Prim.Native.Nat.{ℕ, _+_, _*_, _-_, _≤_, _<_}
 use lib.ListN.{length, drop}
-use Rattle.listing_text.specs.Listing.{columnsOf, lineOf}
+use Rattle.listing_lines.specs.Listing.{columnsOf, lineOf}
 use Rattle.image.specs.declared.RecordReading.the-variants.{Whole}
 use Rattle.image.specs.declared.RecordAt.{RecordAt}
 use Rattle.image.specs.Places.{recordFrom}
@@ -17,7 +17,7 @@ use Rattle.listing_text.proofs.lines_length.Tie as tie
 use Rattle.listing_text.proofs.lines_length.Reads as reads
 use Rattle.listing_text.proofs.lines_length.Lts as lts
 use Rattle.image.proofs.read_record.Reads as read-record-reads
-use Rattle.listing_text.proofs.line.write_line.Reads as write-line-reads
+use Rattle.listing_lines.proofs.write_line.Reads as write-line-reads
 
 abbrev Inv-loop : tie.InvT-loop
 Inv-loop bytes text₀ at₀ position₀ size₀ text at position size = (192 ≡ length text) × ((t : List ℕ) × Left bytes at position size t)

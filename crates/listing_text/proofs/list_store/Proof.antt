@@ -7,8 +7,8 @@ use Prim.Native.Nat.{ℕ, _+_, _≤_}
 use lib.ListN.{length, take, length-append}
 use lib.Seq.{take-at}
 use Rattle.listing_text.proofs.StoreLaws.{Decoded, decoded, broken-none, whole-given, listing-parts, too-long, bad-store, no-room, listed-all}
-use Rattle.listing_text.specs.Steps.{listedLines}
-use Rattle.listing_text.specs.Listing.{totalLine, listingOf}
+use Rattle.listing_lines.specs.Steps.{listedLines}
+use Rattle.listing_lines.specs.Listing.{totalLine, listingOf}
 use Rattle.output.proofs.OutputLaws.{put-next, kept, wrote}
 use Rattle.limits.specs.Limits.{rustLimits}
 use Rattle.edit.specs.Edit.{over, putAt}
@@ -17,7 +17,7 @@ use Rattle.listing_text.proofs.list_store.Tie as tie
 use Rattle.listing_text.proofs.list_store.Reads as reads
 use Rattle.listing_text.proofs.list_store.Lts as lts
 use Rattle.edit.proofs.put.Reads as put-reads
-use Rattle.listing_text.proofs.line.write_words.Reads as write-words-reads
+use Rattle.listing_lines.proofs.write_words.Reads as write-words-reads
 use Rattle.listing_text.proofs.lines_length.Reads as lines-length-reads
 use Rattle.listing_text.proofs.write_lines.Reads as write-lines-reads
 use Rattle.store.proofs.read_store.Reads as read-store-reads

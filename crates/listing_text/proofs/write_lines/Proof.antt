@@ -6,7 +6,7 @@ use mathlib.Core.List.{List, [], _++_}
 use Prim.Native.Nat.{ℕ, _+_, _*_, _-_, _≤_, _<_}
 use lib.ListN.{length, take, drop}
 use lib.Seq.{take-at}
-use Rattle.listing_text.specs.Listing.{columnsOf, lineOf}
+use Rattle.listing_lines.specs.Listing.{columnsOf, lineOf}
 use Rattle.image.specs.declared.RecordReading.the-variants.{Whole}
 use Rattle.image.specs.declared.RecordAt.{RecordAt}
 use Rattle.image.specs.Places.{recordFrom}
@@ -21,7 +21,7 @@ use Rattle.listing_text.proofs.write_lines.Reads as reads
 use Rattle.listing_text.proofs.write_lines.Lts as lts
 use Rattle.edit.proofs.put.Reads as put-reads
 use Rattle.image.proofs.read_record.Reads as read-record-reads
-use Rattle.listing_text.proofs.line.write_line.Reads as write-line-reads
+use Rattle.listing_lines.proofs.write_line.Reads as write-line-reads
 
 abbrev Inv-loop : tie.InvT-loop
 Inv-loop bytes out₀ text₀ at₀ position₀ end₀ out text at position end = (192 ≡ length text) × ((t : List ℕ) × (Left bytes at position end t × ((out ≡ over t out₀) × (length out ≡ length out₀))))

@@ -8,7 +8,7 @@ use Rattle.listing_text.proofs.write_refused.Tie as tie
 use Rattle.listing_text.proofs.write_refused.Reads as reads
 use Rattle.listing_text.proofs.write_refused.Lts as lts
 use Rattle.limits.proofs.Refusal.number.Reads as number-reads
-use Rattle.listing_text.proofs.line.write_words.Reads as write-words-reads
+use Rattle.listing_lines.proofs.write_words.Reads as write-words-reads
 
 slice-aggregate-write-words : tie.Need-slice-aggregate-write-words
 slice-aggregate-write-words c = search needs

@@ -12,8 +12,8 @@ use Rattle.image_edit.specs.Maps.{mapFrom}
 use Rattle.image_writer.specs.Parts.{numbersBytes}
 use Rattle.image_edit.proofs.ImageCuts.{Held, held-used}
 use Rattle.image_edit.specs.Changes.{changed}
-use Rattle.record_edit.specs.Revised.{revised}
-use Rattle.record_edit.proofs.RevisedLaws.{both-within, both-size, both-edit}
+use Rattle.record_gaps.specs.Revised.{revised}
+use Rattle.record_gaps.proofs.RevisedLaws.{both-within, both-size, both-edit}
 use native.Mathlib.Omega.{arith}
 use borrow.Author.Needs.{needs}
 use Rattle.record_edit.proofs.change_numbers_and_target.Statement.{statement}
@@ -22,8 +22,8 @@ use Rattle.record_edit.proofs.change_numbers_and_target.Reads as reads
 use Rattle.record_edit.proofs.change_numbers_and_target.Lts as lts
 use Rattle.image_writer.proofs.numbers_size.Reads as numbers-size-reads
 use Rattle.image_writer.proofs.write_numbers.Reads as write-numbers-reads
-use Rattle.record_edit.proofs.gaps.open_gaps.Reads as open-gaps-reads
-use Rattle.record_edit.proofs.head.write_head.Reads as write-head-reads
+use Rattle.record_gaps.proofs.open_gaps.Reads as open-gaps-reads
+use Rattle.record_gaps.proofs.write_head.Reads as write-head-reads
 
 -- the record among the used bytes
 stood : (c : tie.After-slice-known) → Held (take (c .before .args .used) (c .before .args .bytes .now)) (c .before .args .at) (c .before .args .r)

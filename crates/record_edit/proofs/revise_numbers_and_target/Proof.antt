@@ -7,8 +7,8 @@ use Rattle.image_writer.specs.Parts.{numbersBytes}
 use Rattle.image_writer.proofs.FieldLaws.{refused-large, accepted}
 use Rattle.image_edit.specs.Changes.{changed}
 use Rattle.image_edit.proofs.ImageCuts.{Held, held-used}
-use Rattle.record_edit.specs.Revised.{revised}
-use Rattle.record_edit.proofs.RevisedLaws.{both-within, both-size}
+use Rattle.record_gaps.specs.Revised.{revised}
+use Rattle.record_gaps.proofs.RevisedLaws.{both-within, both-size}
 use native.Mathlib.Omega.{arith}
 use borrow.Author.Needs.{needs}
 use Rattle.record_edit.proofs.revise_numbers_and_target.Statement.{statement}

@@ -16,7 +16,7 @@ use Rattle.dialog.proofs.matching.matches_request.Reads as reads
 use Rattle.dialog.proofs.matching.matches_request.Lts as lts
 use Rattle.dialog.proofs.matching.names.Reads as names-reads
 use Rattle.dialog.proofs.readings.read_image.Reads as read-image-reads
-use Rattle.headers.proofs.dialog_id.DialogId.from_request.Reads as from-request-reads
+use Rattle.dialog_id.proofs.DialogId.from_request.Reads as from-request-reads
 use Rattle.msg.proofs.check_block.Reads as check-block-reads
 
 check-block-requires : tie.Need-check-block-requires

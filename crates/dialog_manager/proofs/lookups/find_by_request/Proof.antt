@@ -23,7 +23,7 @@ use Rattle.dialog_manager.proofs.lookups.find_by_request.Tie as tie
 use Rattle.dialog_manager.proofs.lookups.find_by_request.Reads as reads
 use Rattle.dialog_manager.proofs.lookups.find_by_request.Lts as lts
 use Rattle.dialog_manager.proofs.placing.place_of_request.Reads as place-of-request-reads
-use Rattle.headers.proofs.dialog_id.DialogId.from_request.Reads as from-request-reads
+use Rattle.dialog_id.proofs.DialogId.from_request.Reads as from-request-reads
 use Rattle.msg.proofs.check_block.Reads as check-block-reads
 use Rattle.store.proofs.count.Reads as count-reads
 

@@ -11,19 +11,18 @@ use Rattle.image_edit.specs.Changes.{changed}
 use Rattle.image_edit.proofs.ImageCuts.{Held, held-used}
 use Rattle.route_set.specs.Routes.{routesOf}
 use Rattle.routes_edit.specs.Rerouted.{renewedBy}
-use Rattle.record_edit.specs.Revised.{renewed}
+use Rattle.record_gaps.specs.Revised.{renewed}
 use Rattle.dialog.specs.Updates.{retargeted}
-use Rattle.dialog_updates.proofs.ContactLaws.{no-contact, contact-within, contact-target}
+use Rattle.dialog_updates.proofs.ContactLaws.{no-contact, contact-within, contact-target, target-kept}
 use Rattle.dialog_updates.proofs.PlaceLaws.{changed-as, result-as}
-use Rattle.dialog_updates.proofs.ResponseLaws.{target-kept}
 use native.Mathlib.Omega.{arith}
 use borrow.Author.Needs.{needs}
 use Rattle.dialog_updates.proofs.revision.renew.Statement.{statement}
 use Rattle.dialog_updates.proofs.revision.renew.Tie as tie
 use Rattle.dialog_updates.proofs.revision.renew.Reads as reads
 use Rattle.dialog_updates.proofs.revision.renew.Lts as lts
-use Rattle.record_edit.proofs.revise_all.Reads as revise-all-reads
-use Rattle.record_edit.proofs.revise_numbers_and_routes.Reads as revise-numbers-and-routes-reads
+use Rattle.record_renewal.proofs.revise_all.Reads as revise-all-reads
+use Rattle.record_renewal.proofs.revise_numbers_and_routes.Reads as revise-numbers-and-routes-reads
 use Rattle.route_set.proofs.find_contact.Reads as find-contact-reads
 
 -- the record among the used bytes

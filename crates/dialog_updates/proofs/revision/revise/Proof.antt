@@ -9,7 +9,7 @@ use Rattle.record.specs.NumbersForm.{meaning}
 use Rattle.record.specs.Record.{Record}
 use Rattle.image_edit.specs.Changes.{changed}
 use Rattle.image_edit.proofs.ImageCuts.{Held, held-used}
-use Rattle.record_edit.specs.Revised.{revised}
+use Rattle.record_gaps.specs.Revised.{revised}
 use Rattle.route_set.specs.Routes.{contactOf}
 use Rattle.dialog.specs.Updates.{retargeted}
 use Rattle.dialog_updates.proofs.ContactLaws.{no-contact, contact-within, contact-target}

@@ -2,9 +2,9 @@
 use mathlib.Core.Path.{sym, subst, _∙_}
 use Rattle.limits.specs.Limits.{rustLimits}
 use Rattle.record.proofs.CodecLaws.{bytes-all}
-use Rattle.dialog_updates.proofs.RequestLaws.{short-block}
+use Rattle.dialog_updates.proofs.BlockLaws.{short-block}
 use Rattle.book.specs.Calls.{Ident, ident}
-use Rattle.store_updates.specs.Entries.{Ready}
+use Rattle.store_entries.specs.Entries.{Ready}
 use Rattle.store_updates.proofs.CallLaws.{response-refused, response-bad, response-turned, response-done}
 use borrow.Author.Needs.{needs}
 use Rattle.store_updates.proofs.calls.response.Statement.{statement}

@@ -1,0 +1,178 @@
+// A dialog's identifier: the check of given parts, and the readings from a header block.
+use headers::Part;
+use headers::find_tag;
+use limits::Check;
+use limits::Limits;
+use limits::Refusal;
+use msg::Found;
+use text::Span;
+ghost use mathlib.Core.Path.{_≡_};
+ghost use Rattle.limits.specs.Limits.{rustLimits};
+ghost use Rattle.limits.specs.Outcome.{checkOf};
+ghost use Prim.Native.Nat.{_≤_};
+ghost use lib.ListN.{length};
+ghost use Rattle.text.specs.Text.{all, span};
+ghost use Rattle.headers.specs.Tag.{partOf};
+ghost use Rattle.dialog_id.specs.DialogId.{isPlain, partCause, identifierCause, tagNamed, identifierOf, fromRequest, fromResponseUac, fromResponseUas, idFrom, idAnswer};
+
+// Where the three parts stand in a header block.
+pub struct DialogId {
+    pub call_id: Span,
+    pub local_tag: Span,
+    pub remote_tag: Span,
+}
+
+// A reading without refusals.
+pub enum IdPart {
+    At(DialogId),
+    Nothing,
+}
+
+// What the readings from a block answer.
+pub enum IdAnswer {
+    At(DialogId),
+    Refused(Refusal),
+}
+
+impl DialogId {
+    // The check of given parts: 1, then 25, 26, 27 of each.
+    pub fn new(call_id: &[u8], local_tag: &[u8], remote_tag: &[u8]) -> Check
+        ensures { λ r. ⌜ r ≡ checkOf (identifierCause rustLimits (now («call_id» .entry)) (now («local_tag» .entry)) (now («remote_tag» .entry))) ⌝ }
+    {
+        if text::too_long(call_id) {
+            return Check::Refused(Refusal::TextTooLong);
+        }
+        if text::too_long(local_tag) {
+            return Check::Refused(Refusal::TextTooLong);
+        }
+        if text::too_long(remote_tag) {
+            return Check::Refused(Refusal::TextTooLong);
+        }
+        if let Check::Refused(x) = check_part(call_id, Limits::MAX_CALL_ID_LENGTH) {
+            return Check::Refused(x);
+        }
+        if let Check::Refused(x) = check_part(local_tag, Limits::MAX_TAG_LENGTH) {
+            return Check::Refused(x);
+        }
+        check_part(remote_tag, Limits::MAX_TAG_LENGTH)
+    }
+
+    // From a request, with the tag of From as local tag: 1, 2, 4.
+    pub fn from_request(block: &[u8]) -> IdAnswer
+        ensures { λ r. ⌜ r ≡ idAnswer (fromRequest rustLimits (now (block .entry))) ⌝ }
+    {
+        if let Check::Refused(x) = msg::check_block(block) {
+            return IdAnswer::Refused(x);
+        }
+        let IdPart::At(id) = read_id(block, b"From", b"To") else {
+            return IdAnswer::Refused(Refusal::MissingHeader);
+        };
+        IdAnswer::At(id)
+    }
+
+    // From a response to a request that we sent: 1, 2, 4.
+    pub fn from_response_uac(block: &[u8]) -> IdAnswer
+        ensures { λ r. ⌜ r ≡ idAnswer (fromResponseUac rustLimits (now (block .entry))) ⌝ }
+    {
+        DialogId::from_request(block)
+    }
+
+    // From a response that we sent, with the tag of To as local tag: 1, 2, 4.
+    pub fn from_response_uas(block: &[u8]) -> IdAnswer
+        ensures { λ r. ⌜ r ≡ idAnswer (fromResponseUas rustLimits (now (block .entry))) ⌝ }
+    {
+        if let Check::Refused(x) = msg::check_block(block) {
+            return IdAnswer::Refused(x);
+        }
+        let IdPart::At(id) = read_id(block, b"To", b"From") else {
+            return IdAnswer::Refused(Refusal::MissingHeader);
+        };
+        IdAnswer::At(id)
+    }
+}
+
+// The Call-ID and the tags of the two headers named.
+pub fn read_id(block: &[u8], local_name: &[u8], remote_name: &[u8]) -> IdPart
+    ensures { λ r. ⌜ r ≡ idFrom (identifierOf (now («local_name» .entry)) (now («remote_name» .entry)) (now (block .entry))) ⌝ }
+{
+    let Found::At(call_id, _) = msg::find(block, b"Call-ID") else {
+        return IdPart::Nothing;
+    };
+    let Part::At(local_tag) = tag_named(block, local_name) else {
+        return IdPart::Nothing;
+    };
+    let Part::At(remote_tag) = tag_named(block, remote_name) else {
+        return IdPart::Nothing;
+    };
+    IdPart::At(DialogId {
+        call_id,
+        local_tag,
+        remote_tag,
+    })
+}
+
+// The tag of the first line of a name, where it stands in the block.
+fn tag_named(block: &[u8], name: &[u8]) -> Part
+    ensures { λ r. ⌜ r ≡ partOf (tagNamed (now (name .entry)) (now (block .entry))) ⌝ }
+{
+    let Found::At(v, _) = msg::find(block, name) else {
+        return Part::Nothing;
+    };
+    let a = v.start;
+    let e = a + v.length;
+    let Part::At(t) = find_tag(&block[a..e]) else {
+        return Part::Nothing;
+    };
+    Part::At(Span {
+        start: a + t.start,
+        length: t.length,
+    })
+}
+
+// A part of an identifier, of at most `limit` bytes: 25, 26, 27.
+fn check_part(s: &[u8], limit: usize) -> Check
+    ensures { λ r. ⌜ r ≡ checkOf (partCause limit (now (s .entry))) ⌝ }
+{
+    if s.len() == 0 {
+        return Check::Refused(Refusal::IdentifierEmpty);
+    }
+    if limit < s.len() {
+        return Check::Refused(Refusal::IdentifierTooLong);
+    }
+    if !all_plain(s) {
+        return Check::Refused(Refusal::ControlCharacters);
+    }
+    Check::Passed
+}
+
+// Whether no byte is a control character or over 126.
+fn all_plain(s: &[u8]) -> bool
+    ensures { λ r. ⌜ r ≡ all isPlain (now (s .entry)) ⌝ }
+{
+    let n = plain_length(s);
+    n == s.len()
+}
+
+// How many bytes that are no control characters, and not over 126, stand first.
+fn plain_length(s: &[u8]) -> usize
+    ensures { λ r. ⌜ r ≡ span isPlain (now (s .entry)) ⌝ }
+    ensures { λ r. ⌜ r ≤ length (now (s .entry)) ⌝ }
+{
+    let mut i = 0;
+    while i < s.len() {
+        if !is_plain(s[i]) {
+            return i;
+        }
+        i += 1;
+    }
+    i
+}
+
+fn is_plain(b: u8) -> bool
+    ensures { λ r. ⌜ r ≡ isPlain b ⌝ }
+{
+    if b < 32 {
+        return false;
+    }
+    b <= 126
+}
