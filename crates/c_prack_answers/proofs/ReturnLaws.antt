@@ -10,7 +10,7 @@ use Rattle.limits.specs.declared.Refusal.{Refusal}
 use Rattle.output.specs.Output.{fitted}
 use Rattle.output.specs.declared.Written.{Written}
 use Rattle.output.specs.declared.Written.the-variants as writing
-use Rattle.prack_headers.specs.declared.rack.RAck.{RAck}
+use Rattle.rack.specs.declared.RAck.{RAck}
 use Rattle.ordered_store.specs.Entries.{setEntry}
 use Rattle.ordered_store.specs.Run.{Decided, Left, Returns}
 use Rattle.ordered_store.proofs.RunLaws.{answer-has}

@@ -11,7 +11,7 @@ use Rattle.edit.specs.Edit.{over}
 use Rattle.output.specs.Output.{leaves, writtenFrom}
 use Rattle.output.specs.declared.Written.{Written}
 use Rattle.output.specs.declared.Written.the-variants as writing
-use Rattle.prack_headers.specs.declared.rack.RAck.{RAck}
+use Rattle.rack.specs.declared.RAck.{RAck}
 use Rattle.ordered_store.specs.Run.{Left}
 use Rattle.ordered_store.proofs.RunLaws.{keptWith}
 use Rattle.prack_validator.specs.Validator.{Value, flag, written, rackValue}

@@ -17,7 +17,7 @@ use Rattle.text.specs.Answers.{lengthCause}
 use Rattle.msg.specs.Block.{isBlock, blockCause}
 use Rattle.methods.specs.Methods.{isMethod, methodCause}
 use Rattle.output.specs.Output.{fitted}
-use Rattle.prack_headers.specs.declared.rack.RAck.{RAck}
+use Rattle.rack.specs.declared.RAck.{RAck}
 use Rattle.record.proofs.CodecLaws.{GoodAll}
 use Rattle.ordered_store.specs.Entries.{Key, ascending, entryOf, setEntry}
 use Rattle.ordered_store.specs.Run.{Decided}

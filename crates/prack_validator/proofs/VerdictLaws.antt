@@ -9,7 +9,7 @@ use borrow.Author.Tests.{eq-eqb, ne-eqb}
 use Rattle.limits.specs.Outcome.{Outcome, refused, given, refuseIf}
 use Rattle.limits.specs.declared.Refusal.{Refusal}
 use Rattle.limits.specs.declared.Refusal.the-variants.{InvalidRAck, NoPendingList, UnknownRSeq, RAckCSeqMismatch, RAckMethodMismatch, DuplicatePrack}
-use Rattle.prack_headers.specs.declared.rack.RAck.{RAck}
+use Rattle.rack.specs.declared.RAck.{RAck}
 use Rattle.prack_list.specs.Lists.{Pending, Tracked, firstOf, marked}
 use Rattle.prack_list.specs.Steps.{Holds, withList}
 use Rattle.prack_list.proofs.FindLaws.{FoundIn}

@@ -8,7 +8,7 @@ use Rattle.limits.specs.Outcome.{Outcome, refused, given}
 use Rattle.edit.specs.Edit.{over}
 use Rattle.output.specs.declared.Written.{Written}
 use Rattle.output.specs.declared.Written.the-variants as writing
-use Rattle.prack_headers.specs.declared.rack.RAck.{RAck}
+use Rattle.rack.specs.declared.RAck.{RAck}
 use Rattle.ordered_store.specs.Run.{Left}
 use Rattle.prack_validator.specs.Validator.{Value, noValue, rack, flag, written}
 use Rattle.prack_validator.specs.declared.Validated.{Validated}

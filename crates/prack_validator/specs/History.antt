@@ -10,7 +10,7 @@ use Rattle.limits.specs.Limits.{LimitSet}
 use Rattle.limits.specs.Outcome.{refused}
 use Rattle.limits.specs.declared.Refusal.the-variants.{DuplicatePrack}
 use Rattle.msg.specs.Block.{isBlock}
-use Rattle.prack_headers.specs.declared.rack.RAck.{RAck}
+use Rattle.rack.specs.declared.RAck.{RAck}
 use Rattle.ordered_store.specs.History.{World, Follows, content, world, lending}
 use Rattle.prack_list.specs.Lists.{Pending, Tracked, firstOf}
 use Rattle.prack_list.specs.Layout.{trackedForm}

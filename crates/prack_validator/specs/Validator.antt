@@ -15,8 +15,8 @@ use Rattle.text.specs.Answers.{lengthCause}
 use Rattle.msg.specs.Block.{linesOf, firstNamed, textOf, blockCause}
 use Rattle.methods.specs.Methods.{methodCause}
 use Rattle.output.specs.Output.{fitted}
-use Rattle.prack_headers.specs.RAck.{readRack}
-use Rattle.prack_headers.specs.declared.rack.RAck.{RAck}
+use Rattle.rack.specs.RAck.{readRack}
+use Rattle.rack.specs.declared.RAck.{RAck}
 use Rattle.ordered_store.specs.Entries.{setEntry, withoutEntry}
 use Rattle.ordered_store.specs.Run.{Decided, Left, run}
 use Rattle.ordered_store.specs.History.{Calls}

@@ -1,8 +1,8 @@
 // The PRACK of a block held against the responses that wait for one.
 use limits::Refusal;
-use prack_headers::RAck;
-use prack_headers::RAckReading;
 use prack_list::Position;
+use rack::RAck;
+use rack::RAckReading;
 ghost use mathlib.Core.Path.{_≡_};
 ghost use Prim.Native.Nat.{_≤_};
 ghost use lib.ListN.{length};
@@ -23,7 +23,7 @@ pub fn hold_against(block: &[u8], body: &mut [u8], n: usize) -> Verdict
     ensures { λ r. ⌜ ((t : Tracked) → Holds (now (body .entry)) n t → r ≡ verdictOf (judged (rackIn (now (block .entry))) (t .list))) ⌝ }
     ensures { λ _. ⌜ ((t : Tracked) → Holds (now (body .entry)) n t → Holds (now (body .exit)) n (withList (markedBy (judged (rackIn (now (block .entry))) (t .list)) (t .list)) t)) ⌝ }
 {
-    let RAckReading::Of(k) = prack_headers::read_rack(msg::header_value(block, b"RAck")) else {
+    let RAckReading::Of(k) = rack::read_rack(msg::header_value(block, b"RAck")) else {
         return Verdict::Refused(Refusal::InvalidRAck);
     };
     match prack_list::first_of(body, n, k.rseq) {

@@ -1,9 +1,9 @@
 // Each call on a PRACK store, and its line. A call that may change the store hands out its new used length.
 use output::Written;
-use prack_headers::RAckAnswer;
 use prack_validator::Listed;
 use prack_validator::Pracked;
 use prack_validator::Validated;
+use rack::RAckAnswer;
 use sheet_lines::end_line;
 use sheet_lines::first;
 use sheet_lines::show;

@@ -12,7 +12,7 @@ use denote.Ref.{RefT}
 use Rattle.limits.specs.Limits.{rustLimits}
 use Rattle.limits.specs.Outcome.{Outcome, numberIn}
 use Rattle.msg.specs.Block.{isBlock}
-use Rattle.prack_headers.specs.declared.rack.RAck.{RAck}
+use Rattle.rack.specs.declared.RAck.{RAck}
 use Rattle.ordered_store.specs.Run.{Returns}
 use Rattle.ordered_store.specs.History.{World, contentAnswers, Seen, EachShows, Made, one-more, KeepsContracts}
 use Rattle.ordered_store.proofs.HistoryLaws.{made-sent, made-follows}

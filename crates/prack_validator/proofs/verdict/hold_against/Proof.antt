@@ -5,9 +5,9 @@ use mathlib.Core.List.{List}
 use mathlib.Core.Option.{some}
 use Rattle.limits.specs.Outcome.{refused}
 use Rattle.limits.specs.declared.Refusal.{Refusal}
-use Rattle.prack_headers.specs.RAck.{readRack, rackFrom}
-use Rattle.prack_headers.specs.declared.rack.RAck.{RAck}
-use Rattle.prack_headers.proofs.RAckLaws.{no-rack as unread, some-rack}
+use Rattle.rack.specs.RAck.{readRack, rackFrom}
+use Rattle.rack.specs.declared.RAck.{RAck}
+use Rattle.rack.proofs.RAckLaws.{no-rack as unread, some-rack}
 use Rattle.prack_headers.proofs.ReadingLaws.{value-text}
 use Rattle.prack_list.specs.Lists.{Tracked}
 use Rattle.prack_list.specs.Steps.{Holds}

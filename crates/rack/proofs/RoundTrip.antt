@@ -17,11 +17,11 @@ use Rattle.text.specs.Number.{nonEmpty}
 use Rattle.text.specs.Answers.{valueCause}
 use Rattle.output.specs.Decimal.{decimalOf}
 use Rattle.methods.specs.Methods.{methodNames, positionFrom, methodOf, isMethod, nameOf}
-use Rattle.prack_headers.specs.RAck.{spaced, readRack, rackText, parseRack, formatRack}
+use Rattle.rack.specs.RAck.{spaced, readRack, rackText, parseRack, formatRack}
 use Rattle.output.proofs.ClassLaws.{both-left, both-right, within-range, all-append, all-by}
 use Rattle.output.proofs.DecimalLaws.{decimal, reads, ten-digits}
 use Rattle.methods.proofs.MethodLaws.{fourteen, method-range, Short, name-short}
-use Rattle.prack_headers.proofs.RAckLaws.{spaced-length}
+use Rattle.rack.proofs.RAckLaws.{spaced-length}
 
 -- ---- words with a space between them
 

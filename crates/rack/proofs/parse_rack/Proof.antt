@@ -1,11 +1,11 @@
--- `prack_headers::parse_rack` meets its contract: the value's causes, then what its words say. Assumes nothing.
+-- `rack::parse_rack` meets its contract: the value's causes, then what its words say. Assumes nothing.
 use mathlib.Core.Path.{sym, ap}
 use borrow.Author.Needs.{needs}
 use Rattle.limits.specs.Limits.{rustLimits}
-use Rattle.prack_headers.specs.RAck.{readRack, rackAnswer}
-use Rattle.prack_headers.proofs.RAckLaws.{stopped-parse, bad-parse, done-parse, no-rack, some-rack}
-use Rattle.prack_headers.proofs.rack.parse_rack.Statement.{statement}
-use Rattle.prack_headers.proofs.rack.parse_rack.Tie as tie
+use Rattle.rack.specs.RAck.{readRack, rackAnswer}
+use Rattle.rack.proofs.RAckLaws.{stopped-parse, bad-parse, done-parse, no-rack, some-rack}
+use Rattle.rack.proofs.parse_rack.Statement.{statement}
+use Rattle.rack.proofs.parse_rack.Tie as tie
 
 check-value-requires : tie.Need-check-value-requires
 check-value-requires c κs = search needs

@@ -1,4 +1,4 @@
--- `prack_headers::read_rack` meets its contract: the words one after another. Assumes nothing.
+-- `rack::read_rack` meets its contract: the words one after another. Assumes nothing.
 use native.Mathlib.Omega.{arith}
 use mathlib.Core.Path.{_≡_, sym, ap, _∙_}
 use lib.ListN.{drop}
@@ -6,14 +6,14 @@ use borrow.Author.Needs.{needs}
 use Rattle.text.specs.Text.{words}
 use Rattle.text.specs.Number.{numberFrom, readNumber}
 use Rattle.methods.specs.Methods.{methodFrom, methodOf}
-use Rattle.prack_headers.specs.RAck.{rackFrom}
-use Rattle.prack_headers.specs.Words.{wordAt}
-use Rattle.prack_headers.proofs.WordLaws.{next-word, after-three, some-word, no-word}
-use Rattle.prack_headers.proofs.ReadingLaws.{unreadable, readable}
+use Rattle.rack.specs.RAck.{rackFrom}
+use Rattle.words.specs.Words.{wordAt}
+use Rattle.words.proofs.WordLaws.{next-word, after-three, some-word, no-word}
+use Rattle.words.proofs.NumberLaws.{unreadable, readable}
 use Rattle.methods.proofs.MethodLaws.{unknown, known}
-use Rattle.prack_headers.proofs.RAckLaws.{first-bad, second-bad, third-bad, too-many, three}
-use Rattle.prack_headers.proofs.rack.read_rack.Statement.{statement}
-use Rattle.prack_headers.proofs.rack.read_rack.Tie as tie
+use Rattle.rack.proofs.RAckLaws.{first-bad, second-bad, third-bad, too-many, three}
+use Rattle.rack.proofs.read_rack.Statement.{statement}
+use Rattle.rack.proofs.read_rack.Tie as tie
 
 -- the readings, by the words of the value
 first : (c : tie.After-read-u32) → c .read-u32 .result ≡ numberFrom (readNumber 32 (wordAt 0 (c .before .before .before .args .value .now)))

@@ -1,8 +1,8 @@
--- `prack_headers::write_spaced` meets its contract: five pieces, one after another. Assumes nothing.
+-- `rack::write_spaced` meets its contract: five pieces, one after another. Assumes nothing.
 use borrow.Author.Needs.{needs}
-use Rattle.prack_headers.proofs.RAckLaws.{put-spaced}
-use Rattle.prack_headers.proofs.rack.write_spaced.Statement.{statement}
-use Rattle.prack_headers.proofs.rack.write_spaced.Tie as tie
+use Rattle.rack.proofs.RAckLaws.{put-spaced}
+use Rattle.rack.proofs.write_spaced.Statement.{statement}
+use Rattle.rack.proofs.write_spaced.Tie as tie
 
 add-m : tie.Need-add-m
 add-m c = search needs

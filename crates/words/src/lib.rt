@@ -2,10 +2,10 @@
 ghost use mathlib.Core.Path.{_≡_};
 ghost use lib.ListN.{drop};
 ghost use Rattle.text.specs.Text.{words};
-ghost use Rattle.prack_headers.specs.Words.{wordAt};
+ghost use Rattle.words.specs.Words.{wordAt};
 
 // The first word, empty where there is none.
-pub(crate) fn word(s: &[u8]) -> &[u8]
+pub fn word(s: &[u8]) -> &[u8]
     ensures { λ r. ⌜ now r ≡ wordAt 0 (now (s .entry)) ⌝ }
 {
     let w = text::first_word(s);
@@ -15,7 +15,7 @@ pub(crate) fn word(s: &[u8]) -> &[u8]
 }
 
 // What stands after the first word.
-pub(crate) fn after_word(s: &[u8]) -> &[u8]
+pub fn after_word(s: &[u8]) -> &[u8]
     ensures { λ r. ⌜ words (now r) ≡ drop 1 (words (now (s .entry))) ⌝ }
 {
     let w = text::first_word(s);

@@ -19,14 +19,14 @@ use Rattle.text.specs.Text.{alike, words}
 use Rattle.text.specs.Number.{readNumber}
 use Rattle.text.specs.Answers.{valueCause}
 use Rattle.methods.specs.Methods.{methodNames, positionFrom, methodOf, nameOf}
-use Rattle.prack_headers.specs.RAck.{rackOf, readRack, parseRack, rackFrom, spaced, rackText}
+use Rattle.rack.specs.RAck.{rackOf, readRack, parseRack, rackFrom, spaced, rackText}
 use Rattle.edit.specs.Edit.{putAt, over}
 use Rattle.output.proofs.OutputLaws.{put-first, put-next}
 use Rattle.output.specs.Decimal.{decimalOf}
-use Rattle.prack_headers.specs.Words.{wordAt}
-use Rattle.prack_headers.specs.declared.rack.RAck.{RAck}
-use Rattle.prack_headers.specs.declared.rack.RAckReading.the-variants.{Of, Unreadable}
-use Rattle.prack_headers.specs.declared.rack.RAckReading.{RAckReading}
+use Rattle.words.specs.Words.{wordAt}
+use Rattle.rack.specs.declared.RAck.{RAck}
+use Rattle.rack.specs.declared.RAckReading.the-variants.{Of, Unreadable}
+use Rattle.rack.specs.declared.RAckReading.{RAckReading}
 
 -- ---- the reading
 

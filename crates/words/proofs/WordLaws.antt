@@ -10,7 +10,7 @@ use lib.Seq.{getD-drop, drop-drop}
 use Rattle.text.specs.Text.{isBlank, split, onHead, filled, words, wordSpan}
 use Rattle.text.proofs.Runs.{drop-part}
 use Rattle.text.proofs.Words.{words-cons, words-none}
-use Rattle.prack_headers.specs.Words.{wordAt}
+use Rattle.words.specs.Words.{wordAt}
 
 -- a text that begins with a byte that is no blank has a word
 headed : (b : ℕ) (gs : List (List ℕ)) → filled (onHead b gs) ≡ [] → ⊥

@@ -1,6 +1,4 @@
 // RAck (RFC 3262 section 7.2): which provisional response a PRACK acknowledges.
-use crate::words::after_word;
-use crate::words::word;
 use edit::put;
 use limits::Check;
 use limits::Refusal;
@@ -10,13 +8,15 @@ use methods::method_of;
 use methods::name_of;
 use output::Written;
 use text::Number;
+use words::after_word;
+use words::word;
 ghost use mathlib.Core.Path.{_≡_};
 ghost use Prim.Native.Nat.{_+_, _≤_};
 ghost use lib.ListN.{length};
 ghost use Rattle.limits.specs.Limits.{rustLimits};
 ghost use Rattle.edit.specs.Edit.{over};
 ghost use Rattle.output.specs.Output.{leaves, writtenFrom};
-ghost use Rattle.prack_headers.specs.RAck.{spaced, readRack, parseRack, formatRack, rackFrom, rackAnswer};
+ghost use Rattle.rack.specs.RAck.{spaced, readRack, parseRack, formatRack, rackFrom, rackAnswer};
 
 pub struct RAck {
     pub rseq: u32,

@@ -1,4 +1,4 @@
--- `prack_headers::format_rack` meets its contract: the causes in their order, then the three parts over the front of the bytes. Assumes nothing.
+-- `rack::format_rack` meets its contract: the causes in their order, then the three parts over the front of the bytes. Assumes nothing.
 use Prim.Native.Nat.{_≤_}
 use native.Mathlib.Omega.{arith}
 use mathlib.Core.Path.{_≡_, sym, ap, _∙_}
@@ -8,13 +8,13 @@ use borrow.Author.Tests.{not-true, not-false}
 use borrow.Author.Needs.{needs}
 use Rattle.methods.specs.Methods.{isMethod}
 use Rattle.edit.specs.Edit.{over}
-use Rattle.prack_headers.specs.RAck.{rackText}
+use Rattle.rack.specs.RAck.{rackText}
 use Rattle.output.proofs.DecimalLaws.{Spelled, spelled}
 use Rattle.methods.proofs.MethodLaws.{method-range, row-fits, name-short, no-method, no-room, fits}
 use Rattle.output.proofs.OutputLaws.{kept, wrote}
-use Rattle.prack_headers.proofs.RAckLaws.{rack-length, rack-text}
-use Rattle.prack_headers.proofs.rack.format_rack.Statement.{statement}
-use Rattle.prack_headers.proofs.rack.format_rack.Tie as tie
+use Rattle.rack.proofs.RAckLaws.{rack-length, rack-text}
+use Rattle.rack.proofs.format_rack.Statement.{statement}
+use Rattle.rack.proofs.format_rack.Tie as tie
 
 -- past the first test the number is a method's
 numbered : (c : tie.Else1) → isMethod (c .before .before .before .args .method) ≡ true

@@ -16,12 +16,12 @@ use Rattle.text.specs.Answers.{valueCause}
 use Rattle.output.specs.Decimal.{decimalOf}
 use Rattle.methods.specs.Methods.{methodOf, methodCause, nameOf}
 use Rattle.output.specs.Output.{fitted}
-use Rattle.prack_headers.specs.Words.{wordAt}
-use Rattle.prack_headers.specs.declared.rack.RAck.{RAck}
-use Rattle.prack_headers.specs.declared.rack.RAckAnswer.the-variants as answer
-use Rattle.prack_headers.specs.declared.rack.RAckAnswer.{RAckAnswer}
-use Rattle.prack_headers.specs.declared.rack.RAckReading.the-variants as reading
-use Rattle.prack_headers.specs.declared.rack.RAckReading.{RAckReading}
+use Rattle.words.specs.Words.{wordAt}
+use Rattle.rack.specs.declared.RAck.{RAck}
+use Rattle.rack.specs.declared.RAckAnswer.the-variants as answer
+use Rattle.rack.specs.declared.RAckAnswer.{RAckAnswer}
+use Rattle.rack.specs.declared.RAckReading.the-variants as reading
+use Rattle.rack.specs.declared.RAckReading.{RAckReading}
 
 -- the three parts, where each is read
 abbrev pub rackOf : Option ℕ → Option ℕ → Option ℕ → Option RAck
