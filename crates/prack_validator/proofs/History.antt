@@ -24,10 +24,9 @@ use Rattle.ordered_store.specs.Run.{Decided}
 use Rattle.ordered_store.specs.History.{EachSent, EachTyped, content, Follows, lending}
 use Rattle.ordered_store.proofs.EntryLaws.{set-ascends, without-ascends, set-good, without-good, found-good, found-key, set-again}
 use Rattle.ordered_store.proofs.HistoryLaws.{each-typed, Sound, Keeps, Stands, same-answer, settled, sound, stands, follows}
-use Rattle.prack_list.specs.Lists.{Pending, Tracked, stays, staying, cleanedList, isDue, cleaned, entriesOf, pushed, registered, firstOf, marked, isOther, withoutPracked, openIn}
-use Rattle.prack_list.specs.Layout.{trackedForm, PendingFormed, AllFormed, isShort, ListFormed, TrackedFormed}
-use Rattle.prack_list.specs.Steps.{withList, openBytes}
-use Rattle.prack_list.proofs.BodyLaws.{formed-from, staying-formed, staying-short}
+use Rattle.prack_body.specs.Lists.{Pending, Tracked, stays, staying, cleanedList, isDue, cleaned, entriesOf, pushed, registered, firstOf, marked, isOther, withoutPracked, openIn, withList}
+use Rattle.prack_body.specs.Layout.{trackedForm, PendingFormed, AllFormed, isShort, ListFormed, TrackedFormed, openBytes}
+use Rattle.prack_body.proofs.BodyLaws.{formed-from, staying-formed, staying-short}
 use Rattle.prack_list.proofs.PushLaws.{more-formed}
 use Rattle.prack_list.proofs.FindLaws.{marked-formed, marked-many}
 use Rattle.prack_entries.specs.Entries.{keyOfText, keyOf, heldFor, cleanFor}

@@ -10,8 +10,8 @@ use Rattle.limits.specs.Outcome.{Outcome, refused, given, refuseIf}
 use Rattle.limits.specs.declared.Refusal.{Refusal}
 use Rattle.limits.specs.declared.Refusal.the-variants.{InvalidRAck, NoPendingList, UnknownRSeq, RAckCSeqMismatch, RAckMethodMismatch, DuplicatePrack}
 use Rattle.rack.specs.declared.RAck.{RAck}
-use Rattle.prack_list.specs.Lists.{Pending, Tracked, firstOf, marked}
-use Rattle.prack_list.specs.Steps.{Holds, withList}
+use Rattle.prack_body.specs.Lists.{Pending, Tracked, firstOf, marked, withList}
+use Rattle.prack_body.specs.Body.{Holds}
 use Rattle.prack_list.proofs.FindLaws.{FoundIn}
 use Rattle.prack_validator.specs.Validator.{judged, markedBy}
 use Rattle.prack_validator.specs.Answers.{verdictOf}

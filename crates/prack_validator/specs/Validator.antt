@@ -20,9 +20,8 @@ use Rattle.rack.specs.declared.RAck.{RAck}
 use Rattle.ordered_store.specs.Entries.{setEntry, withoutEntry}
 use Rattle.ordered_store.specs.Run.{Decided, Left, run}
 use Rattle.ordered_store.specs.History.{Calls}
-use Rattle.prack_list.specs.Lists.{Pending, Tracked, registered, entriesOf, firstOf, marked, isAcknowledged, withoutPracked, openIn}
-use Rattle.prack_list.specs.Layout.{trackedForm}
-use Rattle.prack_list.specs.Steps.{withList, openBytes}
+use Rattle.prack_body.specs.Lists.{Pending, Tracked, registered, entriesOf, firstOf, marked, isAcknowledged, withoutPracked, openIn, withList}
+use Rattle.prack_body.specs.Layout.{trackedForm, openBytes}
 use Rattle.prack_entries.specs.Entries.{keyOfText, keyOf, heldFor, cleanFor}
 
 -- ---- the calls

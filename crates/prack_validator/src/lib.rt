@@ -13,7 +13,7 @@ use rack::RAck;
 ghost use mathlib.Core.Path.{_≡_};
 ghost use lib.ListN.{length};
 ghost use Rattle.limits.specs.Limits.{rustLimits};
-ghost use Rattle.prack_list.specs.Steps.{pendingOf};
+ghost use Rattle.prack_body.specs.Lists.{pendingOf};
 ghost use Rattle.prack_validator.specs.Validator.{register, validate, isPracked, getPending, removeDialog, removePracked, ran};
 ghost use Rattle.prack_validator.specs.Answers.{writtenIn, usedWritten, validatedIn, prackedOf, listedIn, usedListed, outputAfter, validatedOf};
 
@@ -172,8 +172,8 @@ pub fn remove_pracked(id: &[u8], rseq: u32, bytes: &mut [u8], used: usize) -> Wr
     match seat {
         Seat::Held(t) => {
             let mut body = [0u8; 210];
-            let n = prack_list::load(&bytes[..used], t, &mut body);
-            let m = prack_list::prune(&mut body, n, rseq);
+            let n = prack_body::load(&bytes[..used], t, &mut body);
+            let m = prack_cleaning::prune(&mut body, n, rseq);
             set(id, seat, &body[..m], bytes, used)
         }
         Seat::Free(_) => Written::Length(used),

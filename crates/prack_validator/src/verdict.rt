@@ -6,8 +6,8 @@ use rack::RAckReading;
 ghost use mathlib.Core.Path.{_≡_};
 ghost use Prim.Native.Nat.{_≤_};
 ghost use lib.ListN.{length};
-ghost use Rattle.prack_list.specs.Lists.{Tracked};
-ghost use Rattle.prack_list.specs.Steps.{Holds, withList};
+ghost use Rattle.prack_body.specs.Lists.{Tracked, withList};
+ghost use Rattle.prack_body.specs.Body.{Holds};
 ghost use Rattle.prack_validator.specs.Validator.{rackIn, judged, markedBy};
 ghost use Rattle.prack_validator.specs.Answers.{verdictOf};
 

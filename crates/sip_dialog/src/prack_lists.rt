@@ -8,7 +8,7 @@ ghost use mathlib.Core.Path.{_≡_};
 ghost use lib.ListN.{length};
 ghost use Rattle.limits.specs.Limits.{rustLimits};
 ghost use Rattle.ordered_store.specs.Run.{Returns};
-ghost use Rattle.prack_list.specs.Steps.{pendingOf};
+ghost use Rattle.prack_body.specs.Lists.{pendingOf};
 ghost use Rattle.prack_validator.specs.Validator.{register, validate, isPracked, getPending, removeDialog, removePracked, ran, Typed};
 ghost use Rattle.prack_validator.specs.Answers.{rackAfter, lengthAfter, outputAfter};
 ghost use Rattle.c_prack_answers.specs.Given.{rackOf, prackedAfter};

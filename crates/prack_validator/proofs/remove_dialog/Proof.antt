@@ -9,7 +9,7 @@ use Rattle.limits.specs.Outcome.{given}
 use Rattle.text.specs.Answers.{tooLong}
 use Rattle.record.proofs.CodecLaws.{Bytes, bytes-all}
 use Rattle.ordered_store.specs.Entries.{withoutEntry}
-use Rattle.prack_list.specs.declared.TrackedAt.{TrackedAt}
+use Rattle.prack_body.specs.declared.TrackedAt.{TrackedAt}
 use Rattle.prack_entries.specs.Entries.{keyOfText, keyOf}
 use Rattle.prack_entries.specs.Places.{Sought}
 use Rattle.prack_entries.specs.declared.finding.Seat.the-variants as seats

@@ -12,10 +12,10 @@ use Rattle.text.specs.Answers.{tooLong}
 use Rattle.output.specs.Output.{fitted}
 use Rattle.record.proofs.CodecLaws.{Bytes, bytes-all}
 use Rattle.ordered_store.specs.Entries.{setEntry}
-use Rattle.prack_list.specs.Lists.{Tracked, withoutPracked}
-use Rattle.prack_list.specs.Steps.{Holds, withList}
-use Rattle.prack_list.specs.declared.TrackedAt.{TrackedAt}
-use Rattle.prack_list.proofs.BodyLaws.{holds-size, holds-within}
+use Rattle.prack_body.specs.Lists.{Tracked, withoutPracked, withList}
+use Rattle.prack_body.specs.Body.{Holds}
+use Rattle.prack_body.specs.declared.TrackedAt.{TrackedAt}
+use Rattle.prack_body.proofs.BodyLaws.{holds-size, holds-within}
 use Rattle.prack_entries.specs.Entries.{keyOf, encodeTracked}
 use Rattle.prack_entries.specs.Places.{Sought}
 use Rattle.prack_entries.specs.declared.finding.Seat.the-variants as seats

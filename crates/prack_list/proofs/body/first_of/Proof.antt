@@ -3,9 +3,10 @@ use Prim.Native.Nat.{_-_, _≤_}
 use mathlib.Core.Path.{_≡_, refl, sym, _∙_}
 use mathlib.Core.List.{List}
 use mathlib.Core.Option.{some}
-use Rattle.prack_list.specs.Lists.{Pending, Tracked}
-use Rattle.prack_list.specs.Steps.{Holds, positionIn}
-use Rattle.prack_list.proofs.BodyLaws.{count-is}
+use Rattle.prack_body.specs.Lists.{Pending, Tracked}
+use Rattle.prack_body.specs.Body.{Holds}
+use Rattle.prack_list.specs.Steps.{positionIn}
+use Rattle.prack_body.proofs.BodyLaws.{count-is}
 use Rattle.prack_list.proofs.FindLaws.{next-in, From, find-none, find-in, find-found, find-further, nowhere}
 use native.Mathlib.Omega.{arith}
 use borrow.Author.Needs.{needs}

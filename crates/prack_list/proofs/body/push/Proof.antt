@@ -1,8 +1,8 @@
 -- `body::push` meets its contract: room, the entry, and the count. Assumes nothing.
 use mathlib.Core.Path.{_∙_}
 use lib.ListN.{length-set}
-use Rattle.prack_list.specs.Layout.{PendingFormed}
-use Rattle.prack_list.specs.Steps.{pendingOf}
+use Rattle.prack_body.specs.Layout.{PendingFormed}
+use Rattle.prack_body.specs.Lists.{pendingOf}
 use Rattle.prack_list.proofs.PushLaws.{push-law}
 use native.Mathlib.Omega.{arith}
 use borrow.Author.Needs.{needs}

@@ -9,8 +9,8 @@ use Rattle.rack.specs.RAck.{readRack, rackFrom}
 use Rattle.rack.specs.declared.RAck.{RAck}
 use Rattle.rack.proofs.RAckLaws.{no-rack as unread, some-rack}
 use Rattle.prack_headers.proofs.ReadingLaws.{value-text}
-use Rattle.prack_list.specs.Lists.{Tracked}
-use Rattle.prack_list.specs.Steps.{Holds}
+use Rattle.prack_body.specs.Lists.{Tracked}
+use Rattle.prack_body.specs.Body.{Holds}
 use Rattle.prack_list.proofs.FindLaws.{FoundIn, position-found, position-no-list, position-unknown, place-inside}
 use Rattle.prack_validator.specs.Validator.{rackName, rackIn, judged}
 use Rattle.prack_validator.specs.declared.verdict.Verdict.the-variants as verdict
