@@ -14,8 +14,8 @@ use Rattle.prack_body.specs.Lists.{Pending, Tracked, firstOf, marked, acknowled
 use Rattle.prack_body.specs.Layout.{eight, toBit, pendingForm, PendingFormed, AllFormed}
 use Rattle.prack_body.specs.Body.{bodyOf, Holds}
 use Rattle.prack_list.specs.Steps.{placeFrom, positionAt, positionIn}
-use Rattle.prack_list.specs.declared.body.Position.{Position}
-use Rattle.prack_list.specs.declared.body.Position.the-variants as P
+use Rattle.prack_list.specs.declared.finding.Position.{Position}
+use Rattle.prack_list.specs.declared.finding.Position.the-variants as P
 use Rattle.prack_body.proofs.LayoutLaws.{entries-size}
 use Rattle.prack_body.proofs.BodyLaws.{flag-at, method-at, rseq-at, cseq-at, whole, entries-lie, count-is, none-size, list-size, list-few, list-good, hold, formed-from}
 

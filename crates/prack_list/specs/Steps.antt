@@ -7,8 +7,8 @@ use lib.ListN.{length, drop}
 use lib.Dec.{eqb}
 use Rattle.limits.specs.Limits.{rustLimits}
 use Rattle.prack_body.specs.Lists.{Pending, firstOf}
-use Rattle.prack_list.specs.declared.body.Position.{Position}
-use Rattle.prack_list.specs.declared.body.Position.the-variants as position
+use Rattle.prack_list.specs.declared.finding.Position.{Position}
+use Rattle.prack_list.specs.declared.finding.Position.the-variants as position
 
 -- the last nine entries, or all where there are fewer
 abbrev pub lastOf : List Pending → List Pending

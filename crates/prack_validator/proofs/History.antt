@@ -31,7 +31,8 @@ use Rattle.prack_list.proofs.PushLaws.{more-formed}
 use Rattle.prack_list.proofs.FindLaws.{marked-formed, marked-many}
 use Rattle.prack_entries.specs.Entries.{keyOfText, keyOf, heldFor, cleanFor}
 use Rattle.prack_entries.proofs.PlaceLaws.{exact, filled}
-use Rattle.prack_validator.specs.Validator.{Action, register, validate, isPracked, getPending, removeDialog, removePracked, Call, Value, written, actionCause, rackIn, matched, judged, markedBy, rackValue, deciding, judgedFor, markedFor, pruned, judge, Typed, calls}
+use Rattle.prack_verdict.specs.Verdict.{rackIn, matched, judged, markedBy}
+use Rattle.prack_validator.specs.Validator.{Action, register, validate, isPracked, getPending, removeDialog, removePracked, Call, Value, written, actionCause, rackValue, deciding, judgedFor, markedFor, pruned, judge, Typed, calls}
 use Rattle.prack_validator.specs.History.{held, store, Repeats, Sendable, PrackHistory}
 
 abbrev Good : Tracked → Type 0

@@ -28,7 +28,7 @@ use Rattle.prack_body.specs.Layout.{trackedForm, openBytes}
 use Rattle.prack_body.specs.Body.{Holds}
 use Rattle.prack_list.specs.Steps.{positionIn}
 use Rattle.prack_body.specs.declared.TrackedAt.{TrackedAt}
-use Rattle.prack_list.specs.declared.body.Position.the-variants as position
+use Rattle.prack_list.specs.declared.finding.Position.the-variants as position
 use Rattle.prack_body.proofs.BodyLaws.{loaded}
 use Rattle.prack_list.proofs.FindLaws.{position-found, position-no-list, position-unknown}
 use Rattle.prack_entries.specs.Entries.{keyOfText, keyOf, encodeTracked, heldFor, cleanFor}

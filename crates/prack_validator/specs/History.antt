@@ -15,7 +15,8 @@ use Rattle.ordered_store.specs.History.{World, Follows, content, world, lending
 use Rattle.prack_body.specs.Lists.{Pending, Tracked, firstOf}
 use Rattle.prack_body.specs.Layout.{trackedForm}
 use Rattle.prack_entries.specs.Entries.{keyOf, heldFor, cleanFor}
-use Rattle.prack_validator.specs.Validator.{validate, Call, rackIn, calls}
+use Rattle.prack_verdict.specs.Verdict.{rackIn}
+use Rattle.prack_validator.specs.Validator.{validate, Call, calls}
 
 -- what is held after a list of calls, and the store
 abbrev pub held : LimitSet → List Call → List Tracked

@@ -1,4 +1,4 @@
--- `verdict::hold_against` meets its contract: the first entry of the RSeq decides, and is marked where the PRACK is accepted. Assumes nothing.
+-- `prack_verdict::hold_against` meets its contract: the first entry of the RSeq decides, and is marked where the PRACK is accepted. Assumes nothing.
 use Prim.Native.Nat.{ℕ, _+_, _≤_}
 use mathlib.Core.Path.{_≡_, sym, ap, _∙_}
 use mathlib.Core.List.{List}
@@ -12,13 +12,13 @@ use Rattle.prack_headers.proofs.ReadingLaws.{value-text}
 use Rattle.prack_body.specs.Lists.{Tracked}
 use Rattle.prack_body.specs.Body.{Holds}
 use Rattle.prack_list.proofs.FindLaws.{FoundIn, position-found, position-no-list, position-unknown, place-inside}
-use Rattle.prack_validator.specs.Validator.{rackName, rackIn, judged}
-use Rattle.prack_validator.specs.declared.verdict.Verdict.the-variants as verdict
-use Rattle.prack_validator.proofs.VerdictLaws.{Judges, no-rack, no-list, no-entry, other-cseq, other-method, repeated, accepted, keeps, marks}
+use Rattle.prack_verdict.specs.Verdict.{rackName, rackIn, judged}
+use Rattle.prack_verdict.specs.declared.Verdict.the-variants as verdict
+use Rattle.prack_verdict.proofs.VerdictLaws.{Judges, no-rack, no-list, no-entry, other-cseq, other-method, repeated, accepted, keeps, marks}
 use native.Mathlib.Omega.{arith}
 use borrow.Author.Needs.{needs}
-use Rattle.prack_validator.proofs.verdict.hold_against.Statement.{statement}
-use Rattle.prack_validator.proofs.verdict.hold_against.Tie as tie
+use Rattle.prack_verdict.proofs.hold_against.Statement.{statement}
+use Rattle.prack_verdict.proofs.hold_against.Tie as tie
 
 -- the block, the body and its length
 abbrev block : tie.After-read-rack → List ℕ

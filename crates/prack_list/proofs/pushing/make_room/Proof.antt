@@ -1,10 +1,10 @@
--- `body::make_room` meets its contract. Assumes nothing.
+-- `pushing::make_room` meets its contract. Assumes nothing.
 use mathlib.Core.Path.{refl}
 use Rattle.prack_list.proofs.PushLaws.{room-none, room-some, room-full}
 use native.Mathlib.Omega.{arith}
 use borrow.Author.Needs.{needs}
-use Rattle.prack_list.proofs.body.make_room.Statement.{statement}
-use Rattle.prack_list.proofs.body.make_room.Tie as tie
+use Rattle.prack_list.proofs.pushing.make_room.Statement.{statement}
+use Rattle.prack_list.proofs.pushing.make_room.Tie as tie
 
 returns : tie.Need-returns
 returns c = let a = c .before .before .args in (omega arith, λ t h. room-none h (c .if1 .taken))

@@ -20,13 +20,13 @@ use Rattle.prack_entries.specs.Entries.{keyOf, encodeTracked}
 use Rattle.prack_entries.specs.Places.{Sought}
 use Rattle.prack_entries.specs.declared.finding.Seat.the-variants as seats
 use Rattle.prack_entries.proofs.SeatLaws.{held-sought, free-sought, Found, found, lacking}
 use Rattle.prack_validator.specs.Validator.{Action, removePracked, noValue, actionCause}
 use Rattle.prack_validator.proofs.OperationLaws.{long-cause, rest-cause, short, by-arguments, by-store, by-fitting, by-keeping, pruning-decides}
 use Rattle.prack_validator.proofs.AnswerLaws.{written-kept, written-taken, written-set}
 use native.Mathlib.Omega.{arith}
 use borrow.Author.Needs.{needs}
-use Rattle.prack_validator.proofs.remove_pracked.Statement.{statement}
-use Rattle.prack_validator.proofs.remove_pracked.Tie as tie
+use Rattle.prack_removal.proofs.remove_pracked.Statement.{statement}
+use Rattle.prack_removal.proofs.remove_pracked.Tie as tie
 
 -- the text, the bytes and how many are used
 abbrev i : tie.After-slice-known → List ℕ

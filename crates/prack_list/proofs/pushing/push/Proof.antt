@@ -1,4 +1,4 @@
--- `body::push` meets its contract: room, the entry, and the count. Assumes nothing.
+-- `pushing::push` meets its contract: room, the entry, and the count. Assumes nothing.
 use mathlib.Core.Path.{_∙_}
 use lib.ListN.{length-set}
 use Rattle.prack_body.specs.Layout.{PendingFormed}
@@ -6,8 +6,8 @@ use Rattle.prack_body.specs.Lists.{pendingOf}
 use Rattle.prack_list.proofs.PushLaws.{push-law}
 use native.Mathlib.Omega.{arith}
 use borrow.Author.Needs.{needs}
-use Rattle.prack_list.proofs.body.push.Statement.{statement}
-use Rattle.prack_list.proofs.body.push.Tie as tie
+use Rattle.prack_list.proofs.pushing.push.Statement.{statement}
+use Rattle.prack_list.proofs.pushing.push.Tie as tie
 
 make-room-requires : tie.Need-make-room-requires
 make-room-requires c κs = search needs

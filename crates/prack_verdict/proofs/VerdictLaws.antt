@@ -13,10 +13,9 @@ use Rattle.rack.specs.declared.RAck.{RAck}
 use Rattle.prack_body.specs.Lists.{Pending, Tracked, firstOf, marked, withList}
 use Rattle.prack_body.specs.Body.{Holds}
 use Rattle.prack_list.proofs.FindLaws.{FoundIn}
-use Rattle.prack_validator.specs.Validator.{judged, markedBy}
-use Rattle.prack_validator.specs.Answers.{verdictOf}
-use Rattle.prack_validator.specs.declared.verdict.Verdict.{Verdict}
-use Rattle.prack_validator.specs.declared.verdict.Verdict.the-variants as verdict
+use Rattle.prack_verdict.specs.Verdict.{judged, markedBy, verdictOf}
+use Rattle.prack_verdict.specs.declared.Verdict.{Verdict}
+use Rattle.prack_verdict.specs.declared.Verdict.the-variants as verdict
 
 -- ---- the causes
 

@@ -14,13 +14,13 @@ use Rattle.prack_entries.specs.Entries.{keyOfText, keyOf}
 use Rattle.prack_entries.specs.Places.{Sought}
 use Rattle.prack_entries.specs.declared.finding.Seat.the-variants as seats
 use Rattle.prack_entries.proofs.SeatLaws.{held-sought, free-sought, Found, found, lacking}
 use Rattle.prack_validator.specs.Validator.{Action, removeDialog, noValue, actionCause}
 use Rattle.prack_validator.proofs.OperationLaws.{leaving, long-cause, rest-cause, by-arguments, by-store, by-changing, by-keeping, dialog-decides, cut-length}
 use Rattle.prack_validator.proofs.AnswerLaws.{written-kept, written-taken}
 use native.Mathlib.Omega.{arith}
 use borrow.Author.Needs.{needs}
-use Rattle.prack_validator.proofs.remove_dialog.Statement.{statement}
-use Rattle.prack_validator.proofs.remove_dialog.Tie as tie
+use Rattle.prack_removal.proofs.remove_dialog.Statement.{statement}
+use Rattle.prack_removal.proofs.remove_dialog.Tie as tie
 
 -- the text, the bytes and how many are used
 abbrev i : tie.After-slice-known → List ℕ

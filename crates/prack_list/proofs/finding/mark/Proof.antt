@@ -1,8 +1,8 @@
--- `body::mark` meets its contract. Assumes nothing.
+-- `finding::mark` meets its contract. Assumes nothing.
 use Rattle.prack_list.proofs.FindLaws.{mark-law}
 use borrow.Author.Needs.{needs}
-use Rattle.prack_list.proofs.body.mark.Statement.{statement}
-use Rattle.prack_list.proofs.body.mark.Tie as tie
+use Rattle.prack_list.proofs.finding.mark.Statement.{statement}
+use Rattle.prack_list.proofs.finding.mark.Tie as tie
 
 add-body : tie.Need-add-body
 add-body c = search needs

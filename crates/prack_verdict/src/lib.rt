@@ -8,8 +8,7 @@ ghost use Prim.Native.Nat.{_≤_};
 ghost use lib.ListN.{length};
 ghost use Rattle.prack_body.specs.Lists.{Tracked, withList};
 ghost use Rattle.prack_body.specs.Body.{Holds};
-ghost use Rattle.prack_validator.specs.Validator.{rackIn, judged, markedBy};
-ghost use Rattle.prack_validator.specs.Answers.{verdictOf};
+ghost use Rattle.prack_verdict.specs.Verdict.{rackIn, judged, markedBy, verdictOf};
 
 // Accepted, and the entry marked; or the cause.
 pub enum Verdict {

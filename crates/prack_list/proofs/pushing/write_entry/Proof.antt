@@ -1,10 +1,10 @@
--- `body::write_entry` meets its contract: six pieces one after another. Assumes nothing.
+-- `pushing::write_entry` meets its contract: six pieces one after another. Assumes nothing.
 use mathlib.Core.Path.{refl}
 use Rattle.prack_list.proofs.PushLaws.{wrote-entry}
 use native.Mathlib.Omega.{arith}
 use borrow.Author.Needs.{needs}
-use Rattle.prack_list.proofs.body.write_entry.Statement.{statement}
-use Rattle.prack_list.proofs.body.write_entry.Tie as tie
+use Rattle.prack_list.proofs.pushing.write_entry.Statement.{statement}
+use Rattle.prack_list.proofs.pushing.write_entry.Tie as tie
 
 write-four-requires : tie.Need-write-four-requires
 write-four-requires c κs = search needs

@@ -1,4 +1,4 @@
--- `body::first_of` meets its contract: at each turn the answer is that of the entries left. Assumes nothing.
+-- `finding::first_of` meets its contract: at each turn the answer is that of the entries left. Assumes nothing.
 use Prim.Native.Nat.{_-_, _≤_}
 use mathlib.Core.Path.{_≡_, refl, sym, _∙_}
 use mathlib.Core.List.{List}
@@ -10,8 +10,8 @@ use Rattle.prack_body.proofs.BodyLaws.{count-is}
 use Rattle.prack_list.proofs.FindLaws.{next-in, From, find-none, find-in, find-found, find-further, nowhere}
 use native.Mathlib.Omega.{arith}
 use borrow.Author.Needs.{needs}
-use Rattle.prack_list.proofs.body.first_of.Statement.{statement}
-use Rattle.prack_list.proofs.body.first_of.Tie as tie
+use Rattle.prack_list.proofs.finding.first_of.Statement.{statement}
+use Rattle.prack_list.proofs.finding.first_of.Tie as tie
 
 abbrev Inv-loop : tie.InvT-loop
 Inv-loop body n rseq count i₀ i = (i ≤ count) × ((t : Tracked) (ps : List Pending) → Holds body n t → t .list ≡ some ps → positionIn rseq (some ps) ≡ From rseq i ps)
