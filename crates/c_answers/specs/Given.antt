@@ -42,8 +42,8 @@ use Rattle.methods.specs.declared.MethodLookup.{MethodLookup}
 use Rattle.methods.specs.declared.MethodLookup.the-variants as methodLookup
 use Rattle.prack_headers.specs.declared.Reliable.{Reliable}
 use Rattle.prack_headers.specs.declared.Reliable.the-variants as reliable
-use Rattle.prack_headers.specs.declared.rack.RAckAnswer.{RAckAnswer}
-use Rattle.prack_headers.specs.declared.rack.RAckAnswer.the-variants as rAckAnswer
+use Rattle.rack.specs.declared.RAckAnswer.{RAckAnswer}
+use Rattle.rack.specs.declared.RAckAnswer.the-variants as rAckAnswer
 use Rattle.output.specs.declared.Written.{Written}
 use Rattle.output.specs.declared.Written.the-variants as written
 use Rattle.session_timer_manager.specs.declared.Interval.{Interval}

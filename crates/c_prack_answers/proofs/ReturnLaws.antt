@@ -10,13 +10,12 @@ use Rattle.limits.specs.declared.Refusal.{Refusal}
 use Rattle.output.specs.Output.{fitted}
 use Rattle.output.specs.declared.Written.{Written}
 use Rattle.output.specs.declared.Written.the-variants as writing
-use Rattle.prack_headers.specs.declared.rack.RAck.{RAck}
+use Rattle.rack.specs.declared.RAck.{RAck}
 use Rattle.ordered_store.specs.Entries.{setEntry}
 use Rattle.ordered_store.specs.Run.{Decided, Left, Returns}
 use Rattle.ordered_store.proofs.RunLaws.{answer-has}
-use Rattle.prack_list.specs.Lists.{Tracked, openIn}
-use Rattle.prack_list.specs.Layout.{toBit, trackedForm}
-use Rattle.prack_list.specs.Steps.{openBytes}
+use Rattle.prack_body.specs.Lists.{Tracked, openIn}
+use Rattle.prack_body.specs.Layout.{toBit, trackedForm, openBytes}
 use Rattle.prack_entries.specs.Entries.{keyOf, cleanFor}
 use Rattle.prack_validator.specs.Validator.{validate, isPracked, getPending, Value, noValue, rack, flag, written, actionCause, rackValue, deciding, judgedFor, judge, ran}
 use Rattle.prack_validator.specs.Answers.{rackAfter, flagAfter, lengthAfter, noRack, writtenBy, writtenIn, usedWritten, validatedBy, validatedIn, prackedOf, listedBy, listedIn, usedListed}

@@ -4,8 +4,8 @@ use Prim.Native.Nat.{ℕ}
 use mathlib.Core.Bool.{Bool}
 use Rattle.limits.specs.Outcome.{Outcome, refused, given}
 use Rattle.limits.specs.Refusal.{numberOf}
-use Rattle.prack_headers.specs.declared.rack.RAck.{RAck}
-use Rattle.prack_list.specs.Layout.{toBit}
+use Rattle.rack.specs.declared.RAck.{RAck}
+use Rattle.prack_body.specs.Layout.{toBit}
 use Rattle.prack_validator.specs.Validator.{Value, noValue, rack, flag, written}
 use Rattle.prack_validator.specs.declared.Validated.{Validated}
 use Rattle.prack_validator.specs.declared.Validated.the-variants as validated

@@ -14,7 +14,7 @@ use Rattle.uri.proofs.Laws.{Found, found}
 use Rattle.uri.proofs.Ports.{read-below}
 use Rattle.headers.specs.SessionExpires.{Interval, withRefresher, intervalIn, sessionExpires, expiresName, intervalOf, expiresNamed}
 use Rattle.route_set.specs.Routes.{contactName, uriIn, contactOf}
-use Rattle.prack_headers.specs.Words.{wordAt}
+use Rattle.words.specs.Words.{wordAt}
 use Rattle.prack_headers.specs.Sequence.{cseqName, valueText, cseqNumber}
 use Rattle.record.specs.Record.{isRead, isReadable}
 use Rattle.dialog.proofs.PieceLaws.{value-bounded}

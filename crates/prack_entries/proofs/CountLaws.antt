@@ -10,8 +10,8 @@ use Rattle.limits.specs.Limits.{rustLimits}
 use Rattle.ordered_store.specs.Entries.{entryBefore, entriesOn, entriesIn, ascendingFrom, onlyAscending, decodeEntries}
 use Rattle.ordered_store.specs.Order.{keyOrder, isBefore}
 use Rattle.ordered_store.proofs.BytesLaws.{entries-step, entries-ended}
-use Rattle.prack_list.specs.Lists.{Tracked}
-use Rattle.prack_list.specs.declared.TrackedAt.{TrackedAt}
+use Rattle.prack_body.specs.Lists.{Tracked}
+use Rattle.prack_body.specs.declared.TrackedAt.{TrackedAt}
 use Rattle.prack_entries.specs.Entries.{keyOfText, keyOf, decodeTracked}
 use Rattle.prack_entries.specs.Places.{partIn, countOf}
 use Rattle.prack_entries.specs.declared.finding.Count.{Count}

@@ -11,10 +11,10 @@ use Rattle.record.specs.Codec.{text}
 use Rattle.record.proofs.CodecLaws.{Bytes}
 use Rattle.ordered_store.specs.Entries.{setEntry}
 use Rattle.ordered_store.proofs.EntryLaws.{instead, held-key, whole, at-front, held-parts, free-set}
-use Rattle.prack_list.specs.Lists.{Tracked, cleaned}
-use Rattle.prack_list.specs.Steps.{bodyOf, Holds, Stands}
-use Rattle.prack_list.specs.declared.TrackedAt.{TrackedAt}
-use Rattle.prack_list.proofs.BodyLaws.{places-end}
+use Rattle.prack_body.specs.Lists.{Tracked, cleaned}
+use Rattle.prack_body.specs.Body.{bodyOf, Holds, Stands}
+use Rattle.prack_body.specs.declared.TrackedAt.{TrackedAt}
+use Rattle.prack_body.proofs.BodyLaws.{places-end}
 use Rattle.output.specs.declared.Written.{Written}
 use Rattle.prack_entries.specs.Entries.{keyOfText, keyOf, encodeTracked, cleanFor}
 use Rattle.prack_entries.specs.Places.{Sought}

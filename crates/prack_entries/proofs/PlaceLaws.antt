@@ -9,14 +9,14 @@ use lib.Seq.{drop-drop, drop-append-seam}
 use Rattle.limits.specs.Limits.{rustLimits}
 use Rattle.record.specs.Codec.{Reading, Codec}
 use Rattle.record.proofs.CodecLaws.{Bytes, bytes-drop, Exact}
-use Rattle.prack_list.specs.Lists.{Tracked}
-use Rattle.prack_list.specs.Layout.{trackedForm, TrackedFormed}
-use Rattle.prack_list.specs.Places.{trackedPlaces, trackedFrom}
-use Rattle.prack_list.specs.Steps.{bodyOf}
-use Rattle.prack_list.specs.declared.TrackedAt.{TrackedAt}
-use Rattle.prack_list.specs.declared.TrackedReading.the-variants as reading
-use Rattle.prack_list.proofs.LayoutLaws.{tracked-exact, tracked-long}
-use Rattle.prack_list.proofs.BodyLaws.{places-end, text-lies}
+use Rattle.prack_body.specs.Lists.{Tracked}
+use Rattle.prack_body.specs.Layout.{trackedForm, TrackedFormed}
+use Rattle.prack_body.specs.Places.{trackedPlaces, trackedFrom}
+use Rattle.prack_body.specs.Body.{bodyOf}
+use Rattle.prack_body.specs.declared.TrackedAt.{TrackedAt}
+use Rattle.prack_body.specs.declared.TrackedReading.the-variants as reading
+use Rattle.prack_body.proofs.LayoutLaws.{tracked-exact, tracked-long}
+use Rattle.prack_body.proofs.BodyLaws.{places-end, text-lies}
 use Rattle.prack_entries.specs.Places.{partIn, PartWithin}
 
 -- the form of what is held, with the limits of the Rust

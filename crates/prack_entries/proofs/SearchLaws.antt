@@ -14,11 +14,11 @@ use Rattle.ordered_store.specs.declared.Order.{Order}
 use Rattle.ordered_store.specs.declared.Order.the-variants.{Before, Same, After}
 use Rattle.ordered_store.proofs.BytesLaws.{decoded}
 use Rattle.ordered_store.proofs.OrderLaws.{one-text}
-use Rattle.prack_list.specs.Lists.{Tracked}
-use Rattle.prack_list.specs.Layout.{TrackedFormed}
-use Rattle.prack_list.specs.Places.{trackedPlaces, trackedFrom}
-use Rattle.prack_list.specs.declared.TrackedAt.{TrackedAt}
-use Rattle.prack_list.specs.declared.TrackedReading.the-variants as reading
+use Rattle.prack_body.specs.Lists.{Tracked}
+use Rattle.prack_body.specs.Layout.{TrackedFormed}
+use Rattle.prack_body.specs.Places.{trackedPlaces, trackedFrom}
+use Rattle.prack_body.specs.declared.TrackedAt.{TrackedAt}
+use Rattle.prack_body.specs.declared.TrackedReading.the-variants as reading
 use Rattle.prack_entries.specs.Entries.{keyOfText, keyOf, decodeTracked, encodeTracked}
 use Rattle.prack_entries.specs.Places.{partIn, Stored, seatOf, seatIn}
 use Rattle.prack_entries.specs.declared.finding.Seat.the-variants as seats

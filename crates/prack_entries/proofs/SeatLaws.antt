@@ -17,12 +17,12 @@ use Rattle.ordered_store.specs.Entries.{ascending, withoutEntry}
 use Rattle.ordered_store.specs.Seat.{Seat, held, free, seatIn as seatAmong}
 use Rattle.ordered_store.proofs.BytesLaws.{decoded}
 use Rattle.ordered_store.proofs.EntryLaws.{Held, Free, held-at, free-at, held-entry, held-key, whole, at-front, held-without, free-entry, free-without, free-within, found-good}
-use Rattle.prack_list.specs.Lists.{Tracked}
-use Rattle.prack_list.specs.Layout.{TrackedFormed}
-use Rattle.prack_list.specs.Places.{trackedPlaces}
-use Rattle.prack_list.specs.Steps.{Stands}
-use Rattle.prack_list.specs.declared.TrackedAt.{TrackedAt}
-use Rattle.prack_list.proofs.BodyLaws.{places-end, stands-inside, loaded, holds-size}
+use Rattle.prack_body.specs.Lists.{Tracked}
+use Rattle.prack_body.specs.Layout.{TrackedFormed}
+use Rattle.prack_body.specs.Places.{trackedPlaces}
+use Rattle.prack_body.specs.Body.{Stands}
+use Rattle.prack_body.specs.declared.TrackedAt.{TrackedAt}
+use Rattle.prack_body.proofs.BodyLaws.{places-end, stands-inside, loaded, holds-size}
 use Rattle.prack_entries.specs.Entries.{keyOfText, keyOf, decodeTracked, encodeTracked, heldFor}
 use Rattle.prack_entries.specs.Places.{countOf, Stored, seatOf, seatIn, seatUsed, Sought}
 use Rattle.prack_entries.specs.declared.finding.Count.the-variants as counts

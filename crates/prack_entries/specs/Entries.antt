@@ -5,8 +5,8 @@ use mathlib.Core.List.{List, [], _∷_}
 use mathlib.Core.Option.{Option}
 use Rattle.limits.specs.Limits.{LimitSet}
 use Rattle.ordered_store.specs.Entries.{Key, encodeEntries, decodeEntries, entryOf}
-use Rattle.prack_list.specs.Lists.{Tracked, cleaned}
-use Rattle.prack_list.specs.Layout.{trackedForm}
+use Rattle.prack_body.specs.Lists.{Tracked, cleaned}
+use Rattle.prack_body.specs.Layout.{trackedForm}
 
 -- the key of what is held: one text, any bytes
 abbrev pub keyOfText : List ℕ → Key

@@ -9,9 +9,9 @@ use lib.Dec.{ltb}
 use Rattle.limits.specs.Limits.{rustLimits}
 use Rattle.text.specs.declared.Span.{Span}
 use Rattle.ordered_store.specs.Seat.{Seat, held, free, seatIn as seatAmong}
-use Rattle.prack_list.specs.Lists.{Tracked}
-use Rattle.prack_list.specs.Layout.{trackedForm}
-use Rattle.prack_list.specs.Places.{trackedPlaces}
+use Rattle.prack_body.specs.Lists.{Tracked}
+use Rattle.prack_body.specs.Layout.{trackedForm}
+use Rattle.prack_body.specs.Places.{trackedPlaces}
 use Rattle.prack_entries.specs.Entries.{keyOfText, keyOf, decodeTracked}
 use Rattle.prack_entries.specs.declared.finding.Count.{Count}
 use Rattle.prack_entries.specs.declared.finding.Count.the-variants as counts

@@ -1,8 +1,8 @@
 // What the used bytes of a store hold: how many texts there are, and where the one that is asked for stands or would go.
 use ordered_store::Order;
-use prack_list::TrackedAt;
-use prack_list::TrackedReading;
-use prack_list::read_tracked;
+use prack_body::TrackedAt;
+use prack_body::TrackedReading;
+use prack_body::read_tracked;
 use text::Span;
 ghost use mathlib.Core.Path.{_≡_};
 ghost use mathlib.Core.List.{_∷_, []};

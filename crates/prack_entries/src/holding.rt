@@ -11,8 +11,8 @@ ghost use Rattle.edit.specs.Edit.{spliced};
 ghost use Rattle.output.specs.Output.{fitted, writtenFrom, leaves};
 ghost use Rattle.record.specs.Codec.{text};
 ghost use Rattle.ordered_store.specs.Entries.{setEntry};
-ghost use Rattle.prack_list.specs.Lists.{Tracked};
-ghost use Rattle.prack_list.specs.Steps.{bodyOf, Holds};
+ghost use Rattle.prack_body.specs.Lists.{Tracked};
+ghost use Rattle.prack_body.specs.Body.{bodyOf, Holds};
 ghost use Rattle.prack_entries.specs.Entries.{keyOf, encodeTracked, cleanFor};
 ghost use Rattle.prack_entries.specs.Places.{Sought};
 
@@ -24,11 +24,11 @@ pub fn clean_copy(seat: Seat, bytes: &[u8], used: usize, time: u64, body: &mut [
 {
     match seat {
         Seat::Held(t) => {
-            let n = prack_list::load(&bytes[..used], t, body);
-            prack_list::clean(body, n, time)
+            let n = prack_body::load(&bytes[..used], t, body);
+            prack_cleaning::clean(body, n, time)
         }
-        Seat::Free(_) => prack_list::begin(body, time),
-        Seat::Broken => prack_list::begin(body, time),
+        Seat::Free(_) => prack_body::begin(body, time),
+        Seat::Broken => prack_body::begin(body, time),
     }
 }
 

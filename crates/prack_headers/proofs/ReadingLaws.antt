@@ -14,9 +14,6 @@ use Rattle.limits.proofs.Laws.{passed, stopped}
 use Rattle.limits.specs.declared.Refusal.{Refusal}
 use Rattle.limits.specs.declared.Refusal.the-variants.{MissingHeader}
 use Rattle.text.specs.Answers.{spanOf}
-use Rattle.text.specs.Number.{numberFrom}
-use Rattle.text.specs.declared.number.Number.{Number}
-use Rattle.text.specs.declared.number.Number.the-variants.{Value, Unreadable}
 use Rattle.text.specs.declared.Span.{Span}
 use Rattle.msg.specs.Block.{HeaderLine, linesOf, firstNamed, valueOf, valueNamed, textOf, partOf, foundOf, blockCause}
 use Rattle.msg.proofs.LookupLaws.{Says, found-at}
@@ -61,12 +58,3 @@ module _ (L : LimitSet) (status : ℕ) (block : List ℕ) {r : Check} (h : r ≡
 pub found-line : (o : Option HeaderLine) {v : Span} {next : ℕ} → foundOf o ≡ At v next → stands o ≡ true
 found-line none e = absurd (let z : _≡_ {A = ℕ} 0 1 = cc in omega arith)
 found-line (some l) e = refl
-
--- what the answer of a number reading says of the number
-pub unreadable : (o : Option ℕ) {r : Number} → r ≡ numberFrom o → r ≡ Unreadable → o ≡ none
-unreadable none h e = refl
-unreadable (some n) h e = absurd (let z : _≡_ {A = ℕ} 0 1 = cc in omega arith)
-
-pub readable : (o : Option ℕ) {r : Number} {n : ℕ} → r ≡ numberFrom o → r ≡ Value n → o ≡ some n
-readable none h e = absurd (let z : _≡_ {A = ℕ} 0 1 = cc in omega arith)
-readable (some m) h e = cc

@@ -1,3 +1,1 @@
-pub mod RAck
 pub mod Sequence
-pub mod Words

@@ -12,7 +12,7 @@ use Rattle.text.specs.Text.{within}
 use Rattle.text.specs.Number.{readNumber}
 use Rattle.msg.specs.Block.{HeaderLine, linesOf, firstNamed, textOf, blockCause}
 use Rattle.methods.specs.Methods.{methodOf}
-use Rattle.prack_headers.specs.Words.{wordAt}
+use Rattle.words.specs.Words.{wordAt}
 use Rattle.prack_headers.specs.declared.MethodAnswer.the-variants as method
 use Rattle.prack_headers.specs.declared.MethodAnswer.{MethodAnswer}
 use Rattle.prack_headers.specs.declared.NumberAnswer.the-variants as number
@@ -46,7 +46,8 @@ abbrev pub stands : Option HeaderLine → Bool
 stands none = false
 stands (some l) = true
 
--- RFC 3262 section 3: a provisional response other than 100 with an RSeq line
+-- a provisional response other than 100 with an RSeq line, readable or not. By RFC 3262 (sections 3 and 4) `Require` with `100rel` makes it reliable, and it then has an RSeq;
+-- here, as in the Rust, the line alone decides
 abbrev pub isReliable : ℕ → List ℕ → Bool
 isReliable status block = within 101 199 status && stands (firstNamed rseqName (linesOf block))
 

@@ -1,4 +1,4 @@
-// CSeq and RSeq of a block, as the Rust's prack_validator.rs reads them; RAck.
+// CSeq and RSeq of a block, as the Rust's prack_validator.rs reads them.
 use limits::Check;
 use limits::Refusal;
 use methods::Method;
@@ -9,16 +9,6 @@ ghost use Rattle.limits.specs.Limits.{rustLimits};
 ghost use Rattle.text.specs.Number.{numberFrom};
 ghost use Rattle.methods.specs.Methods.{methodFrom};
 ghost use Rattle.prack_headers.specs.Sequence.{rseqNumber, cseqNumber, cseqMethod, extractRseq, extractCseqNumber, extractCseqMethod, reliableProvisional, numberAnswer, methodAnswer, reliableAnswer};
-
-mod rack;
-mod words;
-
-pub use rack::RAck;
-pub use rack::RAckAnswer;
-pub use rack::RAckReading;
-pub use rack::format_rack;
-pub use rack::parse_rack;
-pub use rack::read_rack;
 
 // What the reading of a number answers.
 pub enum NumberAnswer {

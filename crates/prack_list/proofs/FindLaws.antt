@@ -10,13 +10,14 @@ use lib.Seq.{drop-drop, drop-length, set-at}
 use lib.Dec.{eqb}
 use borrow.Author.Tests.{eq-eqb, ne-eqb, le-leb}
 use Rattle.record.specs.Codec.{writeAll, four}
-use Rattle.prack_list.specs.Lists.{Pending, Tracked, firstOf, marked, acknowledge}
-use Rattle.prack_list.specs.Layout.{eight, toBit, pendingForm, PendingFormed, AllFormed}
-use Rattle.prack_list.specs.Steps.{bodyOf, Holds, placeFrom, positionAt, positionIn, withList}
-use Rattle.prack_list.specs.declared.body.Position.{Position}
-use Rattle.prack_list.specs.declared.body.Position.the-variants as P
-use Rattle.prack_list.proofs.LayoutLaws.{entries-size}
-use Rattle.prack_list.proofs.BodyLaws.{flag-at, method-at, rseq-at, cseq-at, whole, entries-lie, count-is, none-size, list-size, list-few, list-good, hold, formed-from}
+use Rattle.prack_body.specs.Lists.{Pending, Tracked, firstOf, marked, acknowledge, withList}
+use Rattle.prack_body.specs.Layout.{eight, toBit, pendingForm, PendingFormed, AllFormed}
+use Rattle.prack_body.specs.Body.{bodyOf, Holds}
+use Rattle.prack_list.specs.Steps.{placeFrom, positionAt, positionIn}
+use Rattle.prack_list.specs.declared.finding.Position.{Position}
+use Rattle.prack_list.specs.declared.finding.Position.the-variants as P
+use Rattle.prack_body.proofs.LayoutLaws.{entries-size}
+use Rattle.prack_body.proofs.BodyLaws.{flag-at, method-at, rseq-at, cseq-at, whole, entries-lie, count-is, none-size, list-size, list-few, list-good, hold, formed-from}
 
 -- ---- the entry of a turn
 

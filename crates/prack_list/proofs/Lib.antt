@@ -1,7 +1,3 @@
-pub mod BodyLaws
 pub mod FindLaws
-pub mod LayoutLaws
 pub mod OpenLaws
 pub mod PushLaws
-pub mod ReadLaws
-pub mod SiftLaws

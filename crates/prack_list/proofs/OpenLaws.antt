@@ -10,10 +10,10 @@ use lib.Seq.{getD-drop, drop-length}
 use Rattle.edit.specs.Edit.{putAt, over}
 use Rattle.edit.proofs.EditLaws.{Wrote, wrote-then}
 use Rattle.record.specs.Codec.{two, four}
-use Rattle.prack_list.specs.Lists.{Pending, Tracked, staying, isOpen, entriesOf}
-use Rattle.prack_list.specs.Layout.{toBit, pendingForm}
-use Rattle.prack_list.specs.Steps.{Holds, openBytes}
-use Rattle.prack_list.proofs.BodyLaws.{flag-at, count-is, none-size}
+use Rattle.prack_body.specs.Lists.{Pending, Tracked, staying, isOpen, entriesOf}
+use Rattle.prack_body.specs.Layout.{toBit, pendingForm, openBytes}
+use Rattle.prack_body.specs.Body.{Holds}
+use Rattle.prack_body.proofs.BodyLaws.{flag-at, count-is, none-size}
 use Rattle.prack_list.proofs.FindLaws.{Next, next-in}
 
 -- ---- the entries of a body, with a list or without

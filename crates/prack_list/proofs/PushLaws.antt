@@ -11,12 +11,13 @@ use Rattle.limits.specs.Limits.{rustLimits}
 use Rattle.edit.specs.Edit.{putAt}
 use Rattle.edit.proofs.EditLaws.{Wrote, wrote-then}
 use Rattle.record.specs.Codec.{two, four, writeAll}
-use Rattle.prack_list.specs.Lists.{Pending, Tracked, entriesOf, pushed, registered}
-use Rattle.prack_list.specs.Layout.{eight, pendingForm, listForm, PendingFormed, AllFormed}
-use Rattle.prack_list.specs.Steps.{bodyOf, Holds, Kept, lastOf, pendingOf}
-use Rattle.prack_list.proofs.LayoutLaws.{entries-size}
-use Rattle.prack_list.proofs.BodyLaws.{whole, count-is, none-size, list-size, list-few, list-good, entries-lie, hold, formed-from}
-use Rattle.prack_list.proofs.SiftLaws.{take-put, more-bytes}
+use Rattle.prack_body.specs.Lists.{Pending, Tracked, entriesOf, pushed, registered, pendingOf}
+use Rattle.prack_body.specs.Layout.{eight, pendingForm, listForm, PendingFormed, AllFormed}
+use Rattle.prack_body.specs.Body.{bodyOf, Holds, Kept}
+use Rattle.prack_list.specs.Steps.{lastOf}
+use Rattle.prack_body.proofs.LayoutLaws.{entries-size}
+use Rattle.prack_body.proofs.BodyLaws.{whole, count-is, none-size, list-size, list-few, list-good, entries-lie, hold, formed-from}
+use Rattle.prack_body.proofs.BytesLaws.{take-put, more-bytes}
 
 -- ---- lists
 

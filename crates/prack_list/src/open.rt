@@ -6,9 +6,9 @@ ghost use Prim.Native.Nat.{ℕ, _+_, _-_, _*_, _/_, _≤_};
 ghost use lib.ListN.{length, drop};
 ghost use Rattle.edit.specs.Edit.{putAt, over};
 ghost use Rattle.record.specs.Codec.{two, four};
-ghost use Rattle.prack_list.specs.Lists.{Pending, Tracked, openIn};
-ghost use Rattle.prack_list.specs.Layout.{pendingForm};
-ghost use Rattle.prack_list.specs.Steps.{Holds, openBytes};
+ghost use Rattle.prack_body.specs.Lists.{Pending, Tracked, openIn};
+ghost use Rattle.prack_body.specs.Layout.{pendingForm, openBytes};
+ghost use Rattle.prack_body.specs.Body.{Holds};
 
 // How many bytes they take.
 pub fn open_size(body: &[u8], n: usize) -> usize

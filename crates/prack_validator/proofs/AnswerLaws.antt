@@ -11,18 +11,19 @@ use Rattle.edit.specs.Edit.{over}
 use Rattle.output.specs.Output.{leaves, writtenFrom}
 use Rattle.output.specs.declared.Written.{Written}
 use Rattle.output.specs.declared.Written.the-variants as writing
-use Rattle.prack_headers.specs.declared.rack.RAck.{RAck}
+use Rattle.rack.specs.declared.RAck.{RAck}
 use Rattle.ordered_store.specs.Run.{Left}
 use Rattle.ordered_store.proofs.RunLaws.{keptWith}
 use Rattle.prack_validator.specs.Validator.{Value, flag, written, rackValue}
-use Rattle.prack_validator.specs.Answers.{writtenIn, usedWritten, validatedBy, validatedIn, prackedOf, listedIn, usedListed, outputAfter, verdictOf, validatedOf}
+use Rattle.prack_verdict.specs.Verdict.{verdictOf}
+use Rattle.prack_validator.specs.Answers.{writtenIn, usedWritten, validatedBy, validatedIn, prackedOf, listedIn, usedListed, outputAfter, validatedOf}
 use Rattle.prack_validator.specs.declared.Validated.{Validated}
 use Rattle.prack_validator.specs.declared.Validated.the-variants as validated
 use Rattle.prack_validator.specs.declared.Pracked.{Pracked}
 use Rattle.prack_validator.specs.declared.Pracked.the-variants as pracked
 use Rattle.prack_validator.specs.declared.Listed.{Listed}
 use Rattle.prack_validator.specs.declared.Listed.the-variants as listed
-use Rattle.prack_validator.specs.declared.verdict.Verdict.{Verdict}
+use Rattle.prack_verdict.specs.declared.Verdict.{Verdict}
 use Rattle.prack_validator.proofs.OperationLaws.{leaving, leftBy}
 
 -- ---- what the contracts say of an answer r, the lent bytes afterwards, and a lent output afterwards

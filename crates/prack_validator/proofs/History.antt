@@ -17,22 +17,22 @@ use Rattle.text.specs.Answers.{lengthCause}
 use Rattle.msg.specs.Block.{isBlock, blockCause}
 use Rattle.methods.specs.Methods.{isMethod, methodCause}
 use Rattle.output.specs.Output.{fitted}
-use Rattle.prack_headers.specs.declared.rack.RAck.{RAck}
+use Rattle.rack.specs.declared.RAck.{RAck}
 use Rattle.record.proofs.CodecLaws.{GoodAll}
 use Rattle.ordered_store.specs.Entries.{Key, ascending, entryOf, setEntry}
 use Rattle.ordered_store.specs.Run.{Decided}
 use Rattle.ordered_store.specs.History.{EachSent, EachTyped, content, Follows, lending}
 use Rattle.ordered_store.proofs.EntryLaws.{set-ascends, without-ascends, set-good, without-good, found-good, found-key, set-again}
 use Rattle.ordered_store.proofs.HistoryLaws.{each-typed, Sound, Keeps, Stands, same-answer, settled, sound, stands, follows}
-use Rattle.prack_list.specs.Lists.{Pending, Tracked, stays, staying, cleanedList, isDue, cleaned, entriesOf, pushed, registered, firstOf, marked, isOther, withoutPracked, openIn}
-use Rattle.prack_list.specs.Layout.{trackedForm, PendingFormed, AllFormed, isShort, ListFormed, TrackedFormed}
-use Rattle.prack_list.specs.Steps.{withList, openBytes}
-use Rattle.prack_list.proofs.BodyLaws.{formed-from, staying-formed, staying-short}
+use Rattle.prack_body.specs.Lists.{Pending, Tracked, stays, staying, cleanedList, isDue, cleaned, entriesOf, pushed, registered, firstOf, marked, isOther, withoutPracked, openIn, withList}
+use Rattle.prack_body.specs.Layout.{trackedForm, PendingFormed, AllFormed, isShort, ListFormed, TrackedFormed, openBytes}
+use Rattle.prack_body.proofs.BodyLaws.{formed-from, staying-formed, staying-short}
 use Rattle.prack_list.proofs.PushLaws.{more-formed}
 use Rattle.prack_list.proofs.FindLaws.{marked-formed, marked-many}
 use Rattle.prack_entries.specs.Entries.{keyOfText, keyOf, heldFor, cleanFor}
 use Rattle.prack_entries.proofs.PlaceLaws.{exact, filled}
-use Rattle.prack_validator.specs.Validator.{Action, register, validate, isPracked, getPending, removeDialog, removePracked, Call, Value, written, actionCause, rackIn, matched, judged, markedBy, rackValue, deciding, judgedFor, markedFor, pruned, judge, Typed, calls}
+use Rattle.prack_verdict.specs.Verdict.{rackIn, matched, judged, markedBy}
+use Rattle.prack_validator.specs.Validator.{Action, register, validate, isPracked, getPending, removeDialog, removePracked, Call, Value, written, actionCause, rackValue, deciding, judgedFor, markedFor, pruned, judge, Typed, calls}
 use Rattle.prack_validator.specs.History.{held, store, Repeats, Sendable, PrackHistory}
 
 abbrev Good : Tracked → Type 0

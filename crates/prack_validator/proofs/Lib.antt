@@ -1,4 +1,3 @@
 pub mod AnswerLaws
 pub mod History
 pub mod OperationLaws
-pub mod VerdictLaws

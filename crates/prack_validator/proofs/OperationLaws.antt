@@ -23,12 +23,13 @@ use Rattle.record.proofs.CodecLaws.{Bytes, bytes-take}
 use Rattle.ordered_store.specs.Entries.{setEntry, withoutEntry}
 use Rattle.ordered_store.specs.Run.{Left}
 use Rattle.ordered_store.proofs.RunLaws.{keptWith, way-arguments, way-over, way-unread, way-judged, way-full, way-taken}
-use Rattle.prack_list.specs.Lists.{Pending, Tracked, cleaned, cleanedList, isDue, entriesOf, firstOf, isAcknowledged, registered, openIn}
-use Rattle.prack_list.specs.Layout.{trackedForm}
-use Rattle.prack_list.specs.Steps.{Holds, positionIn, openBytes}
-use Rattle.prack_list.specs.declared.TrackedAt.{TrackedAt}
-use Rattle.prack_list.specs.declared.body.Position.the-variants as position
-use Rattle.prack_list.proofs.BodyLaws.{loaded}
+use Rattle.prack_body.specs.Lists.{Pending, Tracked, cleaned, cleanedList, isDue, entriesOf, firstOf, isAcknowledged, registered, openIn}
+use Rattle.prack_body.specs.Layout.{trackedForm, openBytes}
+use Rattle.prack_body.specs.Body.{Holds}
+use Rattle.prack_list.specs.Steps.{positionIn}
+use Rattle.prack_body.specs.declared.TrackedAt.{TrackedAt}
+use Rattle.prack_list.specs.declared.finding.Position.the-variants as position
+use Rattle.prack_body.proofs.BodyLaws.{loaded}
 use Rattle.prack_list.proofs.FindLaws.{position-found, position-no-list, position-unknown}
 use Rattle.prack_entries.specs.Entries.{keyOfText, keyOf, encodeTracked, heldFor, cleanFor}
 use Rattle.prack_entries.specs.Places.{seatUsed, Sought}

@@ -8,7 +8,7 @@ use Rattle.limits.specs.Outcome.{Outcome, refused, given}
 use Rattle.edit.specs.Edit.{over}
 use Rattle.output.specs.declared.Written.{Written}
 use Rattle.output.specs.declared.Written.the-variants as writing
-use Rattle.prack_headers.specs.declared.rack.RAck.{RAck}
+use Rattle.rack.specs.declared.RAck.{RAck}
 use Rattle.ordered_store.specs.Run.{Left}
 use Rattle.prack_validator.specs.Validator.{Value, noValue, rack, flag, written}
 use Rattle.prack_validator.specs.declared.Validated.{Validated}
@@ -17,8 +17,8 @@ use Rattle.prack_validator.specs.declared.Pracked.{Pracked}
 use Rattle.prack_validator.specs.declared.Pracked.the-variants as pracked
 use Rattle.prack_validator.specs.declared.Listed.{Listed}
 use Rattle.prack_validator.specs.declared.Listed.the-variants as listed
-use Rattle.prack_validator.specs.declared.verdict.Verdict.{Verdict}
-use Rattle.prack_validator.specs.declared.verdict.Verdict.the-variants as verdict
+use Rattle.prack_verdict.specs.declared.Verdict.{Verdict}
+use Rattle.prack_verdict.specs.declared.Verdict.the-variants as verdict
 
 -- ---- values: each keeps what it was except where its answer is given
 
@@ -98,11 +98,7 @@ usedListed (listed.Is n after) used = after
 
 -- ---- steps of the code
 
--- a PRACK held against a list
-abbrev pub verdictOf : Outcome RAck → Verdict
-verdictOf (refused cause) = verdict.Refused cause
-verdictOf (given k) = verdict.Accepted k
-
+-- a verdict on a PRACK, beside the new used length
 abbrev pub validatedOf : Verdict → ℕ → Validated
 validatedOf (verdict.Refused cause) used = validated.Refused cause used
 validatedOf (verdict.Accepted k) used = validated.Is k used

@@ -10,12 +10,13 @@ use Rattle.limits.specs.Limits.{LimitSet}
 use Rattle.limits.specs.Outcome.{refused}
 use Rattle.limits.specs.declared.Refusal.the-variants.{DuplicatePrack}
 use Rattle.msg.specs.Block.{isBlock}
-use Rattle.prack_headers.specs.declared.rack.RAck.{RAck}
+use Rattle.rack.specs.declared.RAck.{RAck}
 use Rattle.ordered_store.specs.History.{World, Follows, content, world, lending}
-use Rattle.prack_list.specs.Lists.{Pending, Tracked, firstOf}
-use Rattle.prack_list.specs.Layout.{trackedForm}
+use Rattle.prack_body.specs.Lists.{Pending, Tracked, firstOf}
+use Rattle.prack_body.specs.Layout.{trackedForm}
 use Rattle.prack_entries.specs.Entries.{keyOf, heldFor, cleanFor}
-use Rattle.prack_validator.specs.Validator.{validate, Call, rackIn, calls}
+use Rattle.prack_verdict.specs.Verdict.{rackIn}
+use Rattle.prack_validator.specs.Validator.{validate, Call, calls}
 
 -- what is held after a list of calls, and the store
 abbrev pub held : LimitSet → List Call → List Tracked

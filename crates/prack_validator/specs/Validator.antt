@@ -1,30 +1,27 @@
 -- PrackValidator (RFC 3262 section 3: a PRACK is held against the reliable provisional responses that wait for one), on a lent store of its own. Document 01,
 -- "Intervals, PRACK, RSeq" and "Turned back": registering, validating (refused too) and `get_pending` clean, no other call does; 19 to 24 keep the cleaned
--- list; 18 comes before 19 where what the cleanup adds has no bytes left, and then nothing is changed. A PRACK that matches no response that waits is refused,
--- as in the RFC; which of 20 to 24 is given is the Rust's. Departures from the RFC (any RSeq registered in any order, up to ten that wait, 300 s that each is
--- kept, a repeated PRACK refused): docs/DIFFERENCES.md, "RFC 3262, PRACK lists".
+-- list; 18 comes before 19 where what the cleanup adds has no bytes left, and then nothing is changed. How a PRACK is judged: prack_verdict/specs/Verdict.antt. By the
+-- RFC only 101 to 199 of an INVITE are registered, and a PRACK that is refused changes nothing; here, as in the Rust, any code and method are, and it cleans
+-- (all departures: docs/DIFFERENCES.md, "RFC 3262, PRACK lists").
 use Prim.Native.Nat.{ℕ, _<_}
-use mathlib.Core.Bool.{Bool, not}
-use mathlib.Core.List.{List, [], _∷_}
+use mathlib.Core.Bool.{Bool}
+use mathlib.Core.List.{List}
 use mathlib.Core.Option.{Option, none, some}
-use lib.Dec.{eqb}
 use Rattle.limits.specs.Limits.{LimitSet}
-use Rattle.limits.specs.Outcome.{Outcome, refused, given, orElse, refuseIf, andThen, orRefuse}
+use Rattle.limits.specs.Outcome.{Outcome, refused, given, orElse, andThen}
 use Rattle.limits.specs.declared.Refusal.{Refusal}
-use Rattle.limits.specs.declared.Refusal.the-variants.{InvalidRAck, NoPendingList, UnknownRSeq, RAckCSeqMismatch, RAckMethodMismatch, DuplicatePrack}
 use Rattle.text.specs.Answers.{lengthCause}
-use Rattle.msg.specs.Block.{linesOf, firstNamed, textOf, blockCause}
+use Rattle.msg.specs.Block.{blockCause}
 use Rattle.methods.specs.Methods.{methodCause}
 use Rattle.output.specs.Output.{fitted}
-use Rattle.prack_headers.specs.RAck.{readRack}
-use Rattle.prack_headers.specs.declared.rack.RAck.{RAck}
+use Rattle.rack.specs.declared.RAck.{RAck}
 use Rattle.ordered_store.specs.Entries.{setEntry, withoutEntry}
 use Rattle.ordered_store.specs.Run.{Decided, Left, run}
 use Rattle.ordered_store.specs.History.{Calls}
-use Rattle.prack_list.specs.Lists.{Pending, Tracked, registered, entriesOf, firstOf, marked, isAcknowledged, withoutPracked, openIn}
-use Rattle.prack_list.specs.Layout.{trackedForm}
-use Rattle.prack_list.specs.Steps.{withList, openBytes}
+use Rattle.prack_body.specs.Lists.{Pending, Tracked, registered, entriesOf, firstOf, isAcknowledged, withoutPracked, openIn, withList}
+use Rattle.prack_body.specs.Layout.{trackedForm, openBytes}
 use Rattle.prack_entries.specs.Entries.{keyOfText, keyOf, heldFor, cleanFor}
+use Rattle.prack_verdict.specs.Verdict.{rackIn, judged, markedBy}
 
 -- ---- the calls
 
@@ -57,38 +54,11 @@ actionCause L (getPending id time room) = lengthCause L id
 actionCause L (removeDialog id) = lengthCause L id
 actionCause L (removePracked id r) = lengthCause L id
 
--- ---- a PRACK held against a list
-
--- `RAck`
-abbrev pub rackName : List ℕ
-rackName = 82 ∷ 65 ∷ 99 ∷ 107 ∷ []
-
--- the RAck of a block: the first line of that name, if all its parts can be read
-abbrev pub rackIn : List ℕ → Option RAck
-rackIn block = readRack (textOf (firstNamed rackName (linesOf block)))
-
--- 22, 23, 24: the first entry of the RSeq decides
-abbrev pub matched : RAck → Pending → Outcome RAck
-matched k p =
-    refuseIf (not (eqb (p .cseq) (k .cseq))) RAckCSeqMismatch
-    (refuseIf (not (eqb (p .method) (k .method))) RAckMethodMismatch
-    (refuseIf (p .acknowledged) DuplicatePrack (given k)))
-
--- 19, 20, 21, then 22 to 24
-unfoldable pub judged : Option RAck → Option (List Pending) → Outcome RAck
-judged o list = andThen (orRefuse InvalidRAck o) (λ k. andThen (orRefuse NoPendingList list) (λ ps. andThen (orRefuse UnknownRSeq (firstOf (k .rseq) ps)) (λ p. matched k p)))
-
--- the list after it: marked where the PRACK is accepted
-abbrev pub markedBy : Outcome RAck → Option (List Pending) → Option (List Pending)
-markedBy (refused cause) list = list
-markedBy (given k) none = none
-markedBy (given k) (some ps) = some (marked (k .rseq) ps)
+-- ---- what each call decides
 
 abbrev pub rackValue : Outcome RAck → Outcome Value
 rackValue (refused cause) = refused cause
 rackValue (given k) = given (rack k)
-
--- ---- what each call decides
 
 abbrev pub deciding : List Tracked → Outcome Value → Outcome (Decided Tracked Value)
 deciding ts a = given (record { entries = ts; answer = a })

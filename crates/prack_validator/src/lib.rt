@@ -1,6 +1,5 @@
-// PrackValidator: the reliable provisional responses that wait for their PRACK, in a lent store of which so many bytes are used.
-use crate::verdict::Verdict;
-use crate::verdict::hold_against;
+// PrackValidator: the reliable provisional responses that wait for their PRACK, in a lent store of which so many bytes are used. The calls that remove are in
+// `prack_removal`.
 use limits::Check;
 use limits::Refusal;
 use output::Written;
@@ -8,16 +7,16 @@ use prack_entries::Seat;
 use prack_entries::clean_copy;
 use prack_entries::find;
 use prack_entries::set;
-use prack_headers::RAck;
 use prack_list::Position;
+use prack_verdict::Verdict;
+use prack_verdict::hold_against;
+use rack::RAck;
 ghost use mathlib.Core.Path.{_≡_};
 ghost use lib.ListN.{length};
 ghost use Rattle.limits.specs.Limits.{rustLimits};
-ghost use Rattle.prack_list.specs.Steps.{pendingOf};
-ghost use Rattle.prack_validator.specs.Validator.{register, validate, isPracked, getPending, removeDialog, removePracked, ran};
+ghost use Rattle.prack_body.specs.Lists.{pendingOf};
+ghost use Rattle.prack_validator.specs.Validator.{register, validate, isPracked, getPending, ran};
 ghost use Rattle.prack_validator.specs.Answers.{writtenIn, usedWritten, validatedIn, prackedOf, listedIn, usedListed, outputAfter, validatedOf};
-
-mod verdict;
 
 // The RAck that was accepted, or the cause; and the new used length, since a refused PRACK keeps the cleaned list.
 pub enum Validated {
@@ -137,47 +136,6 @@ pub fn get_pending(id: &[u8], time: u64, bytes: &mut [u8], used: usize, out: &mu
     match set(id, seat, &body[..n], bytes, used) {
         Written::Length(after) => Listed::Is(prack_list::open_bytes(&body, n, out), after),
         Written::Refused(x) => Listed::Refused(x),
-    }
-}
-
-// PrackValidator::remove_dialog: 1, 3. Nothing held: nothing changes. The new used length.
-pub fn remove_dialog(id: &[u8], bytes: &mut [u8], used: usize) -> Written
-    ensures { λ r. ⌜ r ≡ writtenIn (ran rustLimits (removeDialog (now (id .entry))) (now (bytes .entry)) used) ⌝ }
-    ensures { λ _. ⌜ now (bytes .exit) ≡ ran rustLimits (removeDialog (now (id .entry))) (now (bytes .entry)) used .bytes ⌝ }
-    ensures { λ r. ⌜ usedWritten r used ≡ ran rustLimits (removeDialog (now (id .entry))) (now (bytes .entry)) used .used ⌝ }
-{
-    if text::too_long(id) {
-        return Written::Refused(Refusal::TextTooLong);
-    }
-    match find(id, bytes, used) {
-        Seat::Held(t) => {
-            let at = t.id.start - 2;
-            Written::Length(edit::replace(bytes, used, at, t.end - at, b""))
-        }
-        Seat::Free(_) => Written::Length(used),
-        Seat::Broken => Written::Refused(Refusal::BadStore),
-    }
-}
-
-// PrackValidator::remove_pracked: 1, 3. The acknowledged entries of an RSeq go; an emptied list stands. The new used length.
-pub fn remove_pracked(id: &[u8], rseq: u32, bytes: &mut [u8], used: usize) -> Written
-    ensures { λ r. ⌜ r ≡ writtenIn (ran rustLimits (removePracked (now (id .entry)) rseq) (now (bytes .entry)) used) ⌝ }
-    ensures { λ _. ⌜ now (bytes .exit) ≡ ran rustLimits (removePracked (now (id .entry)) rseq) (now (bytes .entry)) used .bytes ⌝ }
-    ensures { λ r. ⌜ usedWritten r used ≡ ran rustLimits (removePracked (now (id .entry)) rseq) (now (bytes .entry)) used .used ⌝ }
-{
-    if text::too_long(id) {
-        return Written::Refused(Refusal::TextTooLong);
-    }
-    let seat = find(id, bytes, used);
-    match seat {
-        Seat::Held(t) => {
-            let mut body = [0u8; 210];
-            let n = prack_list::load(&bytes[..used], t, &mut body);
-            let m = prack_list::prune(&mut body, n, rseq);
-            set(id, seat, &body[..m], bytes, used)
-        }
-        Seat::Free(_) => Written::Length(used),
-        Seat::Broken => Written::Refused(Refusal::BadStore),
     }
 }
 

@@ -23,18 +23,19 @@ use Rattle.record.specs.Codec.{four}
 use Rattle.record.proofs.CodecLaws.{Bytes}
 use Rattle.ordered_store.specs.Entries.{decodeEntries}
 use Rattle.ordered_store.specs.Run.{Left}
-use Rattle.rseq_manager.specs.RSeq.{Ident, keyOfIdent, Entry, keyOf, entryForm, firstNumber, nextNumber, next, current, remove, len, identCause, actionCause, numbered, judge, ran}
+use Rattle.rseq_entries.specs.Entries.{Ident, keyOfIdent, Entry, keyOf, entryForm}
+use Rattle.rseq_manager.specs.RSeq.{firstNumber, nextNumber, next, current, remove, len, identCause, actionCause, numbered, judge, ran}
 use Rattle.rseq_manager.specs.Answers.{numberedIn, usedAfter, numberedFrom, writtenIn, usedWritten, currentOf, countedOf, emptiness}
-use Rattle.rseq_manager.specs.Places.{countOf, seatUsed}
+use Rattle.rseq_entries.specs.Places.{countOf, seatUsed}
 use Rattle.rseq_manager.specs.declared.Numbered.{Numbered}
 use Rattle.rseq_manager.specs.declared.Numbered.the-variants as numbers
 use Rattle.rseq_manager.specs.declared.Current.{Current}
 use Rattle.rseq_manager.specs.declared.Current.the-variants as currents
 use Rattle.rseq_manager.specs.declared.Counted.{Counted}
 use Rattle.rseq_manager.specs.declared.Counted.the-variants as counteds
-use Rattle.rseq_manager.specs.declared.finding.Count.the-variants as counts
-use Rattle.rseq_manager.specs.declared.finding.Seat.the-variants as seats
-use Rattle.rseq_manager.proofs.SeatLaws.{holds, lacks, unreadable, not-read}
+use Rattle.rseq_entries.specs.declared.finding.Count.the-variants as counts
+use Rattle.rseq_entries.specs.declared.finding.Seat.the-variants as seats
+use Rattle.rseq_entries.proofs.SeatLaws.{holds, lacks, unreadable, not-read}
 use Rattle.rseq_manager.proofs.OperationLaws.{accepted, by-arguments, by-store, by-keeping, current-held, current-free, remove-held, remove-free, next-held, next-free, leftBy}
 
 -- ---- the arguments

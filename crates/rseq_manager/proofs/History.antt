@@ -13,8 +13,9 @@ use Rattle.ordered_store.specs.Run.{Decided}
 use Rattle.ordered_store.specs.History.{EachSent, EachTyped, content, Follows}
 use Rattle.ordered_store.proofs.EntryLaws.{set-ascends, without-ascends, set-good, without-good, found-good}
 use Rattle.ordered_store.proofs.HistoryLaws.{Sound, Keeps, sound, follows}
-use Rattle.rseq_manager.specs.RSeq.{Ident, keyOfIdent, Entry, keyOf, entryForm, WellFormed, numberAfter, Action, next, current, remove, len, Call, identCause, actionCause, deciding, numbered, judge, calls}
-use Rattle.rseq_manager.proofs.FormLaws.{form-exact, filled}
+use Rattle.rseq_entries.specs.Entries.{Ident, keyOfIdent, Entry, keyOf, entryForm, WellFormed}
+use Rattle.rseq_manager.specs.RSeq.{numberAfter, Action, next, current, remove, len, Call, identCause, actionCause, deciding, numbered, judge, calls}
+use Rattle.rseq_entries.proofs.FormLaws.{form-exact, filled}
 use Rattle.rseq_manager.proofs.AnswerLaws.{shorts}
 
 -- a number that a call gives is never 0, and has four bytes

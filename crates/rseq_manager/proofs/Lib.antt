@@ -1,11 +1,4 @@
 pub mod AnswerLaws
-pub mod CountLaws
-pub mod FormLaws
 pub mod History
-pub mod KeyLaws
 pub mod OperationLaws
-pub mod PlaceLaws
-pub mod ReadLaws
-pub mod SearchLaws
-pub mod SeatLaws
 pub mod WriteLaws

@@ -24,9 +24,10 @@ use Rattle.ordered_store.specs.Run.{Left}
 use Rattle.ordered_store.proofs.BytesLaws.{decoded}
 use Rattle.ordered_store.proofs.EntryLaws.{instead, Held, Free, held-at, free-at, held-entry, held-key, whole, at-front, held-parts, held-without, held-within, free-entry, free-without, free-set, free-within}
 use Rattle.ordered_store.proofs.RunLaws.{keptWith, way-arguments, way-over, way-unread, way-judged, way-full, way-taken}
-use Rattle.rseq_manager.specs.RSeq.{Ident, keyOfIdent, Entry, keyOf, entryForm, WellFormed, firstNumber, nextNumber, numberAfter, Action, next, current, remove, actionCause, deciding, numbered, judge, ran}
-use Rattle.rseq_manager.proofs.FormLaws.{form-exact, entry-size}
-use Rattle.rseq_manager.proofs.SeatLaws.{Holds, Lacks, Unreadable}
+use Rattle.rseq_entries.specs.Entries.{Ident, keyOfIdent, Entry, keyOf, entryForm, WellFormed}
+use Rattle.rseq_manager.specs.RSeq.{firstNumber, nextNumber, numberAfter, Action, next, current, remove, actionCause, deciding, numbered, judge, ran}
+use Rattle.rseq_entries.proofs.FormLaws.{form-exact, entry-size}
+use Rattle.rseq_entries.proofs.SeatLaws.{Holds, Lacks, Unreadable}
 
 -- ---- bytes
 

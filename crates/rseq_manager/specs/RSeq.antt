@@ -1,66 +1,20 @@
 -- RSeqManager: the RSeq number of each dialog (RFC 3262 section 3), in a lent store of their own. Document 01, "Intervals, PRACK, RSeq": "RSeq starts at (n's
--- low 31 bits, at least 1) for a caller's n, then rises by one and stops at 4,294,967,295". Its layout: docs/LAYOUTS.md, "The RSeq store".
-use Prim.Native.Nat.{ℕ, _+_, _-_, _%_, _<_, min, max}
-use mathlib.Core.Bool.{Bool, cond}
-use mathlib.Core.List.{List, [], _∷_}
+-- low 31 bits, at least 1) for a caller's n, then rises by one and stops at 4,294,967,295". What the store holds is in rseq_entries/specs/Entries.antt.
+use Prim.Native.Nat.{ℕ, _+_, _%_, min, max}
+use mathlib.Core.Bool.{cond}
+use mathlib.Core.List.{List}
 use mathlib.Core.Option.{Option, none, some}
 use lib.ListN.{length}
-use lib.Dec.{eqb, ltb}
+use lib.Dec.{eqb}
 use Rattle.limits.specs.Limits.{LimitSet}
 use Rattle.limits.specs.Outcome.{Outcome, given, orElse, andThen, orRefuse}
 use Rattle.limits.specs.declared.Refusal.{Refusal}
 use Rattle.limits.specs.declared.Refusal.the-variants.{NotFound}
 use Rattle.text.specs.Answers.{lengthCause}
-use Rattle.record.specs.Codec.{Codec, Pair, then, such, mapped, four, text}
-use Rattle.ordered_store.specs.Entries.{Key, entryOf, setEntry, withoutEntry}
+use Rattle.ordered_store.specs.Entries.{entryOf, setEntry, withoutEntry}
 use Rattle.ordered_store.specs.Run.{Decided, Left, run}
 use Rattle.ordered_store.specs.History.{Calls}
-
--- an identifier: three texts, any bytes
-pub record Ident : Type 0 where
-  pub callId : List ℕ
-  pub localTag : List ℕ
-  pub remoteTag : List ℕ
-
-abbrev pub ident : List ℕ → List ℕ → List ℕ → Ident
-ident callId localTag remoteTag = record { callId = callId; localTag = localTag; remoteTag = remoteTag }
-
--- Call-ID first, then the local tag, then the remote one
-abbrev pub keyOfIdent : Ident → Key
-keyOfIdent i = i .callId ∷ i .localTag ∷ i .remoteTag ∷ []
-
--- the number of a dialog, never 0
-pub record Entry : Type 0 where
-  pub id : Ident
-  pub number : ℕ
-
-abbrev pub keyOf : Entry → Key
-keyOf e = keyOfIdent (e .id)
-
--- ---- the layout: three texts with two length bytes each, then four bytes
-
-abbrev pub isPositive : ℕ → Bool
-isPositive n = ltb 0 n
-
-abbrev pub parts : Codec (Pair (List ℕ) (Pair (List ℕ) (Pair (List ℕ) ℕ)))
-parts = then text (then text (then text (such four isPositive)))
-
-abbrev pub entryFrom : Pair (List ℕ) (Pair (List ℕ) (Pair (List ℕ) ℕ)) → Entry
-entryFrom p = record { id = ident (p .first) (p .second .first) (p .second .second .first); number = p .second .second .second }
-
-abbrev pub partsOf : Entry → Pair (List ℕ) (Pair (List ℕ) (Pair (List ℕ) ℕ))
-partsOf e = record { first = e .id .callId; second = record { first = e .id .localTag; second = record { first = e .id .remoteTag; second = e .number } } }
-
-abbrev pub entryForm : Codec Entry
-entryForm = mapped entryFrom partsOf parts
-
--- an entry that has an image
-pub record WellFormed (e : Entry) : Type 0 where
-  pub call-short : length (e .id .callId) < 65536
-  pub local-short : length (e .id .localTag) < 65536
-  pub remote-short : length (e .id .remoteTag) < 65536
-  pub positive : 0 < e .number
-  pub fits : e .number < 4294967296
+use Rattle.rseq_entries.specs.Entries.{Ident, keyOfIdent, Entry, keyOf, entryForm}
 
 -- ---- the numbers
 

@@ -1,21 +1,20 @@
 // RSeqManager: the RSeq number of each dialog, in a lent store of which so many bytes are used.
-use crate::finding::Count;
-use crate::finding::Seat;
-use crate::finding::count_entries;
-use crate::finding::find;
 use crate::writing::insert;
 use crate::writing::write_number;
 use limits::Check;
 use limits::Refusal;
 use output::Written;
+use rseq_entries::Count;
+use rseq_entries::Seat;
+use rseq_entries::count_entries;
+use rseq_entries::find;
 ghost use mathlib.Core.Path.{_≡_};
 ghost use Rattle.limits.specs.Limits.{rustLimits};
 ghost use Rattle.limits.specs.Outcome.{checkOf};
-ghost use Rattle.rseq_manager.specs.RSeq.{ident, identCause, firstNumber, nextNumber, next, current, remove, len, ran};
+ghost use Rattle.rseq_entries.specs.Entries.{ident};
+ghost use Rattle.rseq_manager.specs.RSeq.{identCause, firstNumber, nextNumber, next, current, remove, len, ran};
 ghost use Rattle.rseq_manager.specs.Answers.{numberedIn, usedAfter, writtenIn, usedWritten, currentOf, countedOf, emptiness};
 
-mod entries;
-mod finding;
 mod writing;
 
 // The number, and the new used length.

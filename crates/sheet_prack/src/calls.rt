@@ -1,9 +1,9 @@
 // Each call on a PRACK store, and its line. A call that may change the store hands out its new used length.
 use output::Written;
-use prack_headers::RAckAnswer;
 use prack_validator::Listed;
 use prack_validator::Pracked;
 use prack_validator::Validated;
+use rack::RAckAnswer;
 use sheet_lines::end_line;
 use sheet_lines::first;
 use sheet_lines::show;
@@ -137,14 +137,14 @@ pub fn remove_pracked(place: &[u8], id: &[u8], rseq: u32, bytes: &mut [u8], used
     begin(place, b"remove_pracked", id);
     tell(b", RSeq ", rseq as u64);
     show(b": ");
-    let w = prack_validator::remove_pracked(id, rseq, bytes, used);
+    let w = prack_removal::remove_pracked(id, rseq, bytes, used);
     changed(w, bytes, used)
 }
 
 pub fn remove_dialog(place: &[u8], id: &[u8], bytes: &mut [u8], used: usize) -> usize {
     begin(place, b"remove_dialog", id);
     show(b": ");
-    let w = prack_validator::remove_dialog(id, bytes, used);
+    let w = prack_removal::remove_dialog(id, bytes, used);
     changed(w, bytes, used)
 }
 

@@ -129,7 +129,7 @@ fn reliable(place: &[u8], status: u16, block: &[u8]) {
 
 fn rack(place: &[u8], value: &[u8]) {
     ask(place, b"RAck ", value);
-    show_rack(prack_headers::parse_rack(value));
+    show_rack(rack::parse_rack(value));
     end_line();
 }
 
@@ -143,7 +143,7 @@ fn written(place: &[u8], rseq: u32, cseq: u32, method: u8) {
     show_decimal(method as u64);
     show(b": ");
     let mut out = [0u8; 40];
-    let w = prack_headers::format_rack(rseq, cseq, method, &mut out);
+    let w = rack::format_rack(rseq, cseq, method, &mut out);
     show_written(&out, w);
     end_line();
 }

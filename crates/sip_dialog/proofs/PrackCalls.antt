@@ -12,12 +12,12 @@ use denote.Ref.{RefT}
 use Rattle.limits.specs.Limits.{rustLimits}
 use Rattle.limits.specs.Outcome.{Outcome, numberIn}
 use Rattle.msg.specs.Block.{isBlock}
-use Rattle.prack_headers.specs.declared.rack.RAck.{RAck}
+use Rattle.rack.specs.declared.RAck.{RAck}
 use Rattle.ordered_store.specs.Run.{Returns}
 use Rattle.ordered_store.specs.History.{World, contentAnswers, Seen, EachShows, Made, one-more, KeepsContracts}
 use Rattle.ordered_store.proofs.HistoryLaws.{made-sent, made-follows}
-use Rattle.prack_list.specs.Layout.{trackedForm, TrackedFormed}
-use Rattle.prack_list.specs.Steps.{pendingOf}
+use Rattle.prack_body.specs.Layout.{trackedForm, TrackedFormed}
+use Rattle.prack_body.specs.Lists.{pendingOf}
 use Rattle.prack_entries.specs.Entries.{keyOf}
 use Rattle.prack_entries.proofs.PlaceLaws.{exact, filled}
 use Rattle.prack_validator.specs.Validator.{Action, register, validate, isPracked, getPending, removeDialog, removePracked, Call, Value, ran, Typed, calls}

@@ -14,9 +14,10 @@ use Rattle.ordered_store.specs.Entries.{entryOf}
 use Rattle.ordered_store.specs.Run.{Returns}
 use Rattle.ordered_store.specs.History.{World, content, contentAnswers, world, Follows, Seen, EachShows, Made, KeepsContracts}
 use Rattle.ordered_store.proofs.HistoryLaws.{made-follows}
-use Rattle.rseq_manager.specs.RSeq.{Ident, ident, keyOfIdent, Entry, keyOf, entryForm, WellFormed, Action, next, current, remove, len, Call, ran, calls}
+use Rattle.rseq_entries.specs.Entries.{Ident, ident, keyOfIdent, Entry, keyOf, entryForm, WellFormed}
+use Rattle.rseq_manager.specs.RSeq.{Action, next, current, remove, len, Call, ran, calls}
 use Rattle.rseq_manager.specs.Answers.{emptiness}
-use Rattle.rseq_manager.proofs.FormLaws.{form-exact, filled}
+use Rattle.rseq_entries.proofs.FormLaws.{form-exact, filled}
 use Rattle.rseq_manager.proofs.History.{keeps, never-zero}
 use Rattle.c_rseq_answers.specs.Given.{valueAfter}
 use Rattle.sip_dialog.proofs.rseq.sip_dialog_rseq_next.Reads as next-reads

@@ -10,7 +10,7 @@ ghost use lib.ListN.{length};
 ghost use Rattle.limits.specs.Limits.{rustLimits};
 ghost use Rattle.prack_headers.specs.Sequence.{numberAnswer, methodAnswer, reliableAnswer, extractCseqNumber, extractCseqMethod, extractRseq, reliableProvisional};
 ghost use Rattle.methods.specs.Methods.{methodLookup, methodNumber, methodText};
-ghost use Rattle.prack_headers.specs.RAck.{rackAnswer, parseRack, formatRack};
+ghost use Rattle.rack.specs.RAck.{rackAnswer, parseRack, formatRack};
 ghost use Rattle.output.specs.Output.{writtenFrom, leaves};
 ghost use Rattle.c_answers.specs.Given.{NumberGives, MethodGives, ReliableGives, MethodLookupGives, WrittenGives, RackGives};
 
@@ -80,7 +80,7 @@ pub extern "C" fn sip_dialog_parse_rack(
 ) -> u8
     ensures { λ r. ⌜ RackGives (rackAnswer (parseRack rustLimits (now (value .entry)))) (record { rseq = now (rseq .entry); cseq = now (cseq .entry); method = now (method .entry) }) r (record { rseq = now (rseq .exit); cseq = now (cseq .exit); method = now (method .exit) }) ⌝ }
 {
-    give_rack(prack_headers::parse_rack(value), rseq, cseq, method)
+    give_rack(rack::parse_rack(value), rseq, cseq, method)
 }
 
 // A RAck value at the front of the lent bytes: 28, 18.
@@ -95,5 +95,5 @@ pub extern "C" fn sip_dialog_format_rack(
     ensures { λ r. ⌜ WrittenGives (writtenFrom (formatRack rseq cseq method (length (now (out .entry))))) (now (written .entry)) r (now (written .exit)) ⌝ }
     ensures { λ _. ⌜ now (out .exit) ≡ leaves (formatRack rseq cseq method (length (now (out .entry)))) (now (out .entry)) ⌝ }
 {
-    give_written(prack_headers::format_rack(rseq, cseq, method, out), written)
+    give_written(rack::format_rack(rseq, cseq, method, out), written)
 }

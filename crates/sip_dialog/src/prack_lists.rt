@@ -8,7 +8,7 @@ ghost use mathlib.Core.Path.{_≡_};
 ghost use lib.ListN.{length};
 ghost use Rattle.limits.specs.Limits.{rustLimits};
 ghost use Rattle.ordered_store.specs.Run.{Returns};
-ghost use Rattle.prack_list.specs.Steps.{pendingOf};
+ghost use Rattle.prack_body.specs.Lists.{pendingOf};
 ghost use Rattle.prack_validator.specs.Validator.{register, validate, isPracked, getPending, removeDialog, removePracked, ran, Typed};
 ghost use Rattle.prack_validator.specs.Answers.{rackAfter, lengthAfter, outputAfter};
 ghost use Rattle.c_prack_answers.specs.Given.{rackOf, prackedAfter};
@@ -105,7 +105,7 @@ pub extern "C" fn sip_dialog_prack_remove_dialog(
 ) -> u8
     ensures { λ r. ⌜ Returns (ran rustLimits (removeDialog (now (id .entry))) (now (store .entry)) (now (used .entry))) (now (store .exit)) (now (used .exit)) r ⌝ }
 {
-    give_written(prack_validator::remove_dialog(id, store, *used), used)
+    give_written(prack_removal::remove_dialog(id, store, *used), used)
 }
 
 // PrackValidator::remove_pracked: 1, 3.
@@ -118,8 +118,5 @@ pub extern "C" fn sip_dialog_prack_remove_pracked(
 ) -> u8
     ensures { λ r. ⌜ Returns (ran rustLimits (removePracked (now (id .entry)) rseq) (now (store .entry)) (now (used .entry))) (now (store .exit)) (now (used .exit)) r ⌝ }
 {
-    give_written(
-        prack_validator::remove_pracked(id, rseq, store, *used),
-        used,
-    )
+    give_written(prack_removal::remove_pracked(id, rseq, store, *used), used)
 }

@@ -1,1 +1,2 @@
+pub mod RAckExample
 pub mod TestSheet

@@ -6,7 +6,7 @@ use Rattle.limits.specs.Limits.{rustLimits}
 use Rattle.limits.specs.Outcome.{refused, given}
 use Rattle.output.specs.Output.{fitted}
 use Rattle.prack_headers.specs.Sequence.{cseqNumber}
-use Rattle.prack_headers.proofs.ReadingLaws.{unreadable, readable}
+use Rattle.words.proofs.NumberLaws.{unreadable, readable}
 use Rattle.record.specs.Changes.{withNumbers}
 use Rattle.record.specs.NumbersForm.{meaning, kindIn, outcomeIn}
 use Rattle.record.specs.Record.{Numbers}

@@ -3,9 +3,9 @@ use mathlib.Core.Path.{ap, _∙_}
 use borrow.Author.Needs.{needs}
 use Rattle.methods.specs.Methods.{methodFrom, methodOf}
 use Rattle.prack_headers.specs.Sequence.{cseqName}
-use Rattle.prack_headers.specs.Words.{wordAt}
+use Rattle.words.specs.Words.{wordAt}
 use Rattle.prack_headers.proofs.ReadingLaws.{value-text}
-use Rattle.prack_headers.proofs.WordLaws.{next-word}
+use Rattle.words.proofs.WordLaws.{next-word}
 use Rattle.prack_headers.proofs.cseq_method.Statement.{statement}
 use Rattle.prack_headers.proofs.cseq_method.Tie as tie
 

@@ -3,7 +3,7 @@ use mathlib.Core.Path.{ap, _∙_}
 use borrow.Author.Needs.{needs}
 use Rattle.text.specs.Number.{numberFrom, readNumber}
 use Rattle.prack_headers.specs.Sequence.{cseqName}
-use Rattle.prack_headers.specs.Words.{wordAt}
+use Rattle.words.specs.Words.{wordAt}
 use Rattle.prack_headers.proofs.ReadingLaws.{value-text}
 use Rattle.prack_headers.proofs.cseq_number.Statement.{statement}
 use Rattle.prack_headers.proofs.cseq_number.Tie as tie

@@ -3,7 +3,8 @@ use mathlib.Core.Path.{sym, ap}
 use borrow.Author.Needs.{needs}
 use Rattle.limits.specs.Limits.{rustLimits}
 use Rattle.prack_headers.specs.Sequence.{rseqNumber, numberAnswer}
-use Rattle.prack_headers.proofs.ReadingLaws.{stopped-read, missing-read, done-read, unreadable, readable}
+use Rattle.words.proofs.NumberLaws.{unreadable, readable}
+use Rattle.prack_headers.proofs.ReadingLaws.{stopped-read, missing-read, done-read}
 use Rattle.prack_headers.proofs.extract_rseq.Statement.{statement}
 use Rattle.prack_headers.proofs.extract_rseq.Tie as tie
 

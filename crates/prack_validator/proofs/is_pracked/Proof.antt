@@ -7,9 +7,9 @@ use mathlib.Core.Option.{none, some}
 use Rattle.limits.specs.Limits.{rustLimits}
 use Rattle.limits.specs.Outcome.{given}
 use Rattle.record.proofs.CodecLaws.{Bytes, bytes-all}
-use Rattle.prack_list.specs.Lists.{entriesOf, firstOf, isAcknowledged}
+use Rattle.prack_body.specs.Lists.{entriesOf, firstOf, isAcknowledged}
 use Rattle.prack_list.specs.Steps.{positionIn}
-use Rattle.prack_list.specs.declared.TrackedAt.{TrackedAt}
+use Rattle.prack_body.specs.declared.TrackedAt.{TrackedAt}
 use Rattle.prack_entries.specs.Places.{Sought}
 use Rattle.prack_entries.specs.declared.finding.Seat.the-variants as seats
 use Rattle.prack_entries.proofs.SeatLaws.{held-sought, free-sought, Found, found, lacking}

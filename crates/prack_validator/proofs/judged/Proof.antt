@@ -1,7 +1,7 @@
 -- `judged` meets its contract. Assumes nothing.
 use mathlib.Core.Path.{sym, ap}
 use Rattle.prack_validator.specs.Answers.{validatedOf}
-use Rattle.prack_validator.specs.declared.verdict.Verdict.{Verdict}
+use Rattle.prack_verdict.specs.declared.Verdict.{Verdict}
 use borrow.Author.Needs.{needs}
 use Rattle.prack_validator.proofs.judged.Statement.{statement}
 use Rattle.prack_validator.proofs.judged.Tie as tie

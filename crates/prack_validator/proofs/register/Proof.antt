@@ -15,9 +15,9 @@ use Rattle.methods.specs.Methods.{isMethod}
 use Rattle.output.specs.Output.{fitted}
 use Rattle.record.proofs.CodecLaws.{Bytes, bytes-all}
 use Rattle.ordered_store.specs.Entries.{setEntry}
-use Rattle.prack_list.specs.Lists.{Pending, Tracked, registered}
-use Rattle.prack_list.specs.Steps.{Holds, pendingOf}
-use Rattle.prack_list.proofs.BodyLaws.{holds-size, holds-within}
+use Rattle.prack_body.specs.Lists.{Pending, Tracked, registered, pendingOf}
+use Rattle.prack_body.specs.Body.{Holds}
+use Rattle.prack_body.proofs.BodyLaws.{holds-size, holds-within}
 use Rattle.prack_entries.specs.Entries.{keyOf, encodeTracked, cleanFor}
 use Rattle.prack_entries.specs.Places.{Sought}
 use Rattle.prack_entries.proofs.SeatLaws.{sought}

@@ -1,7 +1,7 @@
 -- `rseq_manager::current_rseq` meets its contract. Assumes nothing.
 use mathlib.Core.Path.{sym, _∙_}
 use Rattle.record.proofs.CodecLaws.{bytes-all}
-use Rattle.rseq_manager.specs.RSeq.{ident}
+use Rattle.rseq_entries.specs.Entries.{ident}
 use Rattle.rseq_manager.proofs.AnswerLaws.{current-refused, current-broken, current-is, current-none}
 use borrow.Author.Needs.{needs}
 use Rattle.rseq_manager.proofs.current_rseq.Statement.{statement}

@@ -4,9 +4,9 @@ use mathlib.Core.Path.{_≡_, sym, _∙_}
 use mathlib.Core.List.{List}
 use lib.ListN.{length, drop}
 use Rattle.record.proofs.CodecLaws.{bytes-all}
-use Rattle.prack_list.specs.Places.{trackedFrom}
-use Rattle.prack_list.specs.declared.TrackedAt.{TrackedAt}
-use Rattle.prack_list.specs.declared.TrackedReading.the-variants as reading
+use Rattle.prack_body.specs.Places.{trackedFrom}
+use Rattle.prack_body.specs.declared.TrackedAt.{TrackedAt}
+use Rattle.prack_body.specs.declared.TrackedReading.the-variants as reading
 use Rattle.prack_entries.proofs.PlaceLaws.{form, Here}
 use Rattle.prack_entries.proofs.SearchLaws.{Left, start, Turn, turn, ended, unbroken, met, found, passed, gone-by}
 use native.Mathlib.Omega.{arith}

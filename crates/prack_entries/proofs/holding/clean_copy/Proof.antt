@@ -4,8 +4,8 @@ use mathlib.Core.Path.{sym}
 use mathlib.Core.List.{List, []}
 use lib.Seq.{length-take-le}
 use Rattle.record.proofs.CodecLaws.{Bytes, bytes-all}
-use Rattle.prack_list.specs.declared.TrackedAt.{TrackedAt}
-use Rattle.prack_list.proofs.BodyLaws.{holds-size}
+use Rattle.prack_body.specs.declared.TrackedAt.{TrackedAt}
+use Rattle.prack_body.proofs.BodyLaws.{holds-size}
 use Rattle.prack_entries.specs.Places.{Sought}
 use Rattle.prack_entries.specs.declared.finding.Seat.the-variants as seats
 use Rattle.prack_entries.proofs.SeatLaws.{Found, found, broken-not}

@@ -2,7 +2,7 @@
 use Prim.Native.Nat.{ℕ, _+_, _-_, _≤_}
 use mathlib.Core.List.{List}
 use Rattle.record.proofs.CodecLaws.{Bytes, bytes-all}
-use Rattle.prack_list.specs.declared.TrackedAt.{TrackedAt}
+use Rattle.prack_body.specs.declared.TrackedAt.{TrackedAt}
 use Rattle.prack_entries.specs.Places.{Sought}
 use Rattle.prack_entries.specs.declared.finding.Seat.the-variants as seats
 use Rattle.prack_entries.proofs.SeatLaws.{Found, found, lacking, broken-not}

@@ -4,8 +4,8 @@ use mathlib.Core.Path.{_≡_, refl, sym, ap, subst, _∙_}
 use mathlib.Core.List.{List}
 use mathlib.Core.Logic.{⊎-elim}
 use lib.ListN.{length}
-use Rattle.prack_list.specs.Lists.{Tracked, entriesOf}
-use Rattle.prack_list.specs.Steps.{Holds}
+use Rattle.prack_body.specs.Lists.{Tracked, entriesOf}
+use Rattle.prack_body.specs.Body.{Holds}
 use Rattle.prack_list.proofs.OpenLaws.{entry-count, next-entry, Opening, opening, open-room, open-more, open-less, open-done}
 use native.Mathlib.Omega.{arith}
 use borrow.Author.Needs.{needs}

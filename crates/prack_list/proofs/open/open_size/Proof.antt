@@ -3,8 +3,9 @@ use Prim.Native.Nat.{_+_, _-_, _*_, _≤_}
 use mathlib.Core.Path.{_≡_, ap}
 use mathlib.Core.Logic.{⊎-elim}
 use lib.ListN.{length}
-use Rattle.prack_list.specs.Lists.{Tracked, entriesOf, openIn}
-use Rattle.prack_list.specs.Steps.{Holds, openBytes}
+use Rattle.prack_body.specs.Lists.{Tracked, entriesOf, openIn}
+use Rattle.prack_body.specs.Layout.{openBytes}
+use Rattle.prack_body.specs.Body.{Holds}
 use Rattle.prack_list.proofs.OpenLaws.{entry-count, next-entry, opened, open-long, closed-turn, open-end}
 use native.Mathlib.Omega.{arith}
 use borrow.Author.Needs.{needs}

@@ -1,6 +1,6 @@
 -- `sip_dialog_prack_register` meets its contract: what is handed over is what `ran` leaves. Assumes nothing.
 use Rattle.limits.specs.Limits.{rustLimits}
-use Rattle.prack_list.specs.Steps.{pendingOf}
+use Rattle.prack_body.specs.Lists.{pendingOf}
 use Rattle.prack_validator.specs.Validator.{register, ran}
 use Rattle.c_prack_answers.proofs.ReturnLaws.{written-returns}
 use borrow.Author.Needs.{needs}

@@ -1,0 +1,4 @@
+pub mod BodyLaws
+pub mod BytesLaws
+pub mod LayoutLaws
+pub mod ReadLaws

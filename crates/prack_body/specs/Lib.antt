@@ -1,0 +1,4 @@
+pub mod Body
+pub mod Layout
+pub mod Lists
+pub mod Places

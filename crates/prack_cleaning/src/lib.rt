@@ -1,0 +1,72 @@
+// The entries that stay in a body (prack_body/specs/Body.antt), moved together: the cleanup of a call, and `remove_pracked`.
+use edit::move_left;
+use limits::Limits;
+use prack_body::read_eight;
+use prack_body::write_eight;
+use prack_sieve::Sieve;
+use prack_sieve::elapsed;
+use prack_sieve::passes;
+ghost use mathlib.Core.Path.{_≡_};
+ghost use mathlib.Core.Option.{some};
+ghost use mathlib.Core.List.{List, _++_};
+ghost use Prim.Native.Nat.{ℕ, _+_, _*_, _≤_};
+ghost use lib.ListN.{length, drop};
+ghost use Rattle.limits.specs.Limits.{rustLimits};
+ghost use Rattle.record.specs.Codec.{writeAll};
+ghost use Rattle.prack_body.specs.Lists.{Pending, Tracked, staying, cleaned, withList, withoutPracked};
+ghost use Rattle.prack_body.specs.Layout.{pendingForm, AllFormed};
+ghost use Rattle.prack_body.specs.Body.{Holds, Kept};
+ghost use Rattle.prack_sieve.specs.Sieve.{testOf};
+ghost use Rattle.prack_cleaning.specs.Sifted.{sifted};
+
+// The cleanup of a call at a time, where it is due: the time stored, and the entries that stay. The new length.
+pub fn clean(body: &mut [u8], n: usize, time: u64) -> usize
+    requires { ⌜ (9 ≤ n) × ((n ≤ 210) × (210 ≤ length (now body))) ⌝ }
+    ensures { λ r. ⌜ ((t : Tracked) → Holds (now (body .entry)) n t → Holds (now (body .exit)) r (cleaned rustLimits time (t .id) (some t))) ⌝ }
+{
+    let since = read_eight(body, 0);
+    if elapsed(time, since) < Limits::PENDING_PRACK_CLEANUP_INTERVAL_SECS * 1000000000 {
+        return n;
+    }
+    write_eight(body, 0, time);
+    sift(body, n, Sieve::Young(time))
+}
+
+// All but the acknowledged entries of an RSeq. The new length.
+pub fn prune(body: &mut [u8], n: usize, rseq: u32) -> usize
+    requires { ⌜ (9 ≤ n) × ((n ≤ 210) × (210 ≤ length (now body))) ⌝ }
+    ensures { λ r. ⌜ ((t : Tracked) → Holds (now (body .entry)) n t → Holds (now (body .exit)) r (withList (withoutPracked rseq (t .list)) t)) ⌝ }
+{
+    sift(body, n, Sieve::Other(rseq))
+}
+
+// The entries that stay. The new length.
+fn sift(body: &mut [u8], n: usize, which: Sieve) -> usize
+    requires { ⌜ (9 ≤ n) × ((n ≤ 210) × (210 ≤ length (now body))) ⌝ }
+    ensures { λ r. ⌜ ((t : Tracked) → Holds (now (body .entry)) n t → Holds (now (body .exit)) r (withList (sifted which (t .list)) t)) ⌝ }
+{
+    if n < 10 {
+        return n;
+    }
+    let kept = keep(body, (n - 10) / 20, which);
+    body[9] = kept as u8;
+    10 + kept * 20
+}
+
+// The entries that stay, moved together behind the count byte. How many.
+fn keep(body: &mut [u8], count: usize, which: Sieve) -> usize
+    requires { ⌜ (count ≤ 10) × (10 + count * 20 ≤ length (now body)) ⌝ }
+    ensures { λ r. ⌜ r ≤ count ⌝ }
+    ensures { λ r. ⌜ ((ps : List Pending) (rest : List ℕ) → AllFormed ps → count ≡ length ps → drop 10 (now (body .entry)) ≡ writeAll pendingForm ps ++ rest → Kept (now (body .entry)) (staying (testOf which) ps) (now (body .exit)) r) ⌝ }
+{
+    let mut i = 0;
+    let mut kept = 0;
+    while i < count {
+        if passes(body, 10 + i * 20, which) {
+            move_left(body, 10 + i * 20, 10 + kept * 20, 20);
+            kept += 1;
+        }
+        i += 1;
+    }
+    kept
+}

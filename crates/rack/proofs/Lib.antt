@@ -1,0 +1,2 @@
+pub mod RAckLaws
+pub mod RoundTrip

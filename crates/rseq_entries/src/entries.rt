@@ -1,0 +1,77 @@
+// One entry of the RSeq store, read at a place: three texts with two length bytes each, then a number that isn't 0.
+use text::Span;
+ghost use mathlib.Core.Path.{_≡_};
+ghost use Prim.Native.Nat.{_≤_};
+ghost use lib.ListN.{length, drop};
+ghost use Rattle.record.specs.Codec.{text};
+ghost use Rattle.rseq_entries.specs.Entries.{entryForm};
+ghost use Rattle.rseq_entries.specs.Places.{textFrom, readingOf};
+
+// Where its texts lie, its number, and the place after it.
+pub struct EntryAt {
+    pub call_id: Span,
+    pub local_tag: Span,
+    pub remote_tag: Span,
+    pub number: u32,
+    pub end: usize,
+}
+
+pub enum EntryReading {
+    Whole(EntryAt),
+    Broken,
+}
+
+// Where a text lies; what follows begins at its end.
+pub enum Text {
+    At(Span),
+    Broken,
+}
+
+// The entry that begins at a place.
+pub fn read_entry(bytes: &[u8], at: usize) -> EntryReading
+    requires { ⌜ at ≤ length (now bytes) ⌝ }
+    ensures { λ r. ⌜ r ≡ readingOf at (entryForm .read (drop at (now (bytes .entry)))) ⌝ }
+{
+    let Text::At(call_id) = read_text(bytes, at) else {
+        return EntryReading::Broken;
+    };
+    let Text::At(local_tag) = read_text(bytes, call_id.start + call_id.length) else {
+        return EntryReading::Broken;
+    };
+    let Text::At(remote_tag) = read_text(bytes, local_tag.start + local_tag.length) else {
+        return EntryReading::Broken;
+    };
+    let place = remote_tag.start + remote_tag.length;
+    if bytes.len() - place < 4 {
+        return EntryReading::Broken;
+    }
+    let number = image::read_four(bytes, place);
+    if number == 0 {
+        return EntryReading::Broken;
+    }
+    EntryReading::Whole(EntryAt {
+        call_id,
+        local_tag,
+        remote_tag,
+        number,
+        end: place + 4,
+    })
+}
+
+// Two length bytes, then as many bytes.
+fn read_text(bytes: &[u8], at: usize) -> Text
+    requires { ⌜ at ≤ length (now bytes) ⌝ }
+    ensures { λ r. ⌜ r ≡ textFrom at (text .read (drop at (now (bytes .entry)))) ⌝ }
+{
+    if bytes.len() - at < 2 {
+        return Text::Broken;
+    }
+    let n = image::read_two(bytes, at);
+    if bytes.len() - at - 2 < n {
+        return Text::Broken;
+    }
+    Text::At(Span {
+        start: at + 2,
+        length: n,
+    })
+}
