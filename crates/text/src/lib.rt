@@ -1,12 +1,13 @@
 // Bytes and ASCII: classes of bytes, blanks at both ends, letter case, words, and decimal numbers.
 ghost use mathlib.Core.Path.{_≡_};
 ghost use Prim.Native.Nat.{_+_, _≤_};
+ghost use lib.Dec.{eqb};
 ghost use lib.ListN.{length};
 ghost use mathlib.Core.Bool.{not};
 ghost use Rattle.limits.specs.Limits.{rustLimits};
 ghost use Rattle.limits.specs.Outcome.{checkOf};
 ghost use Rattle.text.specs.Answers.{tooLong, valueCause};
-ghost use Rattle.text.specs.Text.{isBlank, isValue, other, span, all, blanks, textEnd, trimmed, trimmedSpan, lower, same, equal, wordSpan};
+ghost use Rattle.text.specs.Text.{within, isBlank, isValue, other, span, all, blanks, textEnd, trimmed, trimmedSpan, lower, same, equal, wordSpan};
 use limits::Check;
 use limits::Limits;
 use limits::Refusal;
@@ -67,14 +68,21 @@ pub fn is_blank(b: u8) -> bool
     b == 9
 }
 
+// Whether a byte is one of a range.
+pub fn in_range(b: u8, low: u8, high: u8) -> bool
+    ensures { λ r. ⌜ r ≡ within low high b ⌝ }
+{
+    low <= b && b <= high
+}
+
 // Whether a value may have this byte: the tab, and the space to `~`.
 pub fn is_value(b: u8) -> bool
     ensures { λ r. ⌜ r ≡ isValue b ⌝ }
 {
-    if b < 32 {
-        return b == 9;
+    if in_range(b, 32, 126) {
+        return true;
     }
-    b <= 126
+    b == b'\t'
 }
 
 // The small letter of a letter.
@@ -218,12 +226,22 @@ pub fn same_text(a: &[u8], b: &[u8]) -> bool
     }
     let mut i = 0;
     while i < a.len() {
-        if to_lower(a[i]) != to_lower(b[i]) {
+        if !same_byte(a[i], b[i]) {
             return false;
         }
         i += 1;
     }
     true
+}
+
+// The same byte, letter case ignored.
+fn same_byte(x: u8, y: u8) -> bool
+    ensures { λ r. ⌜ r ≡ eqb (lower x) (lower y) ⌝ }
+{
+    if x == y {
+        return true;
+    }
+    to_lower(x) == to_lower(y)
 }
 
 // The same bytes.

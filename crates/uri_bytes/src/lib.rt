@@ -1,8 +1,9 @@
 // Classes of bytes in a URI, and one scan for all of them.
+use text::in_range;
 ghost use mathlib.Core.Path.{_≡_};
 ghost use Prim.Native.Nat.{_≤_};
 ghost use lib.ListN.{length};
-ghost use Rattle.text.specs.Text.{span, all, within};
+ghost use Rattle.text.specs.Text.{span, all};
 ghost use Rattle.uri_bytes.specs.Bytes.{endsPort, endsHost};
 ghost use Rattle.uri_bytes.specs.Classes.{inClass, setOf, inSet};
 
@@ -117,10 +118,4 @@ fn holds(set: ByteSet, b: u8) -> bool
         return (set.bits >> b) % 2 == 1;
     }
     in_range(b, set.from, set.to)
-}
-
-fn in_range(b: u8, low: u8, high: u8) -> bool
-    ensures { λ r. ⌜ r ≡ within low high b ⌝ }
-{
-    low <= b && b <= high
 }
