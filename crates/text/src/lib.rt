@@ -118,9 +118,24 @@ pub fn value_length(s: &[u8]) -> usize
     ensures { λ r. ⌜ r ≡ span isValue (now (s .entry)) ⌝ }
     ensures { λ r. ⌜ r ≤ length (now (s .entry)) ⌝ }
 {
-    let mut i = 0;
+    let mut i = visible_length(s);
     while i < s.len() {
         if !is_value(s[i]) {
+            return i;
+        }
+        i += 1;
+    }
+    i
+}
+
+// How many bytes that are no tabs and that a value may have stand first.
+fn visible_length(s: &[u8]) -> usize
+    ensures { λ r. ⌜ r ≡ span (within 32 126) (now (s .entry)) ⌝ }
+    ensures { λ r. ⌜ r ≤ length (now (s .entry)) ⌝ }
+{
+    let mut i = 0;
+    while i < s.len() {
+        if !in_range(s[i], 32, 126) {
             return i;
         }
         i += 1;

@@ -1,14 +1,14 @@
 -- `text::value_length` meets its contract: at each turn the whole run is the bytes passed and the run of the rest.
 -- Assumes nothing.
-use Prim.Native.Nat.{_+_, _-_, _≤_}
-use mathlib.Core.Path.{_≡_, sym, ap, _∙_}
-use native.Mathlib.Nat.{zero-add}
+use Prim.Native.Nat.{ℕ, _+_, _-_, _≤_}
+use mathlib.Core.Bool.{true, or-true}
+use mathlib.Core.Path.{_≡_, sym, _∙_}
 use native.Mathlib.Omega.{arith}
 use borrow.Author.Needs.{needs}
 use borrow.Author.Tests.{not-true, not-false}
 use lib.ListN.{length, drop}
-use Rattle.text.specs.Text.{span, isValue}
-use Rattle.text.proofs.Runs.{span-done, span-stop, span-next}
+use Rattle.text.specs.Text.{span, within, isValue}
+use Rattle.text.proofs.Runs.{span-done, span-stop, span-next, span-past}
 use Rattle.text.proofs.value_length.Statement.{statement}
 use Rattle.text.proofs.value_length.Tie as tie
 
@@ -18,8 +18,17 @@ Inv-loop s i₀ i = (i ≤ length s) × (span isValue s ≡ i + span isValue (dr
 abbrev μ-loop : tie.MeasureT-loop
 μ-loop s i₀ i = length s - i
 
+visible-length-requires : tie.Need-visible-length-requires Inv-loop μ-loop
+visible-length-requires c κs = search needs
+
+-- the first bytes that are no tabs are bytes of a value
+within-value : (b : ℕ) → within 32 126 b ≡ true → isValue b ≡ true
+within-value b e = rw (e, or-true)
+
 loop-holds : tie.Need-loop-holds Inv-loop μ-loop
-loop-holds c = (omega arith, sym (zero-add _))
+loop-holds c =
+    let s = c .before .before .args .s .now in
+    (omega arith, rw (c .visible-length .ensures .0) (span-past isValue (within 32 126) within-value s))
 
 shared-slice-read-is-value : tie.Need-shared-slice-read-is-value Inv-loop μ-loop
 shared-slice-read-is-value c = omega arith
@@ -54,6 +63,7 @@ value-length-spec =
     (tie.spec
     Inv-loop
     μ-loop
+    visible-length-requires
     loop-holds
     shared-slice-read-is-value
     is-value-requires
