@@ -1,7 +1,7 @@
 // The key of a record: which of the three texts of its identifier stand, then the bytes of those texts with their lengths.
 // Two records have one identifier exactly if they have one key.
 ghost use mathlib.Core.Path.{_≡_};
-ghost use Prim.Native.Nat.{_+_, _≤_, _<_};
+ghost use Prim.Native.Nat.{_+_, _-_, _≤_, _<_};
 ghost use lib.ListN.{length, getD};
 ghost use Rattle.distinct.specs.Keys.{At, twoAt, pastText, keyAt, order};
 
@@ -79,15 +79,13 @@ pub fn wide(b: u8) -> usize
 fn compare_bytes(a: &[u8], b: &[u8]) -> Order
     ensures { λ r. ⌜ r ≡ order (now (a .entry)) (now (b .entry)) ⌝ }
 {
+    let n = shorter(a.len(), b.len());
     let mut i = 0;
-    while i < a.len() {
-        if b.len() <= i {
-            return Order::Greater;
-        }
-        if a[i] < b[i] {
-            return Order::Less;
-        }
-        if b[i] < a[i] {
+    while i < n {
+        if a[i] != b[i] {
+            if a[i] < b[i] {
+                return Order::Less;
+            }
             return Order::Greater;
         }
         i += 1;
@@ -95,5 +93,18 @@ fn compare_bytes(a: &[u8], b: &[u8]) -> Order
     if i < b.len() {
         return Order::Less;
     }
+    if i < a.len() {
+        return Order::Greater;
+    }
     Order::Equal
+}
+
+// The smaller of two lengths.
+fn shorter(x: usize, y: usize) -> usize
+    ensures { λ r. ⌜ r ≡ x - (x - y) ⌝ }
+{
+    if x <= y {
+        return x;
+    }
+    y
 }

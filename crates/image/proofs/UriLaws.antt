@@ -9,7 +9,8 @@ use lib.ListN.{take, drop, length}
 use lib.Dec.{ltb, eqb}
 use borrow.Author.Tests.{eqb-true, ne-eqb}
 use Rattle.text.specs.Text.{span, other, all, alike, same, lower, Piece}
-use Rattle.uri.specs.SipUri.{UriParts, isUri, sip, has, isHostText, hostText, portOf, withPort, withHost, withUser, withScheme, sipUri}
+use Rattle.uri_bytes.specs.Bytes.{isUri}
+use Rattle.uri.specs.SipUri.{UriParts, sip, has, isHostText, hostText, portOf, withPort, withHost, withUser, withScheme, sipUri}
 use Rattle.record.specs.Record.{isSips}
 
 -- ---- the parts keep the scheme's answer

@@ -1,6 +1,6 @@
 -- The turns of a loop that counts how many bytes from the front on pass a test. Assumes nothing.
 use Prim.Native.Nat.{ℕ, zero, suc, _+_, _-_, _≤_, _<_}
-use native.Mathlib.Nat.{add-zero, add-suc, suc-add}
+use native.Mathlib.Nat.{add-zero, zero-add, add-suc, suc-add}
 use native.Mathlib.Numerals.{add-one}
 use native.Mathlib.Omega.{arith}
 use mathlib.Core.Path.{_≡_, refl, sym, ap, _∙_}
@@ -25,6 +25,17 @@ module _ (p : ℕ → Bool) (s : List ℕ) (i : ℕ) where
   pub span-next : i < length s → p (getD s i 0) ≡ true → i + span p (drop i s) ≡ i + 1 + span p (drop (i + 1) s)
   unfolding span
   span-next h e = rw (drop-cons s i 0 h, e, add-one i, add-suc, suc-add)
+
+-- the run of a test goes on past that of a stronger one
+pub span-past : (p q : ℕ → Bool) → ((b : ℕ) → q b ≡ true → p b ≡ true) → (s : List ℕ) → span p s ≡ span q s + span p (drop (span q s) s)
+unfolding span
+span-past p q w [] = refl
+span-past p q w (b ∷ s) = by (q b) refl (span-past p q w s)
+  where
+    by : (t : Bool) → q b ≡ t → span p s ≡ span q s + span p (drop (span q s) s)
+        → cond (p b) (suc (span p s)) 0 ≡ cond t (suc (span q s)) 0 + span p (drop (cond t (suc (span q s)) 0) (b ∷ s))
+    by true e more = rw (w b e, suc-add) (ap suc more)
+    by false e more = sym (zero-add _)
 
 -- a run is no longer than the bytes
 pub span-le : (p : ℕ → Bool) (s : List ℕ) → span p s ≤ length s

@@ -1,12 +1,13 @@
 // Bytes and ASCII: classes of bytes, blanks at both ends, letter case, words, and decimal numbers.
 ghost use mathlib.Core.Path.{_≡_};
 ghost use Prim.Native.Nat.{_+_, _≤_};
+ghost use lib.Dec.{eqb};
 ghost use lib.ListN.{length};
 ghost use mathlib.Core.Bool.{not};
 ghost use Rattle.limits.specs.Limits.{rustLimits};
 ghost use Rattle.limits.specs.Outcome.{checkOf};
 ghost use Rattle.text.specs.Answers.{tooLong, valueCause};
-ghost use Rattle.text.specs.Text.{isBlank, isValue, other, span, all, blanks, textEnd, trimmed, trimmedSpan, lower, same, equal, wordSpan};
+ghost use Rattle.text.specs.Text.{within, isBlank, isValue, other, span, all, blanks, textEnd, trimmed, trimmedSpan, lower, same, equal, wordSpan};
 use limits::Check;
 use limits::Limits;
 use limits::Refusal;
@@ -67,6 +68,23 @@ pub fn is_blank(b: u8) -> bool
     b == 9
 }
 
+// Whether a byte is one of a range.
+pub fn in_range(b: u8, low: u8, high: u8) -> bool
+    ensures { λ r. ⌜ r ≡ within low high b ⌝ }
+{
+    low <= b && b <= high
+}
+
+// Whether a value may have this byte: the tab, and the space to `~`.
+pub fn is_value(b: u8) -> bool
+    ensures { λ r. ⌜ r ≡ isValue b ⌝ }
+{
+    if in_range(b, 32, 126) {
+        return true;
+    }
+    b == b'\t'
+}
+
 // The small letter of a letter.
 pub fn to_lower(b: u8) -> u8
     ensures { λ r. ⌜ r ≡ lower b ⌝ }
@@ -95,20 +113,29 @@ pub fn find(s: &[u8], x: u8) -> usize
     i
 }
 
-// How many bytes that a value may have stand first: the tab, and the space to `~`.
+// How many bytes that a value may have stand first.
 pub fn value_length(s: &[u8]) -> usize
     ensures { λ r. ⌜ r ≡ span isValue (now (s .entry)) ⌝ }
     ensures { λ r. ⌜ r ≤ length (now (s .entry)) ⌝ }
 {
+    let mut i = visible_length(s);
+    while i < s.len() {
+        if !is_value(s[i]) {
+            return i;
+        }
+        i += 1;
+    }
+    i
+}
+
+// How many bytes that are no tabs and that a value may have stand first.
+fn visible_length(s: &[u8]) -> usize
+    ensures { λ r. ⌜ r ≡ span (within 32 126) (now (s .entry)) ⌝ }
+    ensures { λ r. ⌜ r ≤ length (now (s .entry)) ⌝ }
+{
     let mut i = 0;
     while i < s.len() {
-        let b = s[i];
-        if b < 32 {
-            if b != 9 {
-                return i;
-            }
-        }
-        if 126 < b {
+        if !in_range(s[i], 32, 126) {
             return i;
         }
         i += 1;
@@ -214,12 +241,22 @@ pub fn same_text(a: &[u8], b: &[u8]) -> bool
     }
     let mut i = 0;
     while i < a.len() {
-        if to_lower(a[i]) != to_lower(b[i]) {
+        if !same_byte(a[i], b[i]) {
             return false;
         }
         i += 1;
     }
     true
+}
+
+// The same byte, letter case ignored.
+fn same_byte(x: u8, y: u8) -> bool
+    ensures { λ r. ⌜ r ≡ eqb (lower x) (lower y) ⌝ }
+{
+    if x == y {
+        return true;
+    }
+    to_lower(x) == to_lower(y)
 }
 
 // The same bytes.

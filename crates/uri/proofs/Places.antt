@@ -1,7 +1,7 @@
 -- Where the user part and the host of a readable URI stand in its text. Assumes nothing.
 use Prim.Native.Nat.{ℕ, zero, suc, _+_, _≤_, _<_}
 use native.Mathlib.Omega.{arith}
-use mathlib.Core.Path.{_≡_, refl, ap}
+use mathlib.Core.Path.{_≡_, refl}
 use mathlib.Core.Bool.{Bool, true, false, cond, not}
 use mathlib.Core.List.{List, [], _∷_}
 use mathlib.Core.Option.{Option, none, some}
@@ -10,7 +10,9 @@ use lib.Seq.{drop-drop}
 use lib.Dec.{ltb}
 use borrow.Author.Tests.{ltb-true}
 use Rattle.text.specs.Text.{span, all, other, same, Piece}
-use Rattle.uri.specs.SipUri.{isUri, sip, sips, begins, has, endsHost, hostText, isHostText, portOf, UriParts, withPort, withHost, withUser, withScheme, sipUri}
+use Rattle.uri_bytes.specs.Bytes.{isUri, endsHost}
+use Rattle.uri.specs.SipUri.{sip, sips, begins, has, hostText, isHostText, portOf, UriParts, withPort, withHost, withUser, withScheme, sipUri}
+use Rattle.uri.proofs.Hosts.{take-own}
 use Rattle.uri.proofs.Parts.{starts-fits}
 use Rattle.uri.proofs.Cuts.{Stands}
 
@@ -18,11 +20,6 @@ use Rattle.uri.proofs.Cuts.{Stands}
 pub record PartsStand (s : List ℕ) (p : UriParts) : Type 0 where
   pub user : Stands s (p .user)
   pub host : Stands s (p .host)
-
-take-own : (k : ℕ) (l : List ℕ) → take (length (take k l)) l ≡ take k l
-take-own zero l = refl
-take-own (suc k) [] = refl
-take-own (suc k) (b ∷ l) = ap (λ (t : List ℕ). b ∷ t) (take-own k l)
 
 front-stands : (s : List ℕ) (at k : ℕ) → at ≤ length s → Stands s (record { place = at; text = take k (drop at s) })
 front-stands s at k h = record { fits = omega (arith, length-take k (drop at s), length-drop at s); bytes = take-own k (drop at s) }

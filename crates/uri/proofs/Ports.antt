@@ -14,7 +14,8 @@ use Rattle.text.specs.Text.{span, all, isDigit}
 use Rattle.text.specs.Number.{nonEmpty, value, digitsBelow, numberFrom}
 use Rattle.text.specs.declared.number.Number.the-variants.{Value, Unreadable}
 use Rattle.text.proofs.Runs.{drop-part}
-use Rattle.uri.specs.SipUri.{endsPort, atEnd, portNumber, givenPort, portOf}
+use Rattle.uri_bytes.specs.Bytes.{endsPort}
+use Rattle.uri.specs.SipUri.{atEnd, portNumber, givenPort, portOf}
 
 -- ---- numbers
 

@@ -1,9 +1,9 @@
 -- A SIP URI as document 01, "Contact", has it (its stand-in for the Rust's `SipUri`; RFC 3261 section 19.1 knows more):
 -- `sip:` or `sips:` in any case; bytes 33 to 126 without `<`, `>`, `"`; the user part is all before the first `@`, non-empty
 -- if there is one; the host runs to `:`, `;`, `?` or the end (`[` to `]` kept whole), non-empty letters, digits, `.`, `-`, or
--- hex digits, `:`, `.` in brackets; a port has 1 to 5 digits and is at most 65,535; then the end, `;` or `?`.
+-- hex digits, `:`, `.` in brackets; a port has 1 to 5 digits and is at most 65,535; then the end, `;` or `?`. The classes of bytes are in `Bytes.antt` of the crate `uri_bytes`.
 use Prim.Native.Nat.{ℕ, _+_, _-_}
-use mathlib.Core.Bool.{Bool, true, false, cond, not, _&&_, _||_}
+use mathlib.Core.Bool.{Bool, true, false, cond, not, _&&_}
 use mathlib.Core.List.{List, [], _∷_}
 use mathlib.Core.Option.{Option, none, some}
 use lib.ListN.{length, take, drop, getD}
@@ -11,9 +11,10 @@ use lib.Dec.{leb, ltb, eqb}
 use Rattle.limits.specs.Limits.{LimitSet}
 use Rattle.limits.specs.Outcome.{Outcome, refused, given, refuseBy, causeIf, andThen, orRefuse}
 use Rattle.limits.specs.declared.Refusal.the-variants.{InvalidUri, UriTooLong}
-use Rattle.text.specs.Text.{within, isDigit, isLetter, other, span, all, same, Piece}
+use Rattle.text.specs.Text.{isDigit, other, span, all, same, Piece}
 use Rattle.text.specs.Number.{nonEmpty, readDigits}
 use Rattle.text.specs.Answers.{lengthCause, spanOf}
+use Rattle.uri_bytes.specs.Bytes.{isUri, isHost, isAddress, endsPort, endsHost}
 use Rattle.uri.specs.declared.Port.{Port}
 use Rattle.uri.specs.declared.Port.the-variants as port
 use Rattle.uri.specs.declared.SipUri.{SipUri}
@@ -23,28 +24,6 @@ use Rattle.uri.specs.declared.UriAnswer.{UriAnswer}
 use Rattle.uri.specs.declared.UriAnswer.the-variants as answer
 use Rattle.uri.specs.declared.Estimate.{Estimate}
 use Rattle.uri.specs.declared.Estimate.the-variants as estimate
-
--- ---- classes of bytes
-
--- 33 to 126 without `<`, `>`, `"`
-abbrev pub isUri : ℕ → Bool
-isUri b = within 33 126 b && not (eqb b 60 || (eqb b 62 || eqb b 34))
-
--- letters, digits, `.`, `-`
-abbrev pub isHost : ℕ → Bool
-isHost b = isLetter b || (isDigit b || (eqb b 46 || eqb b 45))
-
--- hex digits, `:`, `.`
-abbrev pub isAddress : ℕ → Bool
-isAddress b = isDigit b || (within 65 70 b || (within 97 102 b || (eqb b 58 || eqb b 46)))
-
--- `;` or `?`
-abbrev pub endsPort : ℕ → Bool
-endsPort b = eqb b 59 || eqb b 63
-
--- `:`, `;` or `?`
-abbrev pub endsHost : ℕ → Bool
-endsHost b = eqb b 58 || endsPort b
 
 -- ---- the parts
 

@@ -1,16 +1,16 @@
--- What the steps of a URI's reading answer: classes of bytes, the host and what stands after it, where a part stands, and the
+-- What the steps of a URI's reading answer: the scheme, the user part, the host and what stands after it, where a part stands, and the
 -- estimate of the parts that were read.
 use Prim.Native.Nat.{ℕ, _+_, _≤_}
-use mathlib.Core.Bool.{Bool, cond, not}
+use mathlib.Core.Bool.{Bool, cond}
+use mathlib.Core.Path.{_≡_}
 use mathlib.Core.List.{List}
 use mathlib.Core.Option.{Option, none, some}
 use lib.ListN.{length, take, drop}
-use Rattle.text.specs.Text.{isDigit, Piece}
+use Rattle.text.specs.Text.{all, same, Piece}
 use Rattle.text.specs.Answers.{spanOf}
 use Rattle.text.specs.declared.Span.{Span}
-use Rattle.uri.specs.SipUri.{isUri, isHost, isAddress, endsHost, isHostText, portFrom}
-use Rattle.uri.specs.declared.class.Class.{Class}
-use Rattle.uri.specs.declared.class.Class.the-variants as class
+use Rattle.uri_bytes.specs.Bytes.{isUri}
+use Rattle.uri.specs.SipUri.{UriParts, sip, sips, isHostText, withHost, withUser, portFrom}
 use Rattle.uri.specs.declared.authority.Host.{Host}
 use Rattle.uri.specs.declared.authority.Host.the-variants as host
 use Rattle.uri.specs.declared.authority.AfterHost.{AfterHost}
@@ -18,18 +18,20 @@ use Rattle.uri.specs.declared.authority.AfterHost.the-variants as after
 use Rattle.uri.specs.declared.Port.{Port}
 use Rattle.uri.specs.declared.Port.the-variants as port
 use Rattle.uri.specs.declared.SipUri.{SipUri}
+use Rattle.uri.specs.declared.User.{User}
+use Rattle.uri.specs.declared.User.the-variants as user
 use Rattle.uri.specs.declared.Cut.{Cut}
 use Rattle.uri.specs.declared.Cut.the-variants as cut
 use Rattle.uri.specs.declared.HeaderUri.{HeaderUri}
 use Rattle.uri.specs.declared.HeaderUri.the-variants as header
 
--- the bytes of a class
-abbrev pub inClass : Class → ℕ → Bool
-inClass class.Uri b = isUri b
-inClass class.InHost b = not (endsHost b)
-inClass class.Host b = isHost b
-inClass class.Address b = isAddress b
-inClass class.Digit b = isDigit b
+-- the scheme's length, 0 where there is none
+abbrev pub schemeLength : List ℕ → ℕ
+schemeLength s = cond (same (take 4 s) sip) 4 (cond (same (take 5 s) sips) 5 0)
+
+-- what was read of s, if every byte of s is one of a URI
+abbrev pub ofUri : List ℕ → Option UriParts → Option UriParts
+ofUri s o = cond (all isUri s) o none
 
 -- a host that may stand there, by its length
 abbrev pub hostFrom : List ℕ → Host
@@ -48,6 +50,13 @@ pieceIn s at = record { place = at .start; text = take (at .length) (drop (at .s
 abbrev pub cutFrom : Option Piece → Cut
 cutFrom none = cut.Nothing
 cutFrom (some p) = cut.At (spanOf p)
+
+-- what the user part at a place leaves to be read: the rest from the host on, or nothing
+abbrev pub UserStep : List ℕ → ℕ → User → Type 0
+UserStep s at user.Unreadable = (secure : Bool) → ofUri (drop at s) (withUser secure at (drop at s)) ≡ none
+UserStep s at (user.Before u next) =
+    (next ≤ length s) × (u .start + u .length ≤ length s)
+    × ((secure : Bool) → ofUri (drop at s) (withUser secure at (drop at s)) ≡ ofUri (drop next s) (withHost secure (pieceIn s u) next (drop next s)))
 
 -- ---- what is found lies inside the bytes
 

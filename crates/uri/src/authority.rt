@@ -1,10 +1,11 @@
 // The host of a URI, and the port after it.
 use super::Port;
-use super::class::Class;
-use super::class::all_of;
-use super::class::ends_port;
-use super::class::run;
 use text::Number;
+use uri_bytes::Class;
+use uri_bytes::all_of;
+use uri_bytes::ends_host;
+use uri_bytes::ends_port;
+use uri_bytes::run;
 ghost use mathlib.Core.Path.{_≡_};
 ghost use mathlib.Core.Bool.{true};
 ghost use Rattle.uri.specs.SipUri.{begins, hostText, atEnd, givenPort, portNumber, portOf};
@@ -33,11 +34,14 @@ pub fn read_host(s: &[u8]) -> Host
     if s[0] == b'[' {
         return read_bracketed(s);
     }
-    let n = run(s, Class::InHost);
-    if n == 0 {
+    let n = run(s, Class::Host);
+    if n == s.len() {
+        return Host::Length(n);
+    }
+    if !ends_host(s[n]) {
         return Host::Unreadable;
     }
-    if !all_of(&s[..n], Class::Host) {
+    if n == 0 {
         return Host::Unreadable;
     }
     Host::Length(n)

@@ -3,13 +3,14 @@ use authority::AfterHost;
 use authority::Host;
 use authority::after_host;
 use authority::read_host;
-use class::Class;
-use class::all_of;
 use limits::Check;
 use limits::Limits;
 use limits::Refusal;
 use text::Lookup;
 use text::Span;
+use uri_bytes::Class;
+use uri_bytes::all_of;
+use uri_bytes::run;
 ghost use mathlib.Core.Path.{_≡_};
 ghost use Prim.Native.Nat.{_+_, _-_, _≤_};
 ghost use lib.ListN.{length, take, drop};
@@ -20,10 +21,9 @@ ghost use Rattle.text.specs.Answers.{lookupOf, spanOf};
 ghost use Rattle.uri.specs.SipUri.{uriAnswer, readUri, estimateAnswer, readEstimate, uriFrom, sipUri, withUser, withHost};
 ghost use Rattle.uri.specs.HeaderUri.{uriFromHeader, headerUriFrom, headerUri, uriText, inBrackets};
 ghost use Rattle.text.specs.Text.{trimmedPiece};
-ghost use Rattle.uri.specs.Steps.{Inside, cutFrom, pieceIn, sizeOf};
+ghost use Rattle.uri.specs.Steps.{Inside, UserStep, cutFrom, ofUri, pieceIn, schemeLength, sizeOf};
 
 mod authority;
-mod class;
 
 pub enum Port {
     Number(u16),
@@ -60,6 +60,12 @@ pub enum Estimate {
 pub enum HeaderUri {
     At(Span, SipUri),
     Nothing,
+}
+
+// The user part, and the place of the host after it.
+enum User {
+    Before(Span, usize),
+    Unreadable,
 }
 
 // The text that is read as the URI in a header value.
@@ -130,16 +136,11 @@ pub fn header_uri(value: &[u8]) -> HeaderUri
 pub fn read_uri(s: &[u8]) -> Uri
     ensures { λ r. ⌜ r ≡ uriFrom (sipUri (now (s .entry))) ⌝ }
 {
-    if !all_of(s, Class::Uri) {
+    let at = scheme_length(s);
+    if at == 0 {
         return Uri::Unreadable;
     }
-    if starts_with(s, b"sip:") {
-        return with_user(s, 4, false);
-    }
-    if starts_with(s, b"sips:") {
-        return with_user(s, 5, true);
-    }
-    Uri::Unreadable
+    with_user(s, at, at == 5)
 }
 
 // Whether the estimate of a URI is over the limit.
@@ -168,6 +169,19 @@ fn estimated_length(u: SipUri) -> usize
     }
 }
 
+// How long `sip:` or `sips:` is, which stands first; 0 where neither does.
+fn scheme_length(s: &[u8]) -> usize
+    ensures { λ r. ⌜ r ≡ schemeLength (now (s .entry)) ⌝ }
+{
+    if starts_with(s, b"sip:") {
+        return 4;
+    }
+    if starts_with(s, b"sips:") {
+        return 5;
+    }
+    0
+}
+
 // Whether the text begins with these bytes, letter case ignored.
 fn starts_with(s: &[u8], head: &[u8]) -> bool
     ensures { λ r. ⌜ r ≡ same (take (length (now (head .entry))) (now (s .entry))) (now (head .entry)) ⌝ }
@@ -182,47 +196,61 @@ fn starts_with(s: &[u8], head: &[u8]) -> bool
 // The parts from the user part on, which stands after the scheme.
 fn with_user(s: &[u8], at: usize, secure: bool) -> Uri
     requires { ⌜ at ≤ length (now s) ⌝ }
-    ensures { λ r. ⌜ r ≡ uriFrom (withUser secure at (drop at (now (s .entry)))) ⌝ }
+    ensures { λ r. ⌜ r ≡ uriFrom (ofUri (drop at (now (s .entry))) (withUser secure at (drop at (now (s .entry))))) ⌝ }
+{
+    let User::Before(user, host) = read_user(s, at) else {
+        return Uri::Unreadable;
+    };
+    with_host(s, host, secure, user)
+}
+
+// All before the first `@`, or nothing where there is none. Bytes that no URI has are seen here.
+fn read_user(s: &[u8], at: usize) -> User
+    requires { ⌜ at ≤ length (now s) ⌝ }
+    ensures { λ r. ⌜ UserStep (now (s .entry)) at r ⌝ }
 {
     let rest = &s[at..];
-    let n = text::find(rest, b'@');
+    let n = run(rest, Class::User);
     if n == rest.len() {
-        return with_host(
-            s,
-            at,
-            secure,
+        return User::Before(
             Span {
                 start: at,
                 length: 0,
             },
+            at,
         );
     }
-    if n == 0 {
-        return Uri::Unreadable;
+    if rest[n] != b'@' {
+        return User::Unreadable;
     }
-    with_host(
-        s,
-        at + n + 1,
-        secure,
+    if n == 0 {
+        return User::Unreadable;
+    }
+    User::Before(
         Span {
             start: at,
             length: n,
         },
+        at + n + 1,
     )
 }
 
 // The parts from the host on, with the user part that stands before it.
 fn with_host(s: &[u8], at: usize, secure: bool, user: Span) -> Uri
     requires { ⌜ (at ≤ length (now s)) × (user .start + user .length ≤ length (now s)) ⌝ }
-    ensures { λ r. ⌜ r ≡ uriFrom (withHost secure (pieceIn (now (s .entry)) user) at (drop at (now (s .entry)))) ⌝ }
+    ensures { λ r. ⌜ r ≡ uriFrom (ofUri (drop at (now (s .entry))) (withHost secure (pieceIn (now (s .entry)) user) at (drop at (now (s .entry))))) ⌝ }
 {
     let rest = &s[at..];
     let Host::Length(n) = read_host(rest) else {
         return Uri::Unreadable;
     };
-    let AfterHost::Read(port) = after_host(&rest[n..]) else {
+    let tail = &rest[n..];
+    let AfterHost::Read(port) = after_host(tail) else {
         return Uri::Unreadable;
     };
+    if !all_of(tail, Class::Uri) {
+        return Uri::Unreadable;
+    }
     Uri::Read(SipUri {
         secure,
         user,

@@ -1,7 +1,8 @@
 -- `text::same_text` meets its contract: at each turn the whole comparison is that of the rests. Assumes nothing.
 use Prim.Native.Nat.{_+_, _-_, _≤_}
-use mathlib.Core.Path.{_≡_, refl, sym, ap, _∙_}
+use mathlib.Core.Path.{_≡_, refl, sym, _∙_}
 use lib.ListN.{length, drop}
+use borrow.Author.Tests.{eqb-true, eqb-false, not-true, not-false}
 use Rattle.text.specs.Text.{same, lower}
 use Rattle.text.proofs.Alike.{alike-length, alike-done, alike-differ, alike-next}
 use native.Mathlib.Omega.{arith}
@@ -21,22 +22,19 @@ returns c = sym (alike-length lower _ _ (c .if1 .taken))
 loop-holds : tie.Need-loop-holds Inv-loop μ-loop
 loop-holds c = (c .if1 .left, omega arith, refl)
 
-shared-slice-read-to-lower : tie.Need-shared-slice-read-to-lower Inv-loop μ-loop
-shared-slice-read-to-lower c = omega arith
+shared-slice-read-same-byte : tie.Need-shared-slice-read-same-byte Inv-loop μ-loop
+shared-slice-read-same-byte c = omega arith
 
-to-lower-requires : tie.Need-to-lower-requires Inv-loop μ-loop
-to-lower-requires c κs = search needs
+shared-slice-read-same-byte-2 : tie.Need-shared-slice-read-same-byte-2 Inv-loop μ-loop
+shared-slice-read-same-byte-2 c = omega arith
 
-shared-slice-read-to-lower-2 : tie.Need-shared-slice-read-to-lower-2 Inv-loop μ-loop
-shared-slice-read-to-lower-2 c = omega arith
-
-to-lower-requires-2 : tie.Need-to-lower-requires-2 Inv-loop μ-loop
-to-lower-requires-2 c κs = search needs
+same-byte-requires : tie.Need-same-byte-requires Inv-loop μ-loop
+same-byte-requires c κs = search needs
 
 returns-2 : tie.Need-returns-2 Inv-loop μ-loop
 returns-2 c =
-    let l = c .before .before .before .before .before .before .loop in
-    sym (l .inv .2 ∙ alike-differ lower _ _ (l .i) (omega arith) (omega arith) (λ e. c .if2 .taken (c .before .before .before .to-lower .ensures ∙ e ∙ sym (c .before .to-lower2 .ensures))))
+    let l = c .before .before .before .before .before .loop in
+    sym (l .inv .2 ∙ alike-differ lower _ _ (l .i) (omega arith) (omega arith) (eqb-false _ _ (sym (c .before .same-byte .ensures) ∙ not-true _ (c .if2 .taken))))
 
 add-i : tie.Need-add-i Inv-loop μ-loop
 add-i c = omega arith
@@ -46,8 +44,8 @@ loop-less c = omega arith
 
 loop-again : tie.Need-loop-again Inv-loop μ-loop
 loop-again c =
-    let l = c .before .before .before .before .before .before .loop in
-    (l .inv .0, omega arith, l .inv .2 ∙ alike-next lower _ _ (l .i) (omega arith) (omega arith) (sym (c .before .before .before .to-lower .ensures) ∙ c .if2 .left ∙ c .before .to-lower2 .ensures))
+    let l = c .before .before .before .before .before .loop in
+    (l .inv .0, omega arith, l .inv .2 ∙ alike-next lower _ _ (l .i) (omega arith) (omega arith) (eqb-true _ _ (sym (c .before .same-byte .ensures) ∙ not-false _ (c .if2 .left))))
 
 returns-3 : tie.Need-returns-3 Inv-loop μ-loop
 returns-3 c =
@@ -62,10 +60,9 @@ same-text-spec =
     μ-loop
     returns
     loop-holds
-    shared-slice-read-to-lower
-    to-lower-requires
-    shared-slice-read-to-lower-2
-    to-lower-requires-2
+    shared-slice-read-same-byte
+    shared-slice-read-same-byte-2
+    same-byte-requires
     returns-2
     add-i
     loop-less

@@ -1,8 +1,9 @@
 -- `uri::with_host` meets its contract. Assumes nothing.
 use native.Mathlib.Omega.{arith}
 use borrow.Author.Needs.{needs}
-use Rattle.uri.proofs.Parts.{host-unread, host-inside, port-unread, parts-read}
+use Rattle.uri.proofs.Parts.{host-unread, host-inside, port-unread, tail-bad, parts-read}
 use Rattle.uri.specs.SipUri.{uriFrom}
+use borrow.Author.Tests.{not-true, not-false}
 use mathlib.Core.Path.{sym, ap, _∙_}
 use Rattle.uri.proofs.with_host.Statement.{statement}
 use Rattle.uri.proofs.with_host.Tie as tie
@@ -28,14 +29,14 @@ enum-told c = search needs
 returns : tie.Need-returns
 returns c = ap uriFrom (sym (host-unread (c .before .before .before .before .before .args .secure) (c .before .before .before .before .before .args .s .now) (c .before .before .before .before .before .args .at) (c .before .before .before .before .before .args .user) (sym (c .before .before .read-host .ensures .0) ∙ c .enum-told .given .1)))
 
-sub-after-host : tie.Need-sub-after-host
-sub-after-host c = host-inside _ _ (c .before .before .before .read-host .ensures .1) (c .before .n .given .1)
+sub-tail : tie.Need-sub-tail
+sub-tail c = host-inside _ _ (c .before .before .before .read-host .ensures .1) (c .before .n .given .1)
 
-part-after-host-start : tie.Need-part-after-host-start
-part-after-host-start c = search (needs, host-inside _ _ (c .before .before .before .read-host .ensures .1) (c .before .n .given .1))
+part-tail-start : tie.Need-part-tail-start
+part-tail-start c = search (needs, host-inside _ _ (c .before .before .before .read-host .ensures .1) (c .before .n .given .1))
 
-part-after-host-end : tie.Need-part-after-host-end
-part-after-host-end c = search needs
+part-tail-end : tie.Need-part-tail-end
+part-tail-end c = search needs
 
 after-host-requires : tie.Need-after-host-requires
 after-host-requires c κs = search needs
@@ -49,8 +50,14 @@ enum-told-2 c = search needs
 returns-2 : tie.Need-returns-2
 returns-2 c = ap uriFrom (sym (port-unread (c .before .before .before .before .before .before .before .before .before .before .args .secure) (c .before .before .before .before .before .before .before .before .before .before .args .s .now) (c .before .before .before .before .before .before .before .before .before .before .args .at) (c .before .before .before .before .before .before .before .before .before .before .args .user) _ (sym (c .before .before .before .before .before .before .before .read-host .ensures .0) ∙ c .before .before .before .before .before .n .given .1) (sym (c .before .before .after-host .ensures) ∙ c .enum-told2 .given .1)))
 
+all-of-requires : tie.Need-all-of-requires
+all-of-requires c κs = search needs
+
 returns-3 : tie.Need-returns-3
-returns-3 c = parts-read (c .before .before .before .before .before .before .before .before .before .before .before .args .secure) (c .before .before .before .before .before .before .before .before .before .before .before .args .s .now) (c .before .before .before .before .before .before .before .before .before .before .before .args .at) (c .before .before .before .before .before .before .before .before .before .before .before .args .user) _ (sym (c .before .before .before .before .before .before .before .before .read-host .ensures .0) ∙ c .before .before .before .before .before .before .n .given .1) _ (omega arith) (sym (c .before .before .before .after-host .ensures) ∙ c .before .port .given .1)
+returns-3 c = ap uriFrom (sym (tail-bad (c .before .before .before .before .before .before .before .before .before .before .before .before .before .args .secure) (c .before .before .before .before .before .before .before .before .before .before .before .before .before .args .s .now) (c .before .before .before .before .before .before .before .before .before .before .before .before .before .args .at) (c .before .before .before .before .before .before .before .before .before .before .before .before .before .args .user) _ (sym (c .before .before .before .before .before .before .before .before .before .before .read-host .ensures .0) ∙ c .before .before .before .before .before .before .before .before .n .given .1) (sym (c .before .all-of .ensures) ∙ not-true _ (c .if1 .taken))))
+
+returns-4 : tie.Need-returns-4
+returns-4 c = parts-read (c .before .before .before .before .before .before .before .before .before .before .before .before .before .args .secure) (c .before .before .before .before .before .before .before .before .before .before .before .before .before .args .s .now) (c .before .before .before .before .before .before .before .before .before .before .before .before .before .args .at) (c .before .before .before .before .before .before .before .before .before .before .before .before .before .args .user) _ (sym (c .before .before .before .before .before .before .before .before .before .before .read-host .ensures .0) ∙ c .before .before .before .before .before .before .before .before .n .given .1) _ (omega arith) (sym (c .before .before .before .before .before .after-host .ensures) ∙ c .before .before .before .port .given .1) (sym (c .before .all-of .ensures) ∙ not-false _ (c .if1 .left))
 
 pub with-host-spec : {M : Type 1} → statement M
 with-host-spec =
@@ -63,11 +70,13 @@ with-host-spec =
     enum-known-n
     enum-told
     returns
-    sub-after-host
-    part-after-host-start
-    part-after-host-end
+    sub-tail
+    part-tail-start
+    part-tail-end
     after-host-requires
     enum-known-port
     enum-told-2
     returns-2
-    returns-3)
+    all-of-requires
+    returns-3
+    returns-4)

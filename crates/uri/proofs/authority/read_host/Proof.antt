@@ -1,9 +1,8 @@
 -- `uri::read_host` meets its contract. Assumes nothing.
 use native.Mathlib.Omega.{arith}
 use borrow.Author.Needs.{needs}
-use Rattle.uri.proofs.Hosts.{begins-first, no-host, name-empty, name-bad, name-good}
+use Rattle.uri.proofs.Hosts.{begins-first, no-host, name-whole, name-broken, name-none, name-ended}
 use borrow.Author.Tests.{eq-eqb, ne-eqb, not-true, not-false}
-use lib.Seq.{length-take-le}
 use mathlib.Core.Path.{sym, _∙_}
 use Rattle.uri.proofs.authority.read_host.Statement.{statement}
 use Rattle.uri.proofs.authority.read_host.Tie as tie
@@ -24,19 +23,22 @@ run-requires : tie.Need-run-requires
 run-requires c κs = search needs
 
 returns-3 : tie.Need-returns-3
-returns-3 c = (name-empty (c .before .before .before .before .before .before .args .s .now) _ (begins-first 91 (c .before .before .before .before .before .before .args .s .now) (omega arith) ∙ ne-eqb _ _ (c .before .before .if2 .left)) (c .before .run .ensures .0) (c .if3 .taken), tt)
+returns-3 c = (name-whole (c .before .before .before .before .before .before .args .s .now) _ (begins-first 91 (c .before .before .before .before .before .before .args .s .now) (omega arith) ∙ ne-eqb _ _ (c .before .before .if2 .left)) (c .before .run .ensures .0) (c .if3 .taken) (λ z. omega arith), c .before .run .ensures .1)
 
-slice-aggregate-all-of : tie.Need-slice-aggregate-all-of
-slice-aggregate-all-of c = sym (length-take-le _ _ (c .before .before .run .ensures .1))
+shared-slice-read-ends-host : tie.Need-shared-slice-read-ends-host
+shared-slice-read-ends-host c = search needs
 
-all-of-requires : tie.Need-all-of-requires
-all-of-requires c κs = search needs
+ends-host-requires : tie.Need-ends-host-requires
+ends-host-requires c κs = search needs
 
 returns-4 : tie.Need-returns-4
-returns-4 c = (name-bad (c .before .before .before .before .before .before .before .before .before .args .s .now) _ (begins-first 91 (c .before .before .before .before .before .before .before .before .before .args .s .now) (omega arith) ∙ ne-eqb _ _ (c .before .before .before .before .before .if2 .left)) (c .before .before .before .before .run .ensures .0) (sym (c .before .all-of .ensures) ∙ not-true _ (c .if4 .taken)), tt)
+returns-4 c = (name-broken (c .before .before .before .before .before .before .before .before .before .args .s .now) _ (begins-first 91 (c .before .before .before .before .before .before .before .before .before .args .s .now) (omega arith) ∙ ne-eqb _ _ (c .before .before .before .before .before .if2 .left)) (c .before .before .before .before .run .ensures .0) (omega arith) (sym (c .before .ends-host .ensures) ∙ not-true _ (c .if4 .taken)), tt)
 
 returns-5 : tie.Need-returns-5
-returns-5 c = (name-good (c .before .before .before .before .before .before .before .before .before .args .s .now) _ (begins-first 91 (c .before .before .before .before .before .before .before .before .before .args .s .now) (omega arith) ∙ ne-eqb _ _ (c .before .before .before .before .before .if2 .left)) (c .before .before .before .before .run .ensures .0) (c .before .before .before .if3 .left) (c .before .before .before .before .run .ensures .1) (sym (c .before .all-of .ensures) ∙ not-false _ (c .if4 .left)), c .before .before .before .before .run .ensures .1)
+returns-5 c = (name-none (c .before .before .before .before .before .before .before .before .before .before .args .s .now) _ (begins-first 91 (c .before .before .before .before .before .before .before .before .before .before .args .s .now) (omega arith) ∙ ne-eqb _ _ (c .before .before .before .before .before .before .if2 .left)) (c .before .before .before .before .before .run .ensures .0) (sym (c .before .before .ends-host .ensures) ∙ not-false _ (c .before .if4 .left)) (c .if5 .taken), tt)
+
+returns-6 : tie.Need-returns-6
+returns-6 c = (name-ended (c .before .before .before .before .before .before .before .before .before .before .args .s .now) _ (begins-first 91 (c .before .before .before .before .before .before .before .before .before .before .args .s .now) (omega arith) ∙ ne-eqb _ _ (c .before .before .before .before .before .before .if2 .left)) (c .before .before .before .before .before .run .ensures .0) (sym (c .before .before .ends-host .ensures) ∙ not-false _ (c .before .if4 .left)) (c .if5 .left) (c .before .before .before .before .before .run .ensures .1), c .before .before .before .before .before .run .ensures .1)
 
 pub read-host-spec : {M : Type 1} → statement M
 read-host-spec =
@@ -48,7 +50,8 @@ read-host-spec =
     returns-2
     run-requires
     returns-3
-    slice-aggregate-all-of
-    all-of-requires
+    shared-slice-read-ends-host
+    ends-host-requires
     returns-4
-    returns-5)
+    returns-5
+    returns-6)

@@ -1,7 +1,7 @@
--- `uri::in_range` meets its contract. Assumes nothing.
+-- `text::in_range` meets its contract. Assumes nothing.
 use borrow.Author.Tests.{le-leb, lt-leb}
-use Rattle.uri.proofs.class.in_range.Statement.{statement}
-use Rattle.uri.proofs.class.in_range.Tie as tie
+use Rattle.text.proofs.in_range.Statement.{statement}
+use Rattle.text.proofs.in_range.Tie as tie
 
 returns : tie.Need-returns
 returns c = rw (le-leb _ _ (c .if1 .taken))

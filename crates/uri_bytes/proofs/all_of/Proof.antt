@@ -1,12 +1,12 @@
--- `uri::all_of` meets its contract: the run of bytes of the class is the whole text. Assumes nothing.
+-- `uri_bytes::all_of` meets its contract: the run of bytes of the class is the whole text. Assumes nothing.
 use borrow.Author.Needs.{needs}
 use Prim.Native.Nat.{ℕ}
 use mathlib.Core.Path.{ap, _∙_}
 use lib.ListN.{length}
 use lib.Dec.{eqb}
 use Rattle.text.proofs.Runs.{all-span}
-use Rattle.uri.proofs.class.all_of.Statement.{statement}
-use Rattle.uri.proofs.class.all_of.Tie as tie
+use Rattle.uri_bytes.proofs.all_of.Statement.{statement}
+use Rattle.uri_bytes.proofs.all_of.Tie as tie
 
 run-requires : tie.Need-run-requires
 run-requires c κs = search needs

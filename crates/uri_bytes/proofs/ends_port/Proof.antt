@@ -1,7 +1,7 @@
--- `uri::ends_port` meets its contract. Assumes nothing.
+-- `uri_bytes::ends_port` meets its contract. Assumes nothing.
 use borrow.Author.Tests.{eq-eqb, ne-eqb}
-use Rattle.uri.proofs.class.ends_port.Statement.{statement}
-use Rattle.uri.proofs.class.ends_port.Tie as tie
+use Rattle.uri_bytes.proofs.ends_port.Statement.{statement}
+use Rattle.uri_bytes.proofs.ends_port.Tie as tie
 
 returns : tie.Need-returns
 returns c = rw (eq-eqb _ _ (c .if1 .taken))

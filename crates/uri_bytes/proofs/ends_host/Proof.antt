@@ -1,8 +1,8 @@
--- `uri::ends_host` meets its contract. Assumes nothing.
+-- `uri_bytes::ends_host` meets its contract. Assumes nothing.
 use borrow.Author.Needs.{needs}
 use borrow.Author.Tests.{eq-eqb, ne-eqb}
-use Rattle.uri.proofs.class.ends_host.Statement.{statement}
-use Rattle.uri.proofs.class.ends_host.Tie as tie
+use Rattle.uri_bytes.proofs.ends_host.Statement.{statement}
+use Rattle.uri_bytes.proofs.ends_host.Tie as tie
 
 ends-port-requires : tie.Need-ends-port-requires
 ends-port-requires c κs = search needs
