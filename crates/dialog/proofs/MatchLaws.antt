@@ -16,10 +16,9 @@ use Rattle.limits.proofs.Laws.{passed, stopped}
 use Rattle.text.specs.Text.{Piece, equal}
 use Rattle.msg.specs.Block.{blockCause}
 use Rattle.msg.proofs.LookupLaws.{Placed}
-use Rattle.dialog_id.specs.DialogId.{Identifier, identifierOf, fromName, toName, readIdentifier, dialogIdFrom, idAnswer, fromRequest}
+use Rattle.dialog_id.specs.DialogId.{Identifier, identifierOf, fromName, toName, readIdentifier, dialogIdFrom, idFrom, fromRequest}
 use Rattle.dialog_id.specs.declared.DialogId.{DialogId}
-use Rattle.dialog_id.specs.declared.IdAnswer.the-variants as id
-use Rattle.dialog_id.proofs.IdLaws.{id-clear}
+use Rattle.dialog_id.specs.declared.IdPart.the-variants as part
 use Rattle.record.specs.Codec.{Reading}
 use Rattle.record.specs.Record.{Record, image}
 use Rattle.record.proofs.CodecLaws.{Bytes}
@@ -42,20 +41,16 @@ pub record Asked (block : List ℕ) (i : DialogId) : Type 0 where
   pub spans : i ≡ dialogIdFrom parts
   pub placed : PlacedId block parts
 
-module _ (L : LimitSet) (block : List ℕ) (clear : blockCause L block ≡ none) where
-  pub asked : (i : DialogId) → id.At i ≡ idAnswer (fromRequest L block) → Asked block i
-  asked i e = by (identifierOf fromName toName block) refl (e ∙ ap idAnswer (id-clear L fromName toName block clear))
-    where
-      by : (o : Option Identifier) → identifierOf fromName toName block ≡ o → id.At i ≡ idAnswer (orRefuse MissingHeader o) → Asked block i
-      by none q h = absurd (let z : _≡_ {A = ℕ} 0 1 = cc in omega arith)
-      by (some p) q h = record { parts = p; reads = q; spans = (cc); placed = identifier-placed fromName toName block p q }
+pub asked : (block : List ℕ) (i : DialogId) → part.At i ≡ idFrom (identifierOf fromName toName block) → Asked block i
+asked block i e = by (identifierOf fromName toName block) refl e
+  where
+    by : (o : Option Identifier) → identifierOf fromName toName block ≡ o → part.At i ≡ idFrom o → Asked block i
+    by none q h = absurd (let z : _≡_ {A = ℕ} 0 1 = cc in omega arith)
+    by (some p) q h = record { parts = p; reads = q; spans = (cc); placed = identifier-placed fromName toName block p q }
 
-  pub not-asked : {cause : Refusal} → id.Refused cause ≡ idAnswer (fromRequest L block) → identifierOf fromName toName block ≡ none
-  not-asked e = by (identifierOf fromName toName block) refl (e ∙ ap idAnswer (id-clear L fromName toName block clear))
-    where
-      by : (o : Option Identifier) {cause : Refusal} → identifierOf fromName toName block ≡ o → id.Refused cause ≡ idAnswer (orRefuse MissingHeader o) → identifierOf fromName toName block ≡ none
-      by none q h = q
-      by (some p) q h = absurd (let z : _≡_ {A = ℕ} 0 1 = cc in omega arith)
+pub not-asked : (o : Option Identifier) → part.Nothing ≡ idFrom o → o ≡ none
+not-asked none h = refl
+not-asked (some p) h = absurd (let z : _≡_ {A = ℕ} 0 1 = cc in omega arith)
 
 -- ---- the record of the image
 

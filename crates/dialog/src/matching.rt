@@ -2,7 +2,8 @@
 use crate::readings::ImageAnswer;
 use crate::readings::read_image;
 use dialog_id::DialogId;
-use dialog_id::IdAnswer;
+use dialog_id::IdPart;
+use dialog_id::request_id;
 use image::IdsAt;
 use limits::Check;
 use limits::Refusal;
@@ -32,7 +33,7 @@ pub fn matches_request(block: &[u8], bytes: &[u8]) -> Matches
     let ImageAnswer::Of(r) = read_image(bytes) else {
         return Matches::Refused(Refusal::BadStore);
     };
-    let IdAnswer::At(i) = DialogId::from_request(block) else {
+    let IdPart::At(i) = request_id(block) else {
         return Matches::No;
     };
     let ids = r.ids;

@@ -13,7 +13,7 @@ ghost use Prim.Native.Nat.{_≤_};
 ghost use lib.ListN.{length};
 ghost use Rattle.text.specs.Text.{all, span};
 ghost use Rattle.headers.specs.Tag.{partOf};
-ghost use Rattle.dialog_id.specs.DialogId.{isPlain, partCause, identifierCause, tagNamed, identifierOf, fromRequest, fromResponseUac, fromResponseUas, idFrom, idAnswer};
+ghost use Rattle.dialog_id.specs.DialogId.{isPlain, partCause, identifierCause, tagNamed, fromName, toName, identifierOf, fromRequest, fromResponseUac, fromResponseUas, idFrom, idAnswer};
 
 // Where the three parts stand in a header block.
 pub struct DialogId {
@@ -89,6 +89,13 @@ impl DialogId {
         };
         IdAnswer::At(id)
     }
+}
+
+// The identifier that a request names, of a block that was checked before; the tag of From as local tag.
+pub fn request_id(block: &[u8]) -> IdPart
+    ensures { λ r. ⌜ r ≡ idFrom (identifierOf fromName toName (now (block .entry))) ⌝ }
+{
+    read_id(block, b"From", b"To")
 }
 
 // The Call-ID and the tags of the two headers named.

@@ -2,8 +2,8 @@
 use crate::placing::Place;
 use crate::placing::place_of;
 use crate::placing::place_of_request;
-use dialog_id::DialogId;
-use dialog_id::IdAnswer;
+use dialog_id::IdPart;
+use dialog_id::request_id;
 use limits::Check;
 use limits::Refusal;
 use store::Held;
@@ -52,7 +52,7 @@ pub fn find_by_request(block: &[u8], bytes: &[u8], used: usize) -> Place
     let Held::Records(_) = store::count(bytes, used) else {
         return Place::Refused(Refusal::BadStore);
     };
-    let IdAnswer::At(i) = DialogId::from_request(block) else {
+    let IdPart::At(i) = request_id(block) else {
         return Place::Refused(Refusal::NotFound);
     };
     place_of_request(block, i, &bytes[..used])

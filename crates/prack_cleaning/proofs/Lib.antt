@@ -1,1 +1,1 @@
-pub mod SiftLaws
+pub mod KeepLaws

@@ -1,1 +1,1 @@
-pub mod Sifted
+pub mod KeptList

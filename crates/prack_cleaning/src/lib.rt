@@ -3,9 +3,9 @@ use edit::move_left;
 use limits::Limits;
 use prack_body::read_eight;
 use prack_body::write_eight;
-use prack_sieve::Sieve;
-use prack_sieve::elapsed;
-use prack_sieve::passes;
+use prack_staying::Test;
+use prack_staying::elapsed;
+use prack_staying::passes;
 ghost use mathlib.Core.Path.{_≡_};
 ghost use mathlib.Core.Option.{some};
 ghost use mathlib.Core.List.{List, _++_};
@@ -16,8 +16,8 @@ ghost use Rattle.record.specs.Codec.{writeAll};
 ghost use Rattle.prack_body.specs.Lists.{Pending, Tracked, staying, cleaned, withList, withoutPracked};
 ghost use Rattle.prack_body.specs.Layout.{pendingForm, AllFormed};
 ghost use Rattle.prack_body.specs.Body.{Holds, Kept};
-ghost use Rattle.prack_sieve.specs.Sieve.{testOf};
-ghost use Rattle.prack_cleaning.specs.Sifted.{sifted};
+ghost use Rattle.prack_staying.specs.Test.{testOf};
+ghost use Rattle.prack_cleaning.specs.KeptList.{keptList};
 
 // The cleanup of a call at a time, where it is due: the time stored, and the entries that stay. The new length.
 pub fn clean(body: &mut [u8], n: usize, time: u64) -> usize
@@ -29,7 +29,7 @@ pub fn clean(body: &mut [u8], n: usize, time: u64) -> usize
         return n;
     }
     write_eight(body, 0, time);
-    sift(body, n, Sieve::Young(time))
+    keep_list(body, n, Test::Young(time))
 }
 
 // All but the acknowledged entries of an RSeq. The new length.
@@ -37,13 +37,13 @@ pub fn prune(body: &mut [u8], n: usize, rseq: u32) -> usize
     requires { ⌜ (9 ≤ n) × ((n ≤ 210) × (210 ≤ length (now body))) ⌝ }
     ensures { λ r. ⌜ ((t : Tracked) → Holds (now (body .entry)) n t → Holds (now (body .exit)) r (withList (withoutPracked rseq (t .list)) t)) ⌝ }
 {
-    sift(body, n, Sieve::Other(rseq))
+    keep_list(body, n, Test::Other(rseq))
 }
 
 // The entries that stay. The new length.
-fn sift(body: &mut [u8], n: usize, which: Sieve) -> usize
+fn keep_list(body: &mut [u8], n: usize, which: Test) -> usize
     requires { ⌜ (9 ≤ n) × ((n ≤ 210) × (210 ≤ length (now body))) ⌝ }
-    ensures { λ r. ⌜ ((t : Tracked) → Holds (now (body .entry)) n t → Holds (now (body .exit)) r (withList (sifted which (t .list)) t)) ⌝ }
+    ensures { λ r. ⌜ ((t : Tracked) → Holds (now (body .entry)) n t → Holds (now (body .exit)) r (withList (keptList which (t .list)) t)) ⌝ }
 {
     if n < 10 {
         return n;
@@ -54,7 +54,7 @@ fn sift(body: &mut [u8], n: usize, which: Sieve) -> usize
 }
 
 // The entries that stay, moved together behind the count byte. How many.
-fn keep(body: &mut [u8], count: usize, which: Sieve) -> usize
+fn keep(body: &mut [u8], count: usize, which: Test) -> usize
     requires { ⌜ (count ≤ 10) × (10 + count * 20 ≤ length (now body)) ⌝ }
     ensures { λ r. ⌜ r ≤ count ⌝ }
     ensures { λ r. ⌜ ((ps : List Pending) (rest : List ℕ) → AllFormed ps → count ≡ length ps → drop 10 (now (body .entry)) ≡ writeAll pendingForm ps ++ rest → Kept (now (body .entry)) (staying (testOf which) ps) (now (body .exit)) r) ⌝ }

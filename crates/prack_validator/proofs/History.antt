@@ -59,16 +59,16 @@ known m e = by (isMethod m) refl e
 few : (ps : List Pending) → isShort rustLimits ps ≡ true → length ps ≤ 10
 few ps e = leb-true (length ps) 10 e
 
-sifted-formed : (test : Pending → Bool) (ps : List Pending) → ListFormed rustLimits (some ps) → ListFormed rustLimits (some (staying test ps))
-sifted-formed test ps f = (staying-formed test ps (f .0), le-leb (length (staying test ps)) 10 (omega (arith, staying-short test ps, few ps (f .1))))
+kept-formed : (test : Pending → Bool) (ps : List Pending) → ListFormed rustLimits (some ps) → ListFormed rustLimits (some (staying test ps))
+kept-formed test ps f = (staying-formed test ps (f .0), le-leb (length (staying test ps)) 10 (omega (arith, staying-short test ps, few ps (f .1))))
 
 clean-list : (time : ℕ) (o : Option (List Pending)) → ListFormed rustLimits o → ListFormed rustLimits (cleanedList rustLimits time o)
 clean-list time none f = tt
-clean-list time (some ps) f = sifted-formed (stays rustLimits time) ps f
+clean-list time (some ps) f = kept-formed (stays rustLimits time) ps f
 
 pruned-list : (r : ℕ) (o : Option (List Pending)) → ListFormed rustLimits o → ListFormed rustLimits (withoutPracked r o)
 pruned-list r none f = tt
-pruned-list r (some ps) f = sifted-formed (isOther r) ps f
+pruned-list r (some ps) f = kept-formed (isOther r) ps f
 
 marked-list : (v : Outcome RAck) (o : Option (List Pending)) → ListFormed rustLimits o → ListFormed rustLimits (markedBy v o)
 marked-list (refused cause) o f = f

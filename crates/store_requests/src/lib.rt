@@ -1,6 +1,6 @@
 // The request entry: the record that a request names, changed by it.
-use dialog_id::DialogId;
-use dialog_id::IdAnswer;
+use dialog_id::IdPart;
+use dialog_id::request_id;
 use dialog_requests::request_at;
 use limits::Check;
 use limits::Refusal;
@@ -14,7 +14,6 @@ ghost use mathlib.Core.Option.{none};
 ghost use Prim.Native.Nat.{_+_, _≤_};
 ghost use lib.ListN.{length};
 ghost use Rattle.limits.specs.Limits.{rustLimits};
-ghost use Rattle.msg.specs.Block.{blockCause};
 ghost use Rattle.dialog.specs.Matching.{partIn};
 ghost use Rattle.book.specs.Calls.{ident};
 ghost use Rattle.book.specs.Book.{namedIn};
@@ -39,13 +38,12 @@ pub fn request(method: &[u8], block: &[u8], bytes: &mut [u8], used: usize) -> Wr
     }
 }
 
-// By the identifier that a checked block names, if it names one: 3, 15. A request from the peer has From as remote tag.
+// By the identifier that a block names, if it names one: 3, 15. A request from the peer has From as remote tag.
 fn locate_named(bytes: &[u8], used: usize, block: &[u8]) -> Standing
-    requires { ⌜ blockCause rustLimits (now block) ≡ none ⌝ }
     ensures { λ r. ⌜ r ≡ standingOf (spotNamed (namedIn (now (block .entry))) (now (bytes .entry)) used) ⌝ }
     ensures { λ r. ⌜ Ready (now (bytes .entry)) used r ⌝ }
 {
-    let IdAnswer::At(i) = DialogId::from_request(block) else {
+    let IdPart::At(i) = request_id(block) else {
         return nowhere(bytes, used);
     };
     let call_id = i.call_id;

@@ -5,7 +5,7 @@ use mathlib.Core.List.{List}
 use Rattle.prack_body.specs.Lists.{Tracked}
 use Rattle.prack_body.specs.Body.{Holds}
 use Rattle.prack_body.proofs.BodyLaws.{cleaned-at, retimed}
-use Rattle.prack_cleaning.proofs.SiftLaws.{not-due, due}
+use Rattle.prack_cleaning.proofs.KeepLaws.{not-due, due}
 use native.Mathlib.Omega.{arith}
 use borrow.Author.Needs.{needs}
 use Rattle.prack_cleaning.proofs.clean.Statement.{statement}
@@ -34,8 +34,8 @@ returns c =
 write-eight-requires : tie.Need-write-eight-requires
 write-eight-requires c κs = search needs
 
-sift-requires : tie.Need-sift-requires
-sift-requires c κs = search needs
+keep-list-requires : tie.Need-keep-list-requires
+keep-list-requires c κs = search needs
 
 same-length-2 : tie.Need-same-length-2
 same-length-2 c = search needs
@@ -47,8 +47,8 @@ returns-2 c =
     let z : c .before .before .before .before .before .before .before .before .before .before .read-eight .result ≡ t .cleanedAt = cleaned-at h (c .before .before .before .before .before .before .before .before .before .before .read-eight .ensures) in
     let l : 300000000000 ≤ a .time - t .cleanedAt = omega arith in
     let u : Tracked = record { id = t .id; cleanedAt = a .time; list = t .list } in
-    subst (λ (x : Tracked). Holds (c .before .before .sift .last .0) (c .before .before .sift .result) x) (sym (due (a .time) t l))
-    (c .before .before .sift .ensures u (subst (λ (s : List ℕ). Holds s (a .n) u) (sym (c .before .before .before .before .before .before .write-eight .ensures .1)) (retimed (a .time) (omega arith) h)))
+    subst (λ (x : Tracked). Holds (c .before .before .keep-list .last .0) (c .before .before .keep-list .result) x) (sym (due (a .time) t l))
+    (c .before .before .keep-list .ensures u (subst (λ (s : List ℕ). Holds s (a .n) u) (sym (c .before .before .before .before .before .before .write-eight .ensures .1)) (retimed (a .time) (omega arith) h)))
 
 pub clean-spec : {M : Type 1} → statement M
 clean-spec =
@@ -60,6 +60,6 @@ clean-spec =
     same-length
     returns
     write-eight-requires
-    sift-requires
+    keep-list-requires
     same-length-2
     returns-2)

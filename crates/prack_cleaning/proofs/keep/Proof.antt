@@ -7,15 +7,15 @@ use lib.ListN.{length, drop}
 use Rattle.record.specs.Codec.{writeAll}
 use Rattle.prack_body.specs.Lists.{Pending}
 use Rattle.prack_body.specs.Layout.{pendingForm, AllFormed}
-use Rattle.prack_sieve.specs.Sieve.{testOf}
-use Rattle.prack_cleaning.proofs.SiftLaws.{Sifting, start, done, passed, moved}
+use Rattle.prack_staying.specs.Test.{testOf}
+use Rattle.prack_cleaning.proofs.KeepLaws.{Keeping, start, done, passed, moved}
 use native.Mathlib.Omega.{arith}
 use borrow.Author.Needs.{needs}
 use Rattle.prack_cleaning.proofs.keep.Statement.{statement}
 use Rattle.prack_cleaning.proofs.keep.Tie as tie
 
 abbrev Inv-loop : tie.InvT-loop
-Inv-loop body₀ count which i₀ kept₀ body i kept = (i ≤ count) × ((kept ≤ i) × ((length body ≡ length body₀) × ((ps : List Pending) (rest : List ℕ) → AllFormed ps → count ≡ length ps → drop 10 body₀ ≡ writeAll pendingForm ps ++ rest → Sifting (testOf which) body₀ rest ps i kept body)))
+Inv-loop body₀ count which i₀ kept₀ body i kept = (i ≤ count) × ((kept ≤ i) × ((length body ≡ length body₀) × ((ps : List Pending) (rest : List ℕ) → AllFormed ps → count ≡ length ps → drop 10 body₀ ≡ writeAll pendingForm ps ++ rest → Keeping (testOf which) body₀ rest ps i kept body)))
 
 abbrev μ-loop : tie.MeasureT-loop
 μ-loop body₀ count which i₀ kept₀ body i kept = count - i
@@ -69,7 +69,7 @@ loop-again c =
         omega arith,
         (
           omega arith,
-          λ ps rest g m e. subst (λ (x : ℕ). Sifting (testOf (a .which)) (a .body .now) rest ps (l .loop .i + 1) x (c .if1 .body)) (sym k)
+          λ ps rest g m e. subst (λ (x : ℕ). Keeping (testOf (a .which)) (a .body .now) rest ps (l .loop .i + 1) x (c .if1 .body)) (sym k)
               (moved (testOf (a .which)) (a .body .now) rest ps (l .loop .inv .1 .1 .1 ps rest g m e) (omega arith) (c .before .passes .ensures) (w .0 .taken) (omega arith) (omega arith) (w .5 ∙ w .2 .ensures)),
         ),
       ),
@@ -82,8 +82,8 @@ loop-again c =
         omega arith,
         (
           omega arith,
-          λ ps rest g m e. subst (λ (x : ℕ). Sifting (testOf (a .which)) (a .body .now) rest ps (l .loop .i + 1) x (c .if1 .body)) (sym k)
-              (subst (λ (x : List ℕ). Sifting (testOf (a .which)) (a .body .now) rest ps (l .loop .i + 1) (l .loop .kept) x) (sym (w .1)) (passed (testOf (a .which)) (a .body .now) rest ps (l .loop .inv .1 .1 .1 ps rest g m e) (omega arith) (c .before .passes .ensures) (w .0 .left))),
+          λ ps rest g m e. subst (λ (x : ℕ). Keeping (testOf (a .which)) (a .body .now) rest ps (l .loop .i + 1) x (c .if1 .body)) (sym k)
+              (subst (λ (x : List ℕ). Keeping (testOf (a .which)) (a .body .now) rest ps (l .loop .i + 1) (l .loop .kept) x) (sym (w .1)) (passed (testOf (a .which)) (a .body .now) rest ps (l .loop .inv .1 .1 .1 ps rest g m e) (omega arith) (c .before .passes .ensures) (w .0 .left))),
         ),
       ),
     ))

@@ -4,19 +4,19 @@ use mathlib.Core.List.{List}
 use mathlib.Core.Option.{Option}
 use Rattle.prack_body.specs.Lists.{Pending, withList}
 use Rattle.prack_body.specs.Body.{Holds}
-use Rattle.prack_cleaning.proofs.SiftLaws.{other-list}
+use Rattle.prack_cleaning.proofs.KeepLaws.{other-list}
 use borrow.Author.Needs.{needs}
 use Rattle.prack_cleaning.proofs.prune.Statement.{statement}
 use Rattle.prack_cleaning.proofs.prune.Tie as tie
 
-sift-requires : tie.Need-sift-requires
-sift-requires c κs = search needs
+keep-list-requires : tie.Need-keep-list-requires
+keep-list-requires c κs = search needs
 
 same-length : tie.Need-same-length
 same-length c = search needs
 
 returns : tie.Need-returns
-returns c = let a = c .before .before .before .before .before .args in λ t h. subst (λ (o : Option (List Pending)). Holds (c .before .before .sift .last .0) (c .before .before .sift .result) (withList o t)) (other-list (a .rseq) (t .list)) (c .before .before .sift .ensures t h)
+returns c = let a = c .before .before .before .before .before .args in λ t h. subst (λ (o : Option (List Pending)). Holds (c .before .before .keep-list .last .0) (c .before .before .keep-list .result) (withList o t)) (other-list (a .rseq) (t .list)) (c .before .before .keep-list .ensures t h)
 
 pub prune-spec : {M : Type 1} → statement M
-prune-spec = tie.close (tie.spec sift-requires same-length returns)
+prune-spec = tie.close (tie.spec keep-list-requires same-length returns)

@@ -53,7 +53,7 @@ enum-told : tie.Need-enum-told
 enum-told c = search needs
 
 locate-named-requires : tie.Need-locate-named-requires
-locate-named-requires c κs = good (c .before)
+locate-named-requires c κs = search needs
 
 enum-known-at : tie.Need-enum-known-at
 enum-known-at c = search needs

@@ -16,7 +16,7 @@ use Rattle.dialog.proofs.matching.matches_request.Reads as reads
 use Rattle.dialog.proofs.matching.matches_request.Lts as lts
 use Rattle.dialog.proofs.matching.names.Reads as names-reads
 use Rattle.dialog.proofs.readings.read_image.Reads as read-image-reads
-use Rattle.dialog_id.proofs.DialogId.from_request.Reads as from-request-reads
+use Rattle.dialog_id.proofs.request_id.Reads as request-id-reads
 use Rattle.msg.proofs.check_block.Reads as check-block-reads
 
 check-block-requires : tie.Need-check-block-requires
@@ -48,13 +48,13 @@ record-held : (c : tie.After-known-told2) → Held (c .before .before .before .b
 record-held c = held (c .before .before .before .before .before .before .before .before .before .args .bytes .now) (c .before .r .given .0 .0) (sym (c .before .r .given .1) ∙ c .before .before .before .read-image .ensures)
 
 request-asked : (c : tie.After-known-told3) → Asked (c .before .before .before .before .before .before .before .before .before .before .before .before .before .args .block .now) (c .before .i .given .0 .0)
-request-asked c = asked rustLimits (c .before .before .before .before .before .before .before .before .before .before .before .before .before .args .block .now) (clear (c .before .before .before .before .before .before .before .before)) (c .before .i .given .0 .0) (sym (c .before .i .given .1) ∙ c .before .before .before .from-request .ensures)
+request-asked c = asked (c .before .before .before .before .before .before .before .before .before .before .before .before .before .args .block .now) (c .before .i .given .0 .0) (sym (c .before .i .given .1) ∙ c .before .before .before .request-id .ensures)
 
 returns-2 : tie.Need-returns-2
 returns-2 c = bad-image rustLimits (c .before .before .before .before .before .before .before .before .args .block .now) (c .before .before .before .before .before .before .before .before .args .bytes .now) (clear (c .before .before .before)) (sym (c .enum-told2 .given .1) ∙ c .before .before .read-image .ensures)
 
-from-request-requires : tie.Need-from-request-requires
-from-request-requires c κs = search needs
+request-id-requires : tie.Need-request-id-requires
+request-id-requires c κs = search needs
 
 enum-known-i : tie.Need-enum-known-i
 enum-known-i c = search needs
@@ -63,7 +63,7 @@ enum-told-3 : tie.Need-enum-told-3
 enum-told-3 c = search needs
 
 returns-3 : tie.Need-returns-3
-returns-3 c = no-part rustLimits (c .before .before .before .before .before .before .before .before .before .before .before .before .args .block .now) (c .before .before .before .before .before .before .before .before .before .before .before .before .args .bytes .now) (clear (c .before .before .before .before .before .before .before)) (c .before .before .before .before .r .given .0 .0) (record-held (c .before .before .before)) (not-asked rustLimits (c .before .before .before .before .before .before .before .before .before .before .before .before .args .block .now) (clear (c .before .before .before .before .before .before .before)) (sym (c .enum-told3 .given .1) ∙ c .before .before .from-request .ensures))
+returns-3 c = no-part rustLimits (c .before .before .before .before .before .before .before .before .before .before .before .before .args .block .now) (c .before .before .before .before .before .before .before .before .before .before .before .before .args .bytes .now) (clear (c .before .before .before .before .before .before .before)) (c .before .before .before .before .r .given .0 .0) (record-held (c .before .before .before)) (not-asked _ (sym (c .enum-told3 .given .1) ∙ c .before .before .request-id .ensures))
 
 names-requires : tie.Need-names-requires
 names-requires c κs =
@@ -88,7 +88,7 @@ matches-request-spec =
     enum-known-r
     enum-told-2
     returns-2
-    from-request-requires
+    request-id-requires
     enum-known-i
     enum-told-3
     returns-3

@@ -23,7 +23,7 @@ use Rattle.dialog_manager.proofs.lookups.find_by_request.Tie as tie
 use Rattle.dialog_manager.proofs.lookups.find_by_request.Reads as reads
 use Rattle.dialog_manager.proofs.lookups.find_by_request.Lts as lts
 use Rattle.dialog_manager.proofs.placing.place_of_request.Reads as place-of-request-reads
-use Rattle.dialog_id.proofs.DialogId.from_request.Reads as from-request-reads
+use Rattle.dialog_id.proofs.request_id.Reads as request-id-reads
 use Rattle.msg.proofs.check_block.Reads as check-block-reads
 use Rattle.store.proofs.count.Reads as count-reads
 
@@ -58,7 +58,7 @@ store c = kept (s (began c)) (start (began c) .args .used) (sym (c .before .befo
 request-asked : (c : tie.After-known-told2) → Asked (block (began (c .before .before .before .before))) (c .before .i .given .0 .0)
 request-asked c =
     let e = c .before .before .before .before in
-    asked rustLimits (block (began e)) (clear (e .before .before .before)) (c .before .i .given .0 .0) (sym (c .before .i .given .1) ∙ c .before .before .before .from-request .ensures)
+    asked (block (began e)) (c .before .i .given .0 .0) (sym (c .before .i .given .1) ∙ c .before .before .before .request-id .ensures)
 
 check-block-requires : tie.Need-check-block-requires
 check-block-requires c κs = search needs
@@ -89,8 +89,8 @@ returns-2 c =
     let k = c .before .before .before .before .before .before in
     store-refuses rustLimits (length (s k)) (findByRequest (block k)) (s k) (start k .args .used) (known k) (no-cause (c .before .before .before)) (sym (c .before .before .count .ensures) ∙ c .enum-told3 .given .1)
 
-from-request-requires : tie.Need-from-request-requires
-from-request-requires c κs = search needs
+request-id-requires : tie.Need-request-id-requires
+request-id-requires c κs = search needs
 
 enum-known-i : tie.Need-enum-known-i
 enum-known-i c = search needs
@@ -102,7 +102,7 @@ returns-3 : tie.Need-returns-3
 returns-3 c =
     let e = c .before .before .before in
     let k = began e in
-    let n = not-asked rustLimits (block k) (clear (e .before .before .before)) (sym (c .enum-told4 .given .1) ∙ c .before .before .from-request .ensures) in
+    let n = not-asked _ (sym (c .enum-told4 .given .1) ∙ c .before .before .request-id .ensures) in
     replies rustLimits (length (s k)) (findByRequest (block k)) (s k) (start k .args .used) (known k) (no-cause (e .before .before .before)) (store e) (refused NotFound) (unnamed-reply (s k) (start k .args .used) (store e) (block k) n)
 
 slice-aggregate-place-of-request : tie.Need-slice-aggregate-place-of-request
@@ -135,7 +135,7 @@ find-by-request-spec =
     enum-told-2
     enum-told-3
     returns-2
-    from-request-requires
+    request-id-requires
     enum-known-i
     enum-told-4
     returns-3

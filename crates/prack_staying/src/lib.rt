@@ -9,22 +9,22 @@ ghost use lib.ListN.{length, drop};
 ghost use Rattle.limits.specs.Limits.{rustLimits};
 ghost use Rattle.prack_body.specs.Lists.{Pending, stays, isOther};
 ghost use Rattle.prack_body.specs.Layout.{pendingForm, PendingFormed};
-ghost use Rattle.prack_sieve.specs.Sieve.{testOf};
+ghost use Rattle.prack_staying.specs.Test.{testOf};
 
 // Which entries stay: those not acknowledged and young at a time, or all but the acknowledged ones of an RSeq.
-pub enum Sieve {
+pub enum Test {
     Young(u64),
     Other(u32),
 }
 
 // Whether the entry at a place stays.
-pub fn passes(body: &[u8], at: usize, which: Sieve) -> bool
+pub fn passes(body: &[u8], at: usize, which: Test) -> bool
     requires { ⌜ at + 20 ≤ length (now body) ⌝ }
     ensures { λ r. ⌜ ((p : Pending) (rest : List ℕ) → PendingFormed p → drop at (now (body .entry)) ≡ pendingForm .write p ++ rest → r ≡ testOf which p) ⌝ }
 {
     match which {
-        Sieve::Young(time) => is_young(body, at, time),
-        Sieve::Other(rseq) => is_other(body, at, rseq),
+        Test::Young(time) => is_young(body, at, time),
+        Test::Other(rseq) => is_other(body, at, rseq),
     }
 }
 

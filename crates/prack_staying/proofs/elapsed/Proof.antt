@@ -1,7 +1,7 @@
--- `prack_sieve::elapsed` meets its contract. Assumes nothing.
+-- `prack_staying::elapsed` meets its contract. Assumes nothing.
 use native.Mathlib.Omega.{arith}
-use Rattle.prack_sieve.proofs.elapsed.Statement.{statement}
-use Rattle.prack_sieve.proofs.elapsed.Tie as tie
+use Rattle.prack_staying.proofs.elapsed.Statement.{statement}
+use Rattle.prack_staying.proofs.elapsed.Tie as tie
 
 sub-result : tie.Need-sub-result
 sub-result c = omega arith

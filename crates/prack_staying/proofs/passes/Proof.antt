@@ -1,7 +1,7 @@
--- `prack_sieve::passes` meets its contract. Assumes nothing.
+-- `prack_staying::passes` meets its contract. Assumes nothing.
 use borrow.Author.Needs.{needs}
-use Rattle.prack_sieve.proofs.passes.Statement.{statement}
-use Rattle.prack_sieve.proofs.passes.Tie as tie
+use Rattle.prack_staying.proofs.passes.Statement.{statement}
+use Rattle.prack_staying.proofs.passes.Tie as tie
 
 enum-known-which : tie.Need-enum-known-which
 enum-known-which c = search needs

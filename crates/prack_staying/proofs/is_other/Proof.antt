@@ -1,10 +1,10 @@
--- `prack_sieve::is_other` meets its contract. Assumes nothing.
+-- `prack_staying::is_other` meets its contract. Assumes nothing.
 use mathlib.Core.Path.{sym, _∙_}
 use Rattle.prack_body.proofs.BodyLaws.{flag-at, rseq-at}
-use Rattle.prack_sieve.proofs.TestLaws.{other-rseq, other-open}
+use Rattle.prack_staying.proofs.TestLaws.{other-rseq, other-open}
 use borrow.Author.Needs.{needs}
-use Rattle.prack_sieve.proofs.is_other.Statement.{statement}
-use Rattle.prack_sieve.proofs.is_other.Tie as tie
+use Rattle.prack_staying.proofs.is_other.Statement.{statement}
+use Rattle.prack_staying.proofs.is_other.Tie as tie
 
 read-four-requires : tie.Need-read-four-requires
 read-four-requires c κs = search needs

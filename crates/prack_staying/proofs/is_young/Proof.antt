@@ -1,10 +1,10 @@
--- `prack_sieve::is_young` meets its contract. Assumes nothing.
+-- `prack_staying::is_young` meets its contract. Assumes nothing.
 use mathlib.Core.Path.{sym, _∙_}
 use Rattle.prack_body.proofs.BodyLaws.{flag-at, time-at}
-use Rattle.prack_sieve.proofs.TestLaws.{old-acknowledged, young}
+use Rattle.prack_staying.proofs.TestLaws.{old-acknowledged, young}
 use borrow.Author.Needs.{needs}
-use Rattle.prack_sieve.proofs.is_young.Statement.{statement}
-use Rattle.prack_sieve.proofs.is_young.Tie as tie
+use Rattle.prack_staying.proofs.is_young.Statement.{statement}
+use Rattle.prack_staying.proofs.is_young.Tie as tie
 
 add-if1 : tie.Need-add-if1
 add-if1 c = search needs
