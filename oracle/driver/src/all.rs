@@ -6,10 +6,12 @@ use crate::operations;
 use crate::prack::{self, call::Pracks};
 use crate::progress;
 use crate::random::Random;
-use crate::report::named;
 use crate::rseq::{self, call::RSeqs};
 use crate::run::Feed;
-use crate::store::{self, dialogs::Dialogs, run::Fault, run::Run};
+use crate::store;
+use crate::store::dialogs::Dialogs;
+use crate::store::kind::Kind;
+use crate::store::run::{faults_named, Fault, Run};
 
 /// The feeds of all operations without a store, and the runs of the three kinds of stores.
 pub struct Everything {
@@ -51,6 +53,7 @@ pub fn compare_all(calls: u64, seed: u64, planted: &str) -> Everything {
         pracks,
     };
     let mut random = Random::new(seed, "mixed");
+    mixed::each_plain(&mut everything, &mut random);
     let mut lists = 0;
     while lists < LEAST_LISTS || progress::so_far() < calls {
         mixed::list(&mut everything, &mut random);
@@ -61,10 +64,6 @@ pub fn compare_all(calls: u64, seed: u64, planted: &str) -> Everything {
 }
 
 /// The faults of that name, of a kind of store alone and of mixed lists.
-fn both<K: store::kind::Kind>(
-    alone: &'static [Fault<K>],
-    mixed: &'static [Fault<K>],
-    name: &str,
-) -> Vec<&'static Fault<K>> {
-    [named(alone, name), named(mixed, name)].concat()
+fn both<K: Kind>(alone: &'static [Fault<K>], mixed: &'static [Fault<K>], name: &str) -> Vec<&'static Fault<K>> {
+    [faults_named(alone, name), faults_named(mixed, name)].concat()
 }

@@ -3,11 +3,11 @@
 //!
 //!     driver all [--calls N] [--seed S]        compares everything, N calls in all; prints the table, fails on any difference
 //!     driver leaves [--calls N] [--seed S]     the same for the readings of blocks, values, texts and numbers alone
-//!     driver dialogs [--calls N] [--seed S]    the same for creations, changes and readings of one record
+//!     driver dialogs [--calls N] [--seed S]    the same for creations, changes and readings of one record, and the listing
 //!     driver store [--calls N] [--seed S]      the same for N lists of calls on a store of records
 //!     driver rseq [--calls N] [--seed S]       the same for N lists of calls on an RSeq store
 //!     driver prack [--calls N] [--seed S]      the same for N lists of calls on a PRACK store
-//!     driver planted [--calls N] [--seed S]    plants one fault per operation and fails if any goes unreported
+//!     driver planted [--calls N] [--seed S]    plants faults, fails if any goes unreported or if a C function has none
 //!     driver bench                             times both sides
 
 mod all;

@@ -10,7 +10,7 @@ use crate::rseq;
 use crate::run::{row_name, Entry, Feed, Operation, Tally, LEAST_CALLS, LEAST_IN_ROW, LEAST_LONGEST};
 use crate::store;
 use crate::store::kind::Kind;
-use crate::store::run::{Fault, Run};
+use crate::store::run::{each_fault, faults_named, Fault, Run};
 use std::collections::BTreeSet;
 
 /// Compares everything, so many calls in all, and says whether all agree and every minimum is met. The environment variable
@@ -50,7 +50,7 @@ pub fn dialogs(calls: usize, seed: u64) -> bool {
 pub fn store(lists: usize, seed: u64) -> bool {
     println!("{lists} random lists of calls, each from an empty store, and the directed ones\n");
     verdict(&faults_of(store::FAULTS), |planted, table| {
-        table.add_run(store::compare_all(lists, seed, &named(store::FAULTS, planted)));
+        table.add_run(store::compare_all(lists, seed, &faults_named(store::FAULTS, planted)));
     })
 }
 
@@ -58,7 +58,7 @@ pub fn store(lists: usize, seed: u64) -> bool {
 pub fn rseq(lists: usize, seed: u64) -> bool {
     println!("{lists} random lists of calls, three in four from an empty store, and the directed ones\n");
     verdict(&faults_of(rseq::FAULTS), |planted, table| {
-        table.add_run(rseq::compare_all(lists, seed, &named(rseq::FAULTS, planted)));
+        table.add_run(rseq::compare_all(lists, seed, &faults_named(rseq::FAULTS, planted)));
     })
 }
 
@@ -66,7 +66,7 @@ pub fn rseq(lists: usize, seed: u64) -> bool {
 pub fn prack(lists: usize, seed: u64) -> bool {
     println!("{lists} random lists of calls, three in four from an empty store, and the directed ones\n");
     verdict(&faults_of(prack::FAULTS), |planted, table| {
-        table.add_run(prack::compare_all(lists, seed, &named(prack::FAULTS, planted)));
+        table.add_run(prack::compare_all(lists, seed, &faults_named(prack::FAULTS, planted)));
     })
 }
 
@@ -88,11 +88,6 @@ fn names_of(operations: &[&Operation]) -> Vec<&'static str> {
 /// The faults' names.
 fn faults_of<K: Kind>(faults: &[Fault<K>]) -> Vec<&'static str> {
     faults.iter().map(|fault| fault.name).collect()
-}
-
-/// The faults of that name.
-pub fn named<K: Kind>(faults: &'static [Fault<K>], name: &str) -> Vec<&'static Fault<K>> {
-    faults.iter().filter(|fault| fault.name == name).collect()
 }
 
 /// The name that PLANTED gives, or none; nothing where no operation or fault has it.
@@ -254,9 +249,9 @@ pub fn planted(calls: usize, seed: u64) -> bool {
     let mut faults = planted_feeds(operations::compare_all(calls, seed, |_| true));
     faults.extend(planted_feeds(dialogs::compare_all(calls, seed, |_| true)));
     let lists = calls / CALLS_PER_LIST;
-    faults.extend(planted_run(store::compare_all(lists, seed, &each(store::FAULTS))));
-    faults.extend(planted_run(rseq::compare_all(lists, seed, &each(rseq::FAULTS))));
-    faults.extend(planted_run(prack::compare_all(lists, seed, &each(prack::FAULTS))));
+    faults.extend(planted_run(store::compare_all(lists, seed, &each_fault(store::FAULTS))));
+    faults.extend(planted_run(rseq::compare_all(lists, seed, &each_fault(rseq::FAULTS))));
+    faults.extend(planted_run(prack::compare_all(lists, seed, &each_fault(prack::FAULTS))));
     let mixed = mixed::planted(lists, seed);
     faults.extend(planted_run(mixed.records));
     faults.extend(planted_run(mixed.rseqs));
@@ -284,11 +279,6 @@ struct Planted {
     operation: &'static str,
     name: &'static str,
     reported: bool,
-}
-
-/// All faults of a kind of store.
-fn each<K: Kind>(faults: &'static [Fault<K>]) -> Vec<&'static Fault<K>> {
-    faults.iter().collect()
 }
 
 /// Prints what became of the faults of operations without a store.

@@ -40,17 +40,9 @@ pub struct List<'a> {
 /// One mixed list.
 pub fn list(everything: &mut Everything, random: &mut Random) {
     let counts = counts(random);
-    let three = Three::new(random, counts);
-    let clock = random.pick(&[0, 1, LONG, 7 * LONG]);
     let lines = (0..1 + random.below(MOST_LINES)).map(|_| Line::new()).collect();
     let steps = 1 + random.below(MOST_STEPS);
-    let mut list = List {
-        everything,
-        random,
-        three,
-        clock,
-        lines,
-    };
+    let mut list = List::new(everything, random, counts, lines);
     for _ in 0..steps {
         list.tick();
         let at = list.random.below(list.lines.len());
@@ -60,7 +52,20 @@ pub fn list(everything: &mut Everything, random: &mut Random) {
     }
 }
 
-impl List<'_> {
+impl<'a> List<'a> {
+    /// A list that begins with three empty stores and these counts.
+    pub fn new(everything: &'a mut Everything, random: &'a mut Random, counts: [u64; 2], lines: Vec<Line>) -> List<'a> {
+        let three = Three::new(random, counts);
+        let clock = random.pick(&[0, 1, LONG, 7 * LONG]);
+        List {
+            everything,
+            random,
+            three,
+            clock,
+            lines,
+        }
+    }
+
     /// The clock goes on: a little, nearly 300 s, so long, more; at times it goes back or comes to its end.
     fn tick(&mut self) {
         let random = &mut *self.random;
@@ -87,7 +92,7 @@ impl List<'_> {
     }
 
     /// Compares a call on a store that is lent so many bytes.
-    fn compare<K: Part>(&mut self, call: &K::Call, lent: usize) -> ControlFlow<(), Answered> {
+    pub fn compare<K: Part>(&mut self, call: &K::Call, lent: usize) -> ControlFlow<(), Answered> {
         let sizes = [lent, lent + SPARE];
         let same = self.three.compare::<K>(self.everything, self.random, call, sizes);
         match same {

@@ -45,7 +45,8 @@ impl List<'_> {
     fn create(&mut self, at: usize) -> bool {
         let side = self.random.pick(&[Side::Uac, Side::Uas]);
         let call = creation::make(self.random, side);
-        let made = next_image(&mut self.everything.feeds, side.name(), &call);
+        let image = next_image(&mut self.everything.feeds, side.name(), &call);
+        let made = image.and_then(|image| Some((image::decode(&image)?, image)));
         let request = Call::of_image(&call.texts[1]);
         let number = self.feed("cseq_number", &request);
         let line = &mut self.lines[at];
@@ -54,14 +55,14 @@ impl List<'_> {
         line.status = call.numbers[0] as u16;
         line.since = self.clock;
         line.sent.clear();
-        if let Some(image) = &made {
-            let record = image::decode(image).expect("the Rust's image");
+        let is_made = made.is_some();
+        if let Some((record, image)) = made {
             line.id = record.dialog.id().clone();
             line.invite = number.outs[0] as u32;
-            line.image = image.clone();
+            line.image = image;
         }
         self.leaves(at);
-        made.is_some()
+        is_made
     }
 
     /// The image is put, and looked for.
@@ -151,8 +152,9 @@ impl List<'_> {
         let cseq = self.lines[at].invite;
         call.numbers[..4].copy_from_slice(&[u64::from(rseq), u64::from(cseq), u64::from(INVITE), lent]);
         let answer = self.feed("format_rack", &call);
+        let text = answer.bytes.get(..answer.outs[0] as usize);
         match answer.number {
-            0 => answer.bytes[..answer.outs[0] as usize].to_vec(),
+            0 => text.unwrap_or_default().to_vec(),
             _ => Vec::new(),
         }
     }

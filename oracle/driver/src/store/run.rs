@@ -43,6 +43,16 @@ pub struct Fault<K: Kind> {
     pub distort: fn(&Scene<K>, &mut Left),
 }
 
+/// All of these faults, to be put in.
+pub fn each_fault<K: Kind>(faults: &'static [Fault<K>]) -> Vec<&'static Fault<K>> {
+    faults.iter().collect()
+}
+
+/// Those of that name.
+pub fn faults_named<K: Kind>(faults: &'static [Fault<K>], name: &str) -> Vec<&'static Fault<K>> {
+    faults.iter().filter(|fault| fault.name == name).collect()
+}
+
 /// So many bytes lie behind the used ones at first.
 const ROOM: usize = 300;
 
