@@ -898,6 +898,14 @@ static bool day_is(struct day *d, struct image store)
     return d->used == store.length && memcmp(d->bytes, d->expected, sizeof d->bytes) == 0;
 }
 
+/* Whether the numbers of a RAck are as `begin` left them: a refused PRACK answers none. */
+static bool day_keeps_rack(const struct day *d)
+{
+    struct day fresh;
+    begin(&fresh);
+    return d->rseq == fresh.rseq && d->cseq == fresh.cseq && d->method == fresh.method;
+}
+
 static const uint8_t *const ID_D = (const uint8_t *)"d";
 
 static uint8_t day_register(struct day *d, uint32_t rseq, uint64_t time, size_t room)
@@ -925,13 +933,13 @@ static void test_a_day(void)
 {
     struct day d;
     begin(&d);
-    CHECK(day_prack(&d, "", T300, 11) == 18 && day_is(&d, nothing()));
-    CHECK(day_prack(&d, "", T300, 12) == 19 && day_is(&d, IMAGE(D NONE)) && d.rseq != 1);
-    CHECK(day_prack(&d, RACK1, T300, 12) == 20 && day_is(&d, IMAGE(D NONE)));
+    CHECK(day_prack(&d, "", T300, 11) == 18 && day_is(&d, nothing()) && day_keeps_rack(&d));
+    CHECK(day_prack(&d, "", T300, 12) == 19 && day_is(&d, IMAGE(D NONE)) && day_keeps_rack(&d));
+    CHECK(day_prack(&d, RACK1, T300, 12) == 20 && day_is(&d, IMAGE(D NONE)) && day_keeps_rack(&d));
     CHECK(day_register(&d, 1, T300, 32) == 18 && day_is(&d, IMAGE(D NONE)));
     CHECK(day_register(&d, 1, T300, 33) == 0 && day_is(&d, IMAGE(HELD_D)));
     CHECK(day_register(&d, 2, T300, 300) == 0 && day_is(&d, IMAGE(D LIST("\2") OPEN(ONE, AT300) OPEN(TWO, AT300))));
-    CHECK(day_prack(&d, RACK3, T300, 53) == 21 && day_prack(&d, RACK2, T300, 52) == 3);
+    CHECK(day_prack(&d, RACK3, T300, 53) == 21 && day_prack(&d, RACK2, T300, 52) == 3 && day_keeps_rack(&d));
     CHECK(day_prack(&d, RACK1, T300, 53) == 0 && d.rseq == 1 && d.cseq == 1 && d.method == 1);
     CHECK(day_is(&d, IMAGE(D LIST("\2") DONE(ONE, AT300) OPEN(TWO, AT300))));
     CHECK(day_prack(&d, RACK1, T300, 53) == 24 && day_is(&d, IMAGE(D LIST("\2") DONE(ONE, AT300) OPEN(TWO, AT300))));

@@ -1,25 +1,29 @@
 //! The differential run: every operation of the Rattle port against the Rust, or against a stand-in written from
 //! document 01 where the Rust has no such function.
 //!
-//!     driver leaves [--calls N] [--seed S]     compares, prints the table, fails on any difference
-//!     driver dialogs [--calls N] [--seed S]    the same for creations, changes and readings of one record
+//!     driver all [--calls N] [--seed S]        compares everything, N calls in all; prints the table, fails on any difference
+//!     driver leaves [--calls N] [--seed S]     the same for the readings of blocks, values, texts and numbers alone
+//!     driver dialogs [--calls N] [--seed S]    the same for creations, changes and readings of one record, and the listing
 //!     driver store [--calls N] [--seed S]      the same for N lists of calls on a store of records
 //!     driver rseq [--calls N] [--seed S]       the same for N lists of calls on an RSeq store
 //!     driver prack [--calls N] [--seed S]      the same for N lists of calls on a PRACK store
-//!     driver planted [--calls N] [--seed S]    plants one fault per operation and fails if any goes unreported
+//!     driver planted [--calls N] [--seed S]    plants faults, fails if any goes unreported or if a C function has none
 //!     driver bench                             times both sides
 //!     driver calls                             names the calls on stores that `bench` times
 //!     driver call TABLE SIZE SIDE              makes one of them, for callgrind
 
+mod all;
 mod answer;
 mod bench;
 mod blocks;
 mod bounds;
 mod dialogs;
 mod messages;
+mod mixed;
 mod operations;
 mod places;
 mod prack;
+mod progress;
 mod random;
 mod report;
 mod rseq;
@@ -31,12 +35,16 @@ mod uris;
 
 use std::process::ExitCode;
 
-const USAGE: &str = "use: driver leaves|dialogs|store|rseq|prack|planted [--calls N] [--seed S], driver bench";
+const USAGE: &str = "use: driver all|leaves|dialogs|store|rseq|prack|planted [--calls N] [--seed S], driver bench";
+
+/// How many calls (or lists of calls) where --calls doesn't say it, and how many in all for `all`.
+const CALLS: usize = 20_000;
+const ALL_CALLS: u64 = 10_000_000;
 
 /// What the command line asks for.
 struct Options {
     command: String,
-    calls: usize,
+    calls: Option<usize>,
     seed: u64,
 }
 
@@ -52,13 +60,15 @@ fn main() -> ExitCode {
         eprintln!("{USAGE}");
         return ExitCode::from(2);
     };
+    let calls = options.calls.unwrap_or(CALLS);
     let good = match options.command.as_str() {
-        "leaves" => report::leaves(options.calls, options.seed),
-        "dialogs" => report::dialogs(options.calls, options.seed),
-        "store" => report::store(options.calls, options.seed),
-        "rseq" => report::rseq(options.calls, options.seed),
-        "prack" => report::prack(options.calls, options.seed),
-        "planted" => report::planted(options.calls, options.seed),
+        "all" => report::all(options.calls.map_or(ALL_CALLS, |calls| calls as u64), options.seed),
+        "leaves" => report::leaves(calls, options.seed),
+        "dialogs" => report::dialogs(calls, options.seed),
+        "store" => report::store(calls, options.seed),
+        "rseq" => report::rseq(calls, options.seed),
+        "prack" => report::prack(calls, options.seed),
+        "planted" => report::planted(calls, options.seed),
         "bench" => bench::run(),
         "calls" => bench::names(),
         _ => {
@@ -73,13 +83,13 @@ fn main() -> ExitCode {
 fn options(mut words: impl Iterator<Item = String>) -> Option<Options> {
     let mut options = Options {
         command: words.next()?,
-        calls: 20_000,
+        calls: None,
         seed: 1,
     };
     while let Some(word) = words.next() {
         let number = words.next()?;
         match word.as_str() {
-            "--calls" => options.calls = number.parse().ok()?,
+            "--calls" => options.calls = Some(number.parse().ok()?),
             "--seed" => options.seed = number.parse().ok()?,
             _ => return None,
         }

@@ -1,108 +1,93 @@
-//! The tables and verdicts of `leaves`, `dialogs`, `store`, `rseq`, `prack` and `planted`.
+//! The tables and verdicts of `all`, of its parts (`leaves`, `dialogs`, `store`, `rseq`, `prack`), and of `planted`.
 
+use crate::all::{self, Everything};
 use crate::bounds;
 use crate::dialogs;
+use crate::mixed;
 use crate::operations;
 use crate::prack;
 use crate::rseq;
-use crate::run::{compare_all, row_name, Entry, Operation, Tally, LEAST_CALLS, LEAST_IN_ROW, LEAST_LONGEST};
+use crate::run::{row_name, Entry, Feed, Operation, Tally, LEAST_CALLS, LEAST_IN_ROW, LEAST_LONGEST};
 use crate::store;
 use crate::store::kind::Kind;
-use crate::store::run::{Fault, Run};
+use crate::store::run::{each_fault, faults_named, Fault, Run};
 use std::collections::BTreeSet;
 
-/// Compares every operation on blocks, values, texts and numbers, and says whether all agree and every minimum is met.
-/// The environment variable PLANTED names an operation whose planted fault is to be put in.
+/// Compares everything, so many calls in all, and says whether all agree and every minimum is met. The environment variable
+/// PLANTED names a fault that is to be put in.
+pub fn all(calls: u64, seed: u64) -> bool {
+    let names = [
+        names_of(&operations::all()),
+        names_of(&dialogs::all()),
+        faults_of(store::FAULTS),
+        faults_of(rseq::FAULTS),
+        faults_of(prack::FAULTS),
+        faults_of(mixed::RECORD_FAULTS),
+        faults_of(mixed::RSEQ_FAULTS),
+        faults_of(mixed::PRACK_FAULTS),
+    ];
+    verdict(&names.concat(), |planted, table| {
+        let everything = all::compare_all(calls, seed, planted);
+        table.add_everything(everything);
+    })
+}
+
+/// The same for the operations on blocks, values, texts and numbers alone, each with so many random calls.
 pub fn leaves(calls: usize, seed: u64) -> bool {
-    let Some(planted) = planted_name(&names_of(&operations::all())) else {
-        return false;
-    };
-    let mut sum = Sum::new();
-    for operation in operations::all() {
-        let tally = compare_all(operation, calls, seed, operation.name == planted);
-        sum.add(operation.entry(), tally);
-    }
-    sum.print_verdict()
+    verdict(&names_of(&operations::all()), |planted, table| {
+        table.add_feeds(operations::compare_all(calls, seed, |name| name == planted));
+    })
 }
 
-/// The same for the operations on one record, and for the bounds that they must have met.
+/// The same for the operations on one record.
 pub fn dialogs(calls: usize, seed: u64) -> bool {
-    let names = names_of(&dialogs::all());
-    let Some(planted) = planted_name(&names) else {
-        return false;
-    };
-    let mut sum = Sum::new();
-    for (operation, tally) in dialogs::compare_all(calls, seed, |name| name == planted) {
-        sum.add(operation.entry(), tally);
-    }
-    sum.missed.extend(bounds::print(&names));
-    sum.print_verdict()
+    verdict(&names_of(&dialogs::all()), |planted, table| {
+        table.add_feeds(dialogs::compare_all(calls, seed, |name| name == planted));
+    })
 }
 
-/// The same for so many lists of calls on a store. PLANTED names one of the store's faults.
+/// The same for so many lists of calls on a store of records.
 pub fn store(lists: usize, seed: u64) -> bool {
     println!("{lists} random lists of calls, each from an empty store, and the directed ones\n");
-    of_kind(store::FAULTS, |faults| store::compare_all(lists, seed, faults))
+    verdict(&faults_of(store::FAULTS), |planted, table| {
+        table.add_run(store::compare_all(lists, seed, &faults_named(store::FAULTS, planted)));
+    })
 }
 
 /// The same for lists of calls on an RSeq store.
 pub fn rseq(lists: usize, seed: u64) -> bool {
     println!("{lists} random lists of calls, three in four from an empty store, and the directed ones\n");
-    of_kind(rseq::FAULTS, |faults| rseq::compare_all(lists, seed, faults))
+    verdict(&faults_of(rseq::FAULTS), |planted, table| {
+        table.add_run(rseq::compare_all(lists, seed, &faults_named(rseq::FAULTS, planted)));
+    })
 }
 
 /// The same for lists of calls on a PRACK store.
 pub fn prack(lists: usize, seed: u64) -> bool {
     println!("{lists} random lists of calls, three in four from an empty store, and the directed ones\n");
-    of_kind(prack::FAULTS, |faults| prack::compare_all(lists, seed, faults))
+    verdict(&faults_of(prack::FAULTS), |planted, table| {
+        table.add_run(prack::compare_all(lists, seed, &faults_named(prack::FAULTS, planted)));
+    })
 }
 
-/// The same for a kind of store: its faults, and what compares its lists with some of them put in.
-fn of_kind<K: Kind>(all: &'static [Fault<K>], compare_all: impl FnOnce(&[&'static Fault<K>]) -> Run<K>) -> bool {
-    let names: Vec<&str> = all.iter().map(|fault| fault.name).collect();
-    let Some(planted) = planted_name(&names) else {
+/// Fills the table, with the one of these faults put in that PLANTED names, and prints its end.
+fn verdict(names: &[&str], fill: impl FnOnce(&str, &mut Table)) -> bool {
+    let Some(planted) = planted_name(names) else {
         return false;
     };
-    let planted: Vec<&'static Fault<K>> = all.iter().filter(|fault| fault.name == planted).collect();
-    let (tallies, mut faults) = compare_all(&planted).finish();
-    let numbers: BTreeSet<u8> = K::OPERATIONS.iter().flat_map(|entry| entry.rows).copied().collect();
-    let mut sum = Sum::new();
-    let mut cells = Vec::new();
-    for (operation, own) in K::OPERATIONS.iter().zip(tallies) {
-        let of_fault = faults.iter().position(|(fault, _)| fault.operation == operation.name);
-        let tally = of_fault.map_or(own, |at| faults.remove(at).1);
-        cells.push(line_of_cells(*operation, &tally, &numbers));
-        sum.add(*operation, tally);
-    }
-    print_cells(&cells, &numbers);
-    let names: Vec<&str> = K::OPERATIONS.iter().map(|operation| operation.name).collect();
-    sum.missed.extend(bounds::print(&names));
-    sum.print_verdict()
-}
-
-/// How often an operation answered each number; a point where it can't.
-fn line_of_cells(operation: Entry, tally: &Tally, numbers: &BTreeSet<u8>) -> String {
-    let cell = |number: &u8| match tally.rows.get(number) {
-        Some(count) => count.compared.to_string(),
-        None if operation.rows.contains(number) => "0".to_string(),
-        None => ".".to_string(),
-    };
-    let cells = numbers.iter().map(|number| format!("{:>7}", cell(number)));
-    format!("{:<20}{}", operation.name, cells.collect::<String>())
-}
-
-/// Prints the operations by the numbers.
-fn print_cells(lines: &[String], numbers: &BTreeSet<u8>) {
-    let head: String = numbers.iter().map(|number| format!("{number:>7}")).collect();
-    println!("\n{:<20}{head}", "operation by number");
-    for line in lines {
-        println!("{line}");
-    }
+    let mut table = Table::default();
+    fill(&planted, &mut table);
+    table.print()
 }
 
 /// The operations' names.
 fn names_of(operations: &[&Operation]) -> Vec<&'static str> {
     operations.iter().map(|operation| operation.name).collect()
+}
+
+/// The faults' names.
+fn faults_of<K: Kind>(faults: &[Fault<K>]) -> Vec<&'static str> {
+    faults.iter().map(|fault| fault.name).collect()
 }
 
 /// The name that PLANTED gives, or none; nothing where no operation or fault has it.
@@ -115,59 +100,94 @@ fn planted_name(names: &[&str]) -> Option<String> {
     Some(planted)
 }
 
-/// What was compared, what differed and what was met too seldom.
-struct Sum {
-    operations: usize,
-    compared: u64,
-    differing: Vec<Tally>,
-    missed: Vec<String>,
-}
+/// What was counted of each operation.
+#[derive(Default)]
+struct Table(Vec<(Entry, Tally)>);
 
-impl Sum {
-    /// Nothing yet; prints the table's head.
-    fn new() -> Sum {
+impl Table {
+    /// Takes all counts of a whole run.
+    fn add_everything(&mut self, everything: Everything) {
+        self.add_feeds(everything.feeds);
+        self.add_run(everything.records);
+        self.add_run(everything.rseqs);
+        self.add_run(everything.pracks);
+    }
+
+    /// Takes the counts of operations without a store.
+    fn add_feeds(&mut self, feeds: Vec<Feed<'static>>) {
+        let counted = feeds.into_iter().map(Feed::finish);
+        self.0
+            .extend(counted.map(|(operation, tally)| (operation.entry(), tally)));
+    }
+
+    /// Takes the counts of a kind of store; where a fault is put into an operation, they are those with the fault.
+    fn add_run<K: Kind>(&mut self, run: Run<K>) {
+        let (tallies, mut faults) = run.finish();
+        for (operation, own) in K::OPERATIONS.iter().zip(tallies) {
+            let of_fault = faults.iter().position(|(fault, _)| fault.operation == operation.name);
+            let tally = of_fault.map_or(own, |at| faults.remove(at).1);
+            self.0.push((*operation, tally));
+        }
+    }
+
+    /// Prints every row, the cells, the bounds and the verdict: whether all agree and every minimum is met.
+    fn print(&self) -> bool {
         println!(
             "{:<30} {:>16} {:>9} {:>9}  against",
             "operation", "number", "compared", "differing"
         );
-        Sum {
-            operations: 0,
-            compared: 0,
-            differing: Vec::new(),
-            missed: Vec::new(),
+        for (operation, tally) in &self.0 {
+            print_rows(*operation, tally);
+        }
+        self.print_cells();
+        let minimums = |(operation, tally): &(Entry, Tally)| missed_minimums(*operation, tally);
+        let mut missed: Vec<String> = self.0.iter().flat_map(minimums).collect();
+        let names: Vec<&str> = self.0.iter().map(|(operation, _)| operation.name).collect();
+        missed.extend(bounds::print(&names));
+        self.print_verdict(&missed)
+    }
+
+    /// Prints the operations by the numbers: how often each was answered; a point where it can't be.
+    fn print_cells(&self) {
+        let rows = self.0.iter().flat_map(|(operation, _)| operation.rows);
+        let numbers: BTreeSet<u8> = rows.copied().collect();
+        let name = |number: &u8| row_name(*number).replace("0, nothing or no", "0, no");
+        let head: String = numbers.iter().map(|number| format!("{:>8}", name(number))).collect();
+        println!("\n{:<30}{head}", "operation by number");
+        for (operation, tally) in &self.0 {
+            let cell = |number: &u8| match tally.rows.get(number) {
+                Some(count) => count.compared.to_string(),
+                None if operation.rows.contains(number) => "0".to_string(),
+                None => ".".to_string(),
+            };
+            let cells = numbers.iter().map(|number| format!("{:>8}", cell(number)));
+            println!("{:<30}{}", operation.name, cells.collect::<String>());
         }
     }
 
-    /// Takes and prints an operation's counts.
-    fn add(&mut self, operation: Entry, tally: Tally) {
-        print_rows(operation, &tally);
-        self.operations += 1;
-        self.compared += tally.total().compared;
-        self.missed.extend(missed_minimums(operation, &tally));
-        if tally.total().differing > 0 {
-            self.differing.push(tally);
-        }
-    }
-
-    /// The differing calls, the missed minimums and the last line.
-    fn print_verdict(&self) -> bool {
+    /// Prints the differing calls, the missed minimums and the last line.
+    fn print_verdict(&self, missed: &[String]) -> bool {
         println!();
-        for shown in self.differing.iter().flat_map(|tally| &tally.shown) {
+        for shown in self.0.iter().flat_map(|(_, tally)| &tally.shown) {
             println!("differing: {shown}");
         }
-        for line in &self.missed {
+        for line in missed {
             println!("missed: {line}");
         }
-        let (operations, compared) = (self.operations, self.compared);
-        let calls: u64 = self.differing.iter().map(|tally| tally.total().differing).sum();
-        if self.differing.is_empty() && self.missed.is_empty() {
-            println!("{operations} operations, {compared} calls compared: all the same, every minimum met");
+        let totals: Vec<_> = self.0.iter().map(|(_, tally)| tally.total()).collect();
+        let compared: u64 = totals.iter().map(|total| total.compared).sum();
+        let differing: u64 = totals.iter().map(|total| total.differing).sum();
+        let of = totals.iter().filter(|total| total.differing > 0).count();
+        let operations = self.0.len();
+        if differing == 0 && missed.is_empty() {
+            println!(
+                "{operations} operations, {compared} calls compared, 0 differing: all the same, every minimum met"
+            );
             return true;
         }
         println!(
-            "{operations} operations, {compared} calls compared: {calls} calls of {} operations differ, {} minimums missed",
-            self.differing.len(),
-            self.missed.len()
+            "{operations} operations, {compared} calls compared: {differing} calls of {of} operations differ, {} minimums missed",
+            missed.len()
         );
         false
     }
@@ -218,49 +238,99 @@ fn missed_minimums(operation: Entry, tally: &Tally) -> Vec<String> {
 /// In `planted` a list of calls stands for so many calls.
 const CALLS_PER_LIST: usize = 20;
 
-/// Plants each fault and says whether the run reports every one of them. The faults of operations on one record, and
-/// those of each kind of store, are put in at once: each changes only what is compared of its own calls.
+/// Plants each fault and says whether the run reports every one of them, and whether every C function has one. The faults of
+/// operations on one record, and those of each kind of store, are put in at once: each changes only what is compared of its own
+/// calls.
 pub fn planted(calls: usize, seed: u64) -> bool {
     println!(
         "{:<30} {:>9} {:>9}  planted fault",
         "operation", "compared", "differing"
     );
-    let mut faults = Vec::new();
-    for operation in operations::all() {
-        let tally = compare_all(operation, calls, seed, true);
-        faults.push(print_fault(operation.name, operation.fault, &tally));
-    }
-    for (operation, tally) in dialogs::compare_all(calls, seed, |_| true) {
-        faults.push(print_fault(operation.name, operation.fault, &tally));
-    }
+    let mut faults = planted_feeds(operations::compare_all(calls, seed, |_| true));
+    faults.extend(planted_feeds(dialogs::compare_all(calls, seed, |_| true)));
     let lists = calls / CALLS_PER_LIST;
-    faults.extend(planted_in(store::FAULTS, |all| store::compare_all(lists, seed, all)));
-    faults.extend(planted_in(rseq::FAULTS, |all| rseq::compare_all(lists, seed, all)));
-    faults.extend(planted_in(prack::FAULTS, |all| prack::compare_all(lists, seed, all)));
-    let all = faults.len();
-    let unreported: Vec<&str> = faults.into_iter().flatten().collect();
+    faults.extend(planted_run(store::compare_all(lists, seed, &each_fault(store::FAULTS))));
+    faults.extend(planted_run(rseq::compare_all(lists, seed, &each_fault(rseq::FAULTS))));
+    faults.extend(planted_run(prack::compare_all(lists, seed, &each_fault(prack::FAULTS))));
+    let mixed = mixed::planted(lists, seed);
+    faults.extend(planted_run(mixed.records));
+    faults.extend(planted_run(mixed.rseqs));
+    faults.extend(planted_run(mixed.pracks));
+    let reported: Vec<_> = faults.iter().filter(|fault| fault.reported).collect();
+    let unreported = faults.iter().filter(|fault| !fault.reported);
+    let unreported: Vec<&str> = unreported.map(|fault| fault.name).collect();
+    let without = functions_without(&faults);
     println!(
-        "\n{all} faults planted, {} reported, {} unreported {unreported:?}",
-        all - unreported.len(),
+        "\n{} faults planted, {} reported, {} unreported {unreported:?}",
+        faults.len(),
+        reported.len(),
         unreported.len()
     );
-    unreported.is_empty()
+    println!(
+        "{} C functions, {} without a planted fault {without:?}",
+        c_functions().len(),
+        without.len()
+    );
+    unreported.is_empty() && without.is_empty()
 }
 
-/// Plants all faults of a kind of store, and prints what became of each.
-fn planted_in<K: Kind>(
-    all: &'static [Fault<K>],
-    compare_all: impl FnOnce(&[&'static Fault<K>]) -> Run<K>,
-) -> Vec<Option<&'static str>> {
-    let all: Vec<&'static Fault<K>> = all.iter().collect();
-    let (_, tallies) = compare_all(&all).finish();
-    let print = |(fault, tally): (&'static Fault<K>, Tally)| print_fault(fault.name, fault.what, &tally);
+/// What became of a fault.
+struct Planted {
+    operation: &'static str,
+    name: &'static str,
+    reported: bool,
+}
+
+/// Prints what became of the faults of operations without a store.
+fn planted_feeds(feeds: Vec<Feed<'static>>) -> Vec<Planted> {
+    let print =
+        |(operation, tally): (&Operation, Tally)| print_fault(operation.name, operation.name, operation.fault, &tally);
+    feeds.into_iter().map(Feed::finish).map(print).collect()
+}
+
+/// Prints what became of the faults of a kind of store.
+fn planted_run<K: Kind>(run: Run<K>) -> Vec<Planted> {
+    let (_, tallies) = run.finish();
+    let print =
+        |(fault, tally): (&'static Fault<K>, Tally)| print_fault(fault.operation, fault.name, fault.what, &tally);
     tallies.into_iter().map(print).collect()
 }
 
-/// Prints what became of a fault; its name if it went unreported.
-fn print_fault(name: &'static str, fault: &str, tally: &Tally) -> Option<&'static str> {
+/// Prints what became of a fault.
+fn print_fault(operation: &'static str, name: &'static str, fault: &str, tally: &Tally) -> Planted {
     let total = tally.total();
     println!("{name:<30} {:>9} {:>9}  {fault}", total.compared, total.differing);
-    (total.differing == 0).then_some(name)
+    Planted {
+        operation,
+        name,
+        reported: total.differing > 0,
+    }
+}
+
+/// The C functions that no fault is planted in.
+fn functions_without(faults: &[Planted]) -> Vec<&'static str> {
+    // `next_header, to the end` is a list of calls of `next_header`.
+    let function = |fault: &Planted| fault.operation.split(',').next().expect("a name");
+    let with: BTreeSet<&str> = faults.iter().map(function).collect();
+    c_functions()
+        .into_iter()
+        .filter(|function| !with.contains(function))
+        .collect()
+}
+
+/// The functions that the C header declares, without their prefix.
+fn c_functions() -> BTreeSet<&'static str> {
+    const HEADER: &str = include_str!("../../../include/sip_dialog.h");
+    let behind = HEADER.split("sip_dialog_").skip(1);
+    behind
+        .filter_map(|text| text.split_once('('))
+        .map(|(name, _)| name)
+        .filter(|name| is_name(name))
+        .collect()
+}
+
+/// Whether a text is a C function's name.
+fn is_name(text: &str) -> bool {
+    text.bytes()
+        .all(|byte| byte.is_ascii_lowercase() || byte.is_ascii_digit() || byte == b'_')
 }

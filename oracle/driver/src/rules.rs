@@ -5,6 +5,18 @@ use sip_core::{block, Headers};
 /// The longest text or block.
 pub const LONGEST: usize = 8192;
 
+/// The longest store of a listing, and its operation.
+pub const LONGEST_LISTED: usize = 65_536;
+pub const LISTING: &str = "listing";
+
+/// The longest text that an operation reads.
+pub fn longest_of(operation: &str) -> usize {
+    match operation {
+        LISTING => LONGEST_LISTED,
+        _ => LONGEST,
+    }
+}
+
 /// Refusal 1 for any of the given texts.
 pub fn limit(texts: &[&[u8]]) -> Result<(), u8> {
     let fits = texts.iter().all(|text| text.len() <= LONGEST);

@@ -1,8 +1,9 @@
 //! The comparison: one operation's calls on both sides, and the counts.
 
 use crate::answer::{class, Answer, Input, Out, NOTHING};
+use crate::progress;
 use crate::random::Random;
-use crate::rules::LONGEST;
+use crate::rules::longest_of;
 use std::collections::BTreeMap;
 
 /// One operation of the port, and what it is held against.
@@ -109,11 +110,25 @@ pub struct Feed<'a> {
     tally: Tally,
 }
 
-/// Compares all calls of one operation.
-pub fn compare_all(operation: &Operation, calls: usize, seed: u64, planted: bool) -> Tally {
-    let mut feed = Feed::new(operation, calls, seed, planted);
-    (operation.inputs)(&mut feed);
-    feed.tally
+/// Compares each operation with calls of its own. `planted` says which have their fault put in.
+pub fn compare_each(
+    operations: Vec<&'static Operation>,
+    calls: usize,
+    seed: u64,
+    planted: impl Fn(&str) -> bool,
+) -> Vec<Feed<'static>> {
+    let fed = |operation: &'static Operation| {
+        let mut feed = Feed::new(operation, calls, seed, planted(operation.name));
+        (operation.inputs)(&mut feed);
+        feed
+    };
+    operations.into_iter().map(fed).collect()
+}
+
+/// The feed of an operation.
+pub fn feed_of<'a, 'b>(feeds: &'a mut [Feed<'b>], name: &str) -> &'a mut Feed<'b> {
+    let of_name = feeds.iter_mut().find(|feed| feed.operation().name == name);
+    of_name.expect("an operation of that name")
 }
 
 impl<'a> Feed<'a> {
@@ -153,11 +168,14 @@ impl<'a> Feed<'a> {
             (operation.distort)(input, &mut answered);
             own
         });
-        let longest = input.texts.iter().any(|text| text.len() == LONGEST);
+        let longest = longest_of(operation.name);
+        let longest = input.texts.iter().any(|text| text.len() == longest);
         self.tally.longest_read += u64::from(longest && expected.number != 1);
         let row = class(operation.outs, &expected);
         let show = || describe(operation, input, &expected, &answered);
-        self.tally.count(row, expected == answered, show);
+        let same = expected == answered;
+        self.tally.count(row, same, show);
+        progress::compared(same);
         own.unwrap_or(answered)
     }
 

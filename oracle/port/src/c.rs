@@ -430,6 +430,7 @@ extern "C" {
         out_len: usize,
         length: *mut usize,
     ) -> u8;
+    pub fn sip_dialog_listing(store: *const u8, used: usize, out: *mut u8, out_len: usize, length: *mut usize) -> u8;
 
     // RSeq numbers
     pub fn sip_dialog_rseq_next(

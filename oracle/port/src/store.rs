@@ -198,6 +198,11 @@ pub fn count(store: &[u8], used: usize, count: &mut usize) -> u8 {
     unsafe { c::sip_dialog_count(store.as_ptr(), store.len(), used, count) }
 }
 
+/// The listing of a store's used bytes, into the lent output.
+pub fn listing(store: &[u8], out: &mut [u8], length: &mut usize) -> u8 {
+    unsafe { c::sip_dialog_listing(store.as_ptr(), store.len(), out.as_mut_ptr(), out.len(), length) }
+}
+
 /// The identifiers of all records, into the lent output.
 pub fn all_ids(store: &[u8], used: usize, out: &mut [u8], length: &mut usize) -> u8 {
     unsafe { c::sip_dialog_all_ids(store.as_ptr(), store.len(), used, out.as_mut_ptr(), out.len(), length) }

@@ -80,9 +80,10 @@ pub fn quietly<T>(work: impl FnOnce() -> T) -> T {
 /// Prints how often each side of each bound of these operations was met; answers what was met too seldom.
 pub fn print(shown: &[&str]) -> Vec<String> {
     let mut missed = Vec::new();
-    println!("\n{:<30} {:<30} how often each side was met", "operation", "bound");
+    let mut head = format!("\n{:<30} {:<30} how often each side was met\n", "operation", "bound");
     for (operations, what, sides) in BOUNDS {
         for operation in operations.iter().filter(|operation| shown.contains(operation)) {
+            print!("{}", std::mem::take(&mut head));
             let counts = counts(operation, what, sides);
             let texts: Vec<String> = counts.iter().map(|(side, count)| format!("{side}: {count}")).collect();
             println!("{operation:<30} {what:<30} {}", texts.join(", "));

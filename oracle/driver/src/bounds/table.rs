@@ -9,6 +9,7 @@ const NEXT: &[&str] = &["image_next_local_cseq", "next_local_cseq"];
 const SET: &[&str] = &["image_set_session_expires", "set_session_expires"];
 const MATCHES: &[&str] = &["image_matches_request"];
 const REFRESH: &[&str] = &["image_needs_refresh"];
+const LISTING: &[&str] = &["listing"];
 
 /// The changes of an image, and those of them that can make it larger.
 const CHANGES: &[&str] = &[
@@ -240,6 +241,19 @@ pub const BOUNDS: &[Bound] = &[
     (&["image_numbers"], "seconds", &["none", "0", "4294967295"]),
     (&["image_numbers"], "local number", &["0", "1", "4294967295"]),
     (&["image_numbers"], "remote number", &["0", "1", "4294967295"]),
+    (LISTING, "records", &["0", "1", "2", "over 12"]),
+    (LISTING, "store, bytes", &["65536", "65537"]),
+    (
+        LISTING,
+        "store",
+        &["a byte changed", "cut off", "a byte behind it", "one identifier twice"],
+    ),
+    (LISTING, "lent output", &["0"]),
+    (
+        LISTING,
+        "result",
+        &["one byte less than lent", "as large as lent", "one byte more than lent"],
+    ),
     (STORES, "records", &["0", "1", "2", "over 12", "10000"]),
     (STORES, "lent bytes", &["0"]),
     (

@@ -166,6 +166,23 @@ pub fn request_naming(random: &mut Random, id: &DialogId, remote: u32) -> (Vec<u
     (method, block(random, lines, odd.has(4)))
 }
 
+/// The block of a PRACK that names the record, with this CSeq number and this RAck.
+pub fn prack_naming(random: &mut Random, id: &DialogId, number: u32, rack: &[u8]) -> Vec<u8> {
+    let mut lines = vec![line(random, "RAck", &|_: &mut Random| rack.to_vec())];
+    lines.push(line(random, "CSeq", &|_: &mut Random| format!("{number} PRACK").into()));
+    named_lines(random, &mut lines, id);
+    noise_but_identifiers(random, &mut lines);
+    let odd = random.one_in(16);
+    block(random, lines, odd)
+}
+
+/// The block of a request that names the record, with this CSeq number.
+pub fn named(random: &mut Random, id: &DialogId, number: u32) -> Vec<u8> {
+    let mut lines = vec![line(random, "CSeq", &|_: &mut Random| format!("{number} BYE").into())];
+    named_lines(random, &mut lines, id);
+    block(random, lines, false)
+}
+
 /// A request's method, and its CSeq, Contact and Record-Route lines.
 fn request_lines(random: &mut Random, remote: u32, odd: &Odd) -> (Vec<u8>, Vec<Vec<u8>>) {
     let is_ack = random.one_in(3);

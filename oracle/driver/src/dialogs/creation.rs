@@ -105,6 +105,11 @@ pub fn make(random: &mut Random, side: Side) -> Call {
     call
 }
 
+/// Whether the Rust makes a record of a creation.
+pub fn is_made(call: &Call, side: Side) -> bool {
+    bounds::quietly(|| made(&call.input(), side)).is_ok()
+}
+
 /// The Rust's record as an image, in the lent bytes.
 fn expect(input: &Input, answer: &mut Answer, side: Side) -> Result<(), u8> {
     let lent = input.numbers[1] as usize;

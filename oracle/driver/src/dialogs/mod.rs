@@ -4,15 +4,16 @@
 pub mod calls;
 pub mod creation;
 pub mod image;
+pub mod listing;
 mod order;
-mod readings;
+pub mod readings;
 pub mod records;
 pub mod room;
 pub mod updates;
 
 use crate::bounds;
 use crate::random::Random;
-use crate::run::{Feed, Operation, Tally};
+use crate::run::{compare_each, feed_of, Feed, Operation};
 use calls::Call;
 use creation::Side;
 
@@ -21,24 +22,25 @@ pub use image::encode;
 /// Makes a call on an image.
 type Make = fn(&mut Random, &[u8]) -> Call;
 
-/// All operations on one record, in the order of the C declarations.
+/// All operations on one record, and the listing of a store, which the Rust hasn't.
 pub fn all() -> Vec<&'static Operation> {
-    let files: [&'static [Operation]; 3] = [creation::OPERATIONS, updates::OPERATIONS, readings::OPERATIONS];
+    let files: [&'static [Operation]; 4] = [
+        creation::OPERATIONS,
+        updates::OPERATIONS,
+        readings::OPERATIONS,
+        listing::OPERATIONS,
+    ];
     files.into_iter().flatten().collect()
 }
 
 /// Compares all of them: each with calls of its own, then in chains. `planted` says which have their fault put in.
-pub fn compare_all(calls: usize, seed: u64, planted: impl Fn(&str) -> bool) -> Vec<(&'static Operation, Tally)> {
-    let feed = |operation: &'static Operation| Feed::new(operation, calls, seed, planted(operation.name));
-    let mut feeds: Vec<Feed> = all().into_iter().map(feed).collect();
-    for feed in &mut feeds {
-        (feed.operation().inputs)(feed);
-    }
+pub fn compare_all(calls: usize, seed: u64, planted: impl Fn(&str) -> bool) -> Vec<Feed<'static>> {
+    let mut feeds = compare_each(all(), calls, seed, planted);
     let mut random = Random::new(seed, "chains");
     for _ in 0..calls {
         chain(&mut random, &mut feeds);
     }
-    feeds.into_iter().map(Feed::finish).collect()
+    feeds
 }
 
 /// The most changes in a chain.
@@ -70,17 +72,11 @@ fn chain(random: &mut Random, feeds: &mut [Feed]) {
 }
 
 /// Compares a call; the image that the port left, if it accepted.
-fn next_image(feeds: &mut [Feed], name: &str, call: &Call) -> Option<Vec<u8>> {
+pub fn next_image(feeds: &mut [Feed], name: &str, call: &Call) -> Option<Vec<u8>> {
     let mut answer = feed_of(feeds, name).compare_and_go_on(&call.input());
     let length = answer.outs[0] as usize;
     let image = room::lent(&mut answer.bytes).get(..length)?.to_vec();
     (answer.number == 0).then_some(image)
-}
-
-/// The feed of an operation.
-fn feed_of<'a, 'b>(feeds: &'a mut [Feed<'b>], name: &str) -> &'a mut Feed<'b> {
-    let of_name = feeds.iter_mut().find(|feed| feed.operation().name == name);
-    of_name.expect("an operation of that name")
 }
 
 /// Feeds an operation on images: every broken form of the templates, then random images, some of them broken.

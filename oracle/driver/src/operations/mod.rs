@@ -11,7 +11,7 @@ mod uri;
 pub mod values;
 
 use crate::answer::{Answer, Out, Width};
-use crate::run::Operation;
+use crate::run::{compare_each, Feed, Operation};
 
 /// All operations, in the order of the C declarations.
 pub fn all() -> Vec<&'static Operation> {
@@ -26,6 +26,11 @@ pub fn all() -> Vec<&'static Operation> {
         metrics::OPERATIONS,
     ];
     files.into_iter().flatten().collect()
+}
+
+/// Compares all of them. `planted` says which have their fault put in.
+pub fn compare_all(calls: usize, seed: u64, planted: impl Fn(&str) -> bool) -> Vec<Feed<'static>> {
+    compare_each(all(), calls, seed, planted)
 }
 
 /// The out numbers of an operation that may find a part.

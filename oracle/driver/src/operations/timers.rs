@@ -388,18 +388,22 @@ fn each_role(feed: &mut Feed) {
             feed.compare(&Input::text(text).and_number(0, 1).and_number(1, is_uac));
         }
     });
-    each_sequence(ROLES.pieces, 3, &mut |text| {
+    let mut not_given = |text: &[u8]| {
         for is_uac in 0..2 {
             feed.compare(&Input::text(text).and_number(1, is_uac));
         }
-    });
+    };
+    each_sequence(ROLES.pieces, 3, &mut not_given);
+    not_given(&[b'x'; rules::LONGEST + 1]);
 }
 
-/// A text that is not UTF-8 is none of the four that the Rust knows: the default.
+/// A text that is not UTF-8 is none of the four that the Rust knows: the default. 1 is for a text that is given.
 fn expect_role(input: &Input, answer: &mut Answer) -> Result<(), u8> {
     let [given, is_uac, ..] = input.numbers;
     let text = input.texts[0];
-    rules::limit(&[text])?;
+    if given == 1 {
+        rules::limit(&[text])?;
+    }
     let given = (given == 1).then(|| std::str::from_utf8(text).unwrap_or("?"));
     answer.outs[0] = u64::from(rust::determine_refresher_role(given, is_uac == 1));
     Ok(())

@@ -4,15 +4,11 @@ use super::call::{Action, Call};
 use crate::dialogs::room;
 use crate::store::memory::Left;
 use port::prack::{self, Response};
-use port::store::Store;
 use port::Rack;
 
 /// Asks the port, which is lent `length` bytes; `left` holds what the call is given, and then what it leaves.
 pub fn ask(call: &Call, length: usize, left: &mut Left) {
-    let lent = Store {
-        bytes: &mut room::lent(&mut left.store.guarded)[..length],
-        used: &mut left.store.used,
-    };
+    let lent = left.store.lend(length);
     let outs = &mut left.outs;
     let id = &call.id;
     left.number = match call.action {

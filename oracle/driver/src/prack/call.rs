@@ -81,6 +81,17 @@ impl Call {
         }
     }
 
+    /// The same call at another time, if it has one.
+    pub fn at(mut self, now: u64) -> Call {
+        match &mut self.action {
+            Action::Register { time, .. } | Action::Validate { time, .. } | Action::GetPending { time, .. } => {
+                *time = now
+            }
+            Action::IsPracked { .. } | Action::RemoveDialog | Action::RemovePracked { .. } => {}
+        }
+        self
+    }
+
     /// The texts that refusal 1 holds for, each with what it is bounded as.
     pub fn texts(&self) -> Vec<(&'static str, &[u8])> {
         let mut texts = vec![("text, bytes", self.id.as_slice())];

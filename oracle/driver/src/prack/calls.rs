@@ -22,6 +22,11 @@ impl Pool {
         Pool((0..1 + random.below(most)).map(|_| text(random)).collect())
     }
 
+    /// These.
+    pub fn of(texts: impl Iterator<Item = Vec<u8>>) -> Pool {
+        Pool(texts.collect())
+    }
+
     /// One of them.
     fn pick(&self, random: &mut Random) -> Vec<u8> {
         self.0[random.below(self.0.len())].clone()

@@ -85,6 +85,24 @@ pub const FAULTS: &[Fault] = &[
         Replaces,
         "a response of an equal RSeq is replaced"
     ),
+    wrong!(
+        "prack_register-rseq",
+        REGISTER,
+        StoresOtherRseq,
+        "another RSeq is stored"
+    ),
+    wrong!(
+        "prack_register-cseq",
+        REGISTER,
+        StoresOtherCseq,
+        "another CSeq is stored"
+    ),
+    wrong!(
+        "prack_register-code",
+        REGISTER,
+        StoresOtherCode,
+        "another code is stored"
+    ),
     fault(
         "prack_register-order",
         REGISTER,
@@ -210,12 +228,18 @@ pub const FAULTS: &[Fault] = &[
     fault(
         "prack_is_pracked-any",
         IS_PRACKED,
-        "no such RSeq counts as acknowledged",
+        "where nothing is held, any RSeq counts as acknowledged",
         |scene, left| {
             if left.number == 0 && held(scene).is_none() {
                 left.outs[0] = 1;
             }
         },
+    ),
+    wrong!(
+        "prack_is_pracked-unknown",
+        IS_PRACKED,
+        AcknowledgesUnknown,
+        "where the text is held, an RSeq that isn't counts as acknowledged"
     ),
     fault(
         "prack_is_pracked-lent",
@@ -337,7 +361,7 @@ pub const FAULTS: &[Fault] = &[
         REMOVE_DIALOG,
         "the byte before the store is touched",
         |_, left| {
-            left.store.guarded[room::GUARD - 1] ^= 1;
+            left.store.touch_before();
         },
     ),
     wrong!(

@@ -3,8 +3,8 @@
 
 mod ask;
 mod book;
-mod call;
-mod calls;
+pub mod call;
+pub mod calls;
 mod damage;
 mod directed;
 mod expect;
@@ -14,7 +14,7 @@ mod lists;
 mod meet;
 mod order;
 mod rust;
-mod steps;
+pub mod steps;
 
 use crate::random::Random;
 use crate::store::run::{Fault, Run};

@@ -21,8 +21,8 @@ const ROOMS: usize = 5;
 /// The time: that of the last cleanups, 300 s later, or earlier.
 const TIMES: [u64; 3] = [LONG, 2 * LONG, 1];
 
-/// The longest, and one more.
-const LENGTHS: [usize; 2] = [LONGEST, LONGEST + 1];
+/// The longest, one more, and the most that two length bytes can say.
+const LENGTHS: [usize; 3] = [LONGEST, LONGEST + 1, u16::MAX as usize];
 
 /// All of them.
 pub fn each(run: &mut Run<Pracks>, random: &mut Random) {
@@ -36,11 +36,11 @@ pub fn each(run: &mut Run<Pracks>, random: &mut Random) {
     });
 }
 
-/// The three, one that isn't held, the longest, and one that is too long.
+/// The three, one that isn't held, the longest, and two that are too long.
 fn ids() -> Vec<Vec<u8>> {
     let held = three().map(|entry| entry.id);
-    let others = [b"b".to_vec(), vec![b'x'; LENGTHS[0]], vec![b'x'; LENGTHS[1]]];
-    held.into_iter().chain(others).collect()
+    let others = LENGTHS.map(|length| vec![b'x'; length]);
+    held.into_iter().chain([b"b".to_vec()]).chain(others).collect()
 }
 
 /// Every call: methods that are none, blocks that are too long, malformed, or have every fault of a RAck.

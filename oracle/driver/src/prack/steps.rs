@@ -52,6 +52,10 @@ pub enum Wrong {
     DropsOpen,
     DropsEmptied,
     DropsOne,
+    StoresOtherRseq,
+    StoresOtherCseq,
+    StoresOtherCode,
+    AcknowledgesUnknown,
 }
 
 /// The step of a call whose block has these headers, on what is held for its text.
@@ -62,7 +66,8 @@ pub fn step(wrong: Wrong, call: &Call, headers: &Headers, held: Option<&Entry>) 
         Action::Validate { time, .. } => validated(wrong, cleaned(*time), headers, held),
         Action::IsPracked { rseq } => {
             let responses = held.map(Entry::responses).unwrap_or_default();
-            let acknowledged = decider(wrong, responses, *rseq).is_some_and(|at| responses[at].acknowledged);
+            let unknown = wrong == Wrong::AcknowledgesUnknown && held.is_some();
+            let acknowledged = decider(wrong, responses, *rseq).map_or(unknown, |at| responses[at].acknowledged);
             said(held.cloned(), Said::Pracked(acknowledged))
         }
         Action::GetPending { time, .. } => {
@@ -155,7 +160,13 @@ fn stays(wrong: Wrong, time: u64, response: &Response) -> bool {
 }
 
 /// A response is put behind the others; of ten the first goes.
-fn registered(wrong: Wrong, mut entry: Entry, response: Response) -> Step {
+fn registered(wrong: Wrong, mut entry: Entry, mut response: Response) -> Step {
+    match wrong {
+        Wrong::StoresOtherRseq => response.rseq ^= 1,
+        Wrong::StoresOtherCseq => response.cseq ^= 1,
+        Wrong::StoresOtherCode => response.code ^= 1,
+        _ => {}
+    }
     let list = entry.list.get_or_insert_default();
     if wrong == Wrong::Replaces {
         list.retain(|other| other.rseq != response.rseq);

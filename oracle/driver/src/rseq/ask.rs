@@ -1,18 +1,13 @@
 //! The port's side: one call of its C function, given the first bytes of the store's memory.
 
 use super::call::Call;
-use crate::dialogs::room;
 use crate::store::call::Id;
 use crate::store::memory::Left;
 use port::rseq;
-use port::store::Store;
 
 /// Asks the port, which is lent `length` bytes; `left` holds what the call is given, and then what it leaves.
 pub fn ask(call: &Call, length: usize, left: &mut Left) {
-    let lent = Store {
-        bytes: &mut room::lent(&mut left.store.guarded)[..length],
-        used: &mut left.store.used,
-    };
+    let lent = left.store.lend(length);
     let out = &mut left.outs[0];
     left.number = match call {
         Call::Next { id, n } => {

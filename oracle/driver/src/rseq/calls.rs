@@ -42,6 +42,11 @@ impl Pool {
         Pool(ids.collect())
     }
 
+    /// These.
+    pub fn of(ids: impl Iterator<Item = Id>) -> Pool {
+        Pool(ids.collect())
+    }
+
     /// One of them.
     fn pick(&self, random: &mut Random) -> Id {
         self.0[random.below(self.0.len())].clone()

@@ -1,5 +1,5 @@
-//! Lists for the order of identifiers, for the numbers at the bounds, for one content by several histories, and for texts that
-//! a call can't be given.
+//! Lists for the order of identifiers, for the numbers at the bounds, for several histories of one content, and for texts that a
+//! call can't be given.
 
 use super::call::{Call, RSeqs};
 use super::calls::{self, FIRSTS, NUMBERS, TEXTS};
@@ -85,21 +85,16 @@ pub fn each_number(run: &mut Run<RSeqs>, random: &mut Random) {
 /// So many entries are put in.
 const MANY: usize = 100;
 
-/// One content, by three histories: the identifiers in any order, others put in and removed in between, each number by one
-/// call or by several. The stores left must be the same bytes.
+/// Three histories of one content: the identifiers in any order, others put in and removed in between, each number by one call
+/// or by several. After each call the store is held against the one image of its content, as everywhere.
 pub fn each_history(run: &mut Run<RSeqs>, random: &mut Random) {
     for _ in 0..TIMES {
         let ids: Vec<Id> = (0..MANY).map(|at| many_id(random, at)).collect();
         let firsts: Vec<u32> = ids.iter().map(|_| 3 + random.below(1 << 30) as u32).collect();
-        let mut left: Vec<Vec<u8>> = Vec::new();
         for _ in 0..3 {
             let calls = history(random, &ids, &firsts);
-            let mut list = List::new(run, random, &[], [0, 0]);
-            if list.each_roomy(&calls) {
-                left.push(list.sides.store.used_bytes().to_vec());
-            }
+            List::new(run, random, &[], [0, 0]).each_roomy(&calls);
         }
-        assert!(left.windows(2).all(|two| two[0] == two[1]), "one content, one image");
     }
 }
 

@@ -2,7 +2,6 @@
 
 use super::call::{Call, RSeqs, CURRENT, IS_EMPTY, LEN, NEXT, REMOVE};
 use super::layout::{decode, encode, take_entry, Entry};
-use crate::dialogs::room;
 use crate::store::call::Id;
 use crate::store::memory::{Left, Store};
 use crate::store::run;
@@ -155,7 +154,7 @@ pub const FAULTS: &[Fault] = &[
         name: "rseq_remove-guard",
         operation: REMOVE,
         what: "the byte before the store is touched",
-        distort: |_, left| left.store.guarded[room::GUARD - 1] ^= 1,
+        distort: |_, left| left.store.touch_before(),
     },
     Fault {
         name: "rseq_len",

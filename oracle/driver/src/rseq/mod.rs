@@ -3,8 +3,8 @@
 
 mod ask;
 mod book;
-mod call;
-mod calls;
+pub mod call;
+pub mod calls;
 mod damage;
 mod directed;
 mod expect;

@@ -1,25 +1,17 @@
 //! The port's side: one call of its C function, given the first bytes of the store's memory.
 
 use super::call::{Call, Id};
-use super::memory::{Left, Store};
+use super::memory::Left;
 use crate::dialogs::room;
 use port::store::{self, Place};
 
 /// Asks the port, which is lent `length` bytes; `left` holds what the call is given, and then what it leaves.
 pub fn ask(call: &Call, length: usize, left: &mut Left) {
-    let Store {
-        guarded,
-        used,
-        created,
-        terminated,
-    } = &mut left.store;
-    let lent = store::Store {
-        bytes: &mut room::lent(guarded)[..length],
-        used,
-    };
+    let [mut created, mut terminated] = [left.store.created, left.store.terminated];
+    let lent = left.store.lend(length);
     let outs = &mut left.outs;
     left.number = match call {
-        Call::Put(image) => store::put(image, lent, created),
+        Call::Put(image) => store::put(image, lent, &mut created),
         Call::Request { method, block } => store::request(method, block, lent),
         Call::Response { id, status, block } => store::response(texts(id), *status, block, lent),
         Call::Terminate(id) => store::terminate(texts(id), lent),
@@ -30,7 +22,7 @@ pub fn ask(call: &Call, length: usize, left: &mut Left) {
             number
         }
         Call::Set { id, seconds } => store::set_session_expires(texts(id), *seconds, lent, &mut outs[0]),
-        Call::Remove(id) => store::remove(texts(id), lent, terminated),
+        Call::Remove(id) => store::remove(texts(id), lent, &mut terminated),
         Call::Sweep => store::sweep(lent),
         Call::Get(id) => find(outs, |found| store::get(texts(id), lent.bytes, *lent.used, found)),
         Call::FindByCallId(call_id) => find(outs, |found| {
@@ -44,6 +36,7 @@ pub fn ask(call: &Call, length: usize, left: &mut Left) {
             store::all_ids(lent.bytes, *lent.used, room::lent(&mut left.output), length)
         }),
     };
+    [left.store.created, left.store.terminated] = [created, terminated];
 }
 
 /// An identifier's texts, lent.

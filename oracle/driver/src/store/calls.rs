@@ -24,6 +24,11 @@ impl Pool {
         Pool((0..1 + random.below(most)).map(|_| one(random)).collect())
     }
 
+    /// These.
+    pub fn of(ids: impl Iterator<Item = DialogId>) -> Pool {
+        Pool(ids.collect())
+    }
+
     /// One of them.
     fn pick(&self, random: &mut Random) -> DialogId {
         self.0[random.below(self.0.len())].clone()

@@ -20,12 +20,9 @@ pub fn describe<K: Kind>(scene: &Scene<K>, expected: &Left, answered: &Left) -> 
     lines.push(format!("used bytes: {}", run_of(store.used_bytes())));
     lines.push(format!("expected {}, {}", expected.number, numbers(expected)));
     lines.push(format!("answered {}, {}", answered.number, numbers(answered)));
-    lines.extend(first_difference(
-        "memory",
-        &expected.store.guarded,
-        &answered.store.guarded,
-    ));
-    lines.extend(first_difference("output", &expected.output, &answered.output));
+    let [one, other] = [&expected.store.bytes, &answered.store.bytes];
+    lines.extend(first_difference("memory", store.place.start, one, other));
+    lines.extend(first_difference("output", GUARD, &expected.output, &answered.output));
     lines.join("\n      ")
 }
 
@@ -45,13 +42,13 @@ pub fn run_of(bytes: &[u8]) -> String {
     format!("({} bytes) \"{}{rest}\"", bytes.len(), shown.escape_ascii())
 }
 
-/// Where two runs part first, counted from the first byte after the guard bytes, and the next bytes of both.
-fn first_difference(name: &str, expected: &[u8], answered: &[u8]) -> Option<String> {
+/// Where two runs part first, counted from the first lent byte, and the next bytes of both.
+fn first_difference(name: &str, first: usize, expected: &[u8], answered: &[u8]) -> Option<String> {
     let place = expected.iter().zip(answered).position(|(one, other)| one != other)?;
     let next = |bytes: &[u8]| run_of(&bytes[place..bytes.len().min(place + 40)]);
     Some(format!(
         "{name} from byte {}: expected {}, answered {}",
-        place as i64 - GUARD as i64,
+        place as i64 - first as i64,
         next(expected),
         next(answered)
     ))

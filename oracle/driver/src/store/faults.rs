@@ -103,7 +103,7 @@ pub const FAULTS: &[Fault] = &[
         name: "terminate-guard",
         operation: TERMINATE,
         what: "the byte before the store is touched",
-        distort: |_, left| left.store.guarded[room::GUARD - 1] ^= 1,
+        distort: |_, left| left.store.touch_before(),
     },
     Fault {
         name: "next_local_cseq",

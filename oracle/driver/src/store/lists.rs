@@ -12,7 +12,7 @@ use crate::random::Random;
 const LONGEST_LIST: usize = 120;
 
 /// So many bytes at least lie behind the lent ones.
-const SPARE: usize = 24;
+pub const SPARE: usize = 24;
 
 /// A list under way.
 pub struct List<'a, K: Kind> {
@@ -37,8 +37,7 @@ impl<'a, K: Kind> List<'a, K> {
     /// Calls that are lent about as much as their results need.
     pub fn each(&mut self, calls: &[K::Call]) -> bool {
         calls.iter().all(|call| {
-            let book = self.sides.book();
-            let lent = calls::lent(self.random, K::used(book), K::used_after(book, call));
+            let lent = lent(self.random, &self.sides, call);
             self.compare(call, lent)
         })
     }
@@ -46,8 +45,7 @@ impl<'a, K: Kind> List<'a, K> {
     /// Calls that are lent more than enough.
     pub fn each_roomy(&mut self, calls: &[K::Call]) -> bool {
         calls.iter().all(|call| {
-            let book = self.sides.book();
-            let lent = K::used(book) + K::used_after(book, call) + self.random.below(200);
+            let lent = roomy(self.random, &self.sides, call);
             self.compare(call, lent)
         })
     }
@@ -63,6 +61,18 @@ impl<'a, K: Kind> List<'a, K> {
         }
         self.run.compare(&mut other, call, lent);
     }
+}
+
+/// About as many bytes as the result of a call needs.
+pub fn lent<K: Kind>(random: &mut Random, sides: &Sides<K>, call: &K::Call) -> usize {
+    let book = sides.book();
+    calls::lent(random, K::used(book), K::used_after(book, call))
+}
+
+/// More than enough.
+pub fn roomy<K: Kind>(random: &mut Random, sides: &Sides<K>, call: &K::Call) -> usize {
+    let book = sides.book();
+    K::used(book) + K::used_after(book, call) + random.below(200)
 }
 
 /// One random list.
@@ -85,7 +95,7 @@ pub fn list(run: &mut Run<Dialogs>, random: &mut Random) {
 }
 
 /// The counts at the start of a list: mostly none, at times so large that they stop.
-fn counts(random: &mut Random) -> [u64; 2] {
+pub fn counts(random: &mut Random) -> [u64; 2] {
     [0; 2].map(|_| match random.below(8) {
         0 => u64::MAX - random.below(4) as u64,
         1 => random.next() >> random.below(64),

@@ -2,12 +2,12 @@
 //! number, every byte of the store's memory, and the two counts.
 
 mod ask;
-mod book;
+pub mod book;
 pub mod call;
-mod calls;
+pub mod calls;
 mod damage;
 pub mod describe;
-mod dialogs;
+pub mod dialogs;
 mod directed;
 pub mod expect;
 mod faults;

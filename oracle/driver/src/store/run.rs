@@ -3,6 +3,7 @@
 use super::describe::describe;
 use super::kind::{Damage, Kind};
 use super::memory::{Left, Store};
+use crate::progress;
 use crate::random::Random;
 use crate::rules::LONGEST;
 use crate::run::{Tally, PATTERNS};
@@ -11,8 +12,17 @@ use crate::run::{Tally, PATTERNS};
 pub struct Sides<K: Kind> {
     pub store: Store,
     pub book: Result<K::Book, Damage>,
+    /// What the port's last call answered.
+    pub answered: Answered,
     /// Whether the list has taken a call that updates.
     updated: bool,
+}
+
+/// A call's number and out numbers.
+#[derive(Clone, Copy)]
+pub struct Answered {
+    pub number: u8,
+    pub outs: [u64; 3],
 }
 
 /// A call as a fault sees it: what it is given, and whether one that updates was taken before it in its list.
@@ -33,6 +43,16 @@ pub struct Fault<K: Kind> {
     pub distort: fn(&Scene<K>, &mut Left),
 }
 
+/// All of these faults, to be put in.
+pub fn each_fault<K: Kind>(faults: &'static [Fault<K>]) -> Vec<&'static Fault<K>> {
+    faults.iter().collect()
+}
+
+/// Those of that name.
+pub fn faults_named<K: Kind>(faults: &'static [Fault<K>], name: &str) -> Vec<&'static Fault<K>> {
+    faults.iter().filter(|fault| fault.name == name).collect()
+}
+
 /// So many bytes lie behind the used ones at first.
 const ROOM: usize = 300;
 
@@ -49,6 +69,10 @@ impl<K: Kind> Sides<K> {
         Sides {
             store: Store::new(random, used, ROOM, counts),
             book: K::book(used, counts).ok_or(damage),
+            answered: Answered {
+                number: 0,
+                outs: [0; 3],
+            },
             updated: false,
         }
     }
@@ -111,6 +135,11 @@ impl<K: Kind> Run<K> {
         count(tally, &scene, &expected, &answered);
         sides.updated |= K::updates(call) && expected.number == 0;
         let same = expected == answered;
+        progress::compared(same);
+        sides.answered = Answered {
+            number: answered.number,
+            outs: answered.outs,
+        };
         sides.store = answered.store;
         same
     }
