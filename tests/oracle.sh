@@ -1,5 +1,5 @@
 #!/bin/sh
-# The differential run over all operations and the three stores, with as many calls as every minimum needs; beside it, the same with a
+# The differential run over all operations and the three stores, with as many calls as every minimum needs; beside it, a shorter one with a
 # fault planted in each operation.
 # PORT_LIB: a folder with libsip_dialog.a (default: built by `rt staticlib sip_dialog`).
 set -eu
@@ -10,7 +10,7 @@ export PORT_LIB
 oracle/run --if-present build
 log=$(mktemp)
 trap 'rm -f "$log"' EXIT
-oracle/run --if-present planted >"$log" 2>&1 &
+oracle/run --if-present planted --calls 6000 >"$log" 2>&1 &
 planted=$!
 status=0
 oracle/run --if-present all --calls 7000000 || status=$?
