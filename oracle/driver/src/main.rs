@@ -7,6 +7,7 @@
 //!     driver rseq [--calls N] [--seed S]       the same for N lists of calls on an RSeq store
 //!     driver prack [--calls N] [--seed S]      the same for N lists of calls on a PRACK store
 //!     driver planted [--calls N] [--seed S]    plants one fault per operation and fails if any goes unreported
+//!     driver record                            writes the list of recorded answers that the program replay runs
 //!     driver bench                             times both sides
 
 mod answer;
@@ -19,6 +20,7 @@ mod operations;
 mod places;
 mod prack;
 mod random;
+mod record;
 mod report;
 mod rseq;
 mod rules;
@@ -29,7 +31,7 @@ mod uris;
 
 use std::process::ExitCode;
 
-const USAGE: &str = "use: driver leaves|dialogs|store|rseq|prack|planted [--calls N] [--seed S], driver bench";
+const USAGE: &str = "use: driver leaves|dialogs|store|rseq|prack|planted [--calls N] [--seed S], driver bench, driver record";
 
 /// What the command line asks for.
 struct Options {
@@ -51,6 +53,7 @@ fn main() -> ExitCode {
         "rseq" => report::rseq(options.calls, options.seed),
         "prack" => report::prack(options.calls, options.seed),
         "planted" => report::planted(options.calls, options.seed),
+        "record" => record::run(),
         "bench" => bench::run(),
         _ => {
             eprintln!("{USAGE}");

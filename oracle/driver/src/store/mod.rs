@@ -7,7 +7,7 @@ pub mod call;
 mod calls;
 mod damage;
 pub mod describe;
-mod dialogs;
+pub mod dialogs;
 mod directed;
 pub mod expect;
 mod faults;
