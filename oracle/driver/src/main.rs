@@ -31,7 +31,8 @@ mod uris;
 
 use std::process::ExitCode;
 
-const USAGE: &str = "use: driver leaves|dialogs|store|rseq|prack|planted [--calls N] [--seed S], driver bench, driver record";
+const USAGE: &str =
+    "use: driver leaves|dialogs|store|rseq|prack|planted [--calls N] [--seed S], driver bench, driver record";
 
 /// What the command line asks for.
 struct Options {

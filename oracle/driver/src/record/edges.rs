@@ -108,7 +108,11 @@ pub fn each_call() {
     let long = |many: usize| format!("sip:{}", "h".repeat(many));
     for estimate in [512, 513] {
         feed("uri_estimate", &[&long(estimate - 10)], &[]);
-        feed("uri_estimate", &[&format!("sip:u@{}:5", "h".repeat(estimate - 17))], &[]);
+        feed(
+            "uri_estimate",
+            &[&format!("sip:u@{}:5", "h".repeat(estimate - 17))],
+            &[],
+        );
         let route = format!("Record-Route:<{}>\r\n", long(estimate - 10));
         feed("route_count", &[&route], &[]);
         feed("route", &[&route], &[0, 0]);
@@ -124,19 +128,43 @@ pub fn each_call() {
         feed("sip_uri", &[&format!("sips:[::1]:{port};x")], &[]);
     }
     for [call_id, local, remote] in [[256, 128, 128], [257, 128, 128], [256, 129, 128], [256, 128, 129]] {
-        feed("dialog_id_new", &[&"c".repeat(call_id), &"l".repeat(local), &"r".repeat(remote)], &[]);
+        feed(
+            "dialog_id_new",
+            &[&"c".repeat(call_id), &"l".repeat(local), &"r".repeat(remote)],
+            &[],
+        );
     }
-    for number in ["0", "1", "2147483647", "2147483648", "4294967295", "4294967296", "+5", "-0", "00007"] {
+    for number in [
+        "0",
+        "1",
+        "2147483647",
+        "2147483648",
+        "4294967295",
+        "4294967296",
+        "+5",
+        "-0",
+        "00007",
+    ] {
         feed("cseq_number", &[&format!("CSeq: {number} INVITE\r\n")], &[]);
         feed("rseq", &[&format!("RSeq: {number}\r\n")], &[]);
         feed("parse_rack", &[&format!("{number} 1 INVITE")], &[]);
         feed("parse_rack", &[&format!("1 {number} INVITE")], &[]);
         feed("parse_session_expires", &[number], &[]);
-        feed("session_expires", &[&format!("Session-Expires: {number};refresher=uac\r\n")], &[]);
+        feed(
+            "session_expires",
+            &[&format!("Session-Expires: {number};refresher=uac\r\n")],
+            &[],
+        );
     }
     for length in [8192, 8193] {
         let blank = " ".repeat(length);
-        for name in ["parse_uri_from_header", "extract_tag", "parse_session_expires", "parse_rack", "next_header_value, to the end"] {
+        for name in [
+            "parse_uri_from_header",
+            "extract_tag",
+            "parse_session_expires",
+            "parse_rack",
+            "next_header_value, to the end",
+        ] {
             feed(name, &[&blank], &[]);
         }
         feed("sip_uri", &[&format!("sip:h;{}", "x".repeat(length - 6))], &[]);

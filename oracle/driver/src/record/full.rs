@@ -13,8 +13,8 @@ use crate::store::dialogs::Dialogs;
 use crate::store::lists::{self, List};
 use crate::store::run::Run;
 use sip_core::SipUri;
-use sip_dialog::DialogStateType::{self, Confirmed, Early, Terminated};
 use sip_dialog::DialogId;
+use sip_dialog::DialogStateType::{self, Confirmed, Early, Terminated};
 use std::collections::BTreeSet;
 
 /// So many short random lists of each kind of store, each of so many calls and bytes at most.
@@ -90,12 +90,27 @@ fn rounds(id: &DialogId) -> Vec<Call> {
 
 /// The calls at 10,000 records.
 fn at_most_records() -> Vec<Call> {
-    let mut calls = vec![put("c", 9_999, Confirmed), put("c", 10_000, Confirmed), put("c", 5, Confirmed)];
+    let mut calls = vec![
+        put("c", 9_999, Confirmed),
+        put("c", 10_000, Confirmed),
+        put("c", 5, Confirmed),
+    ];
     calls.extend([put("c", 5, Early), put("c", 5, Terminated)]);
-    calls.extend([Call::Count, Call::AllIds(20), Call::FindByCallId(b"c".to_vec()), Call::Get(texts_of(&id("c", 9_999)))]);
+    calls.extend([
+        Call::Count,
+        Call::AllIds(20),
+        Call::FindByCallId(b"c".to_vec()),
+        Call::Get(texts_of(&id("c", 9_999))),
+    ]);
     calls.extend(rounds(&id("c", 9_999)));
     calls.extend([put("c", 9_999, Confirmed), Call::Sweep, put("c", 9_999, Confirmed)]);
-    calls.extend([Call::Remove(texts_of(&id("c", 0))), put("c", 0, Early), put("c", 10_000, Confirmed), put("c", 0, Early), Call::Count]);
+    calls.extend([
+        Call::Remove(texts_of(&id("c", 0))),
+        put("c", 0, Early),
+        put("c", 10_000, Confirmed),
+        put("c", 0, Early),
+        Call::Count,
+    ]);
     calls
 }
 
@@ -129,7 +144,12 @@ fn at_most_early() -> Vec<Call> {
 
 /// The calls on 101 Early records of a Call-ID.
 fn over_most_early() -> Vec<Call> {
-    let mut calls = vec![put("e", 5, Early), put("e", 101, Early), put("e", 5, Confirmed), put("e", 102, Early)];
+    let mut calls = vec![
+        put("e", 5, Early),
+        put("e", 101, Early),
+        put("e", 5, Confirmed),
+        put("e", 102, Early),
+    ];
     calls.extend(rounds(&id("e", 7)));
     calls
 }
@@ -139,9 +159,21 @@ pub fn record(writer: &mut Writer) -> BTreeSet<Key> {
     let mut met = BTreeSet::new();
     let lists = [
         ("10,000 records", vec![copies(9_999, "c", Confirmed)], at_most_records()),
-        ("10,001 records handed in", vec![copies(10_001, "c", Confirmed)], over_most_records()),
-        ("100 Early records of a Call-ID", vec![copies(99, "e", Early)], at_most_early()),
-        ("101 Early records handed in", vec![copies(101, "e", Early)], over_most_early()),
+        (
+            "10,001 records handed in",
+            vec![copies(10_001, "c", Confirmed)],
+            over_most_records(),
+        ),
+        (
+            "100 Early records of a Call-ID",
+            vec![copies(99, "e", Early)],
+            at_most_early(),
+        ),
+        (
+            "101 Early records handed in",
+            vec![copies(101, "e", Early)],
+            over_most_early(),
+        ),
     ];
     for (remark, copies, calls) in lists {
         writer.remark(remark);

@@ -31,7 +31,10 @@ fn listed(store: &[u8]) -> Result<Vec<u8>, u8> {
         let (ack, seconds) = (absent(parts.last_ack), absent(parts.seconds));
         let refresh = absent(parts.seconds.map(|seconds| seconds / 2));
         let (local, remote, routes) = (parts.local, parts.remote, parts.routes.len());
-        text += &format!("{} {state} {side} {local} {remote} {ack} {seconds} {refresh} {routes}\n", index + 1);
+        text += &format!(
+            "{} {state} {side} {local} {remote} {ack} {seconds} {refresh} {routes}\n",
+            index + 1
+        );
     }
     Ok(format!("{text}total {}\n", records.len()).into_bytes())
 }
@@ -52,7 +55,10 @@ fn line_of(store: &[u8], lent: usize, turn: usize) -> String {
         Err(number) => number,
     };
     let texts = [store, &before, &after].map(line::text);
-    format!("listing {} {} {pattern} = {number} {written} {}", texts[0], texts[1], texts[2])
+    format!(
+        "listing {} {} {pattern} = {number} {written} {}",
+        texts[0], texts[1], texts[2]
+    )
 }
 
 /// Stores of none to four records, damaged ones, and both sides of 65,536 bytes; with enough output, just enough, and one byte less.

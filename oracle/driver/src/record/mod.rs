@@ -16,11 +16,11 @@ use crate::bounds;
 use crate::dialogs::{self, room};
 use crate::operations;
 use crate::prack;
+use crate::prack::call::Pracks;
 use crate::rseq;
+use crate::rseq::call::RSeqs;
 use crate::run::{compare_all, Operation, PATTERNS};
 use crate::store;
-use crate::prack::call::Pracks;
-use crate::rseq::call::RSeqs;
 use crate::store::dialogs::Dialogs;
 use crate::store::kind::Kind;
 use crate::store::memory::Left;
@@ -113,7 +113,9 @@ pub fn call(operation: &Operation, input: &Input, expected: &Answer, row: u8) {
         if !ON_RECORDS.iter().any(|front| name.starts_with(front)) {
             keys.extend(edges::of_call(name, input, expected, row));
         }
-        recorder.take(name, row, keys, length, || Kept::Lines(name, lines(operation, input, expected)));
+        recorder.take(name, row, keys, length, || {
+            Kept::Lines(name, lines(operation, input, expected))
+        });
     });
 }
 
@@ -202,10 +204,18 @@ fn one_line(operation: &Operation, input: &Input, expected: &Answer) -> String {
     let mut after = expected.bytes.clone();
     let after: &[u8] = if guarded { room::lent(&mut after) } else { &after };
     let lent_empty = vec![expected.pattern as u8; after.len()];
-    let lent: &[u8] = if name.starts_with("image_") { input.texts[0] } else { &lent_empty };
+    let lent: &[u8] = if name.starts_with("image_") {
+        input.texts[0]
+    } else {
+        &lent_empty
+    };
     let arguments = arguments_of(name, input, &[expected.pattern; 7], lent);
     let outs = operation.outs.len();
-    let answers = form.kinds.split('=').nth(1).map_or(0, |answer| answer.matches('n').count());
+    let answers = form
+        .kinds
+        .split('=')
+        .nth(1)
+        .map_or(0, |answer| answer.matches('n').count());
     if answers == 1 && outs == 1 {
         return format!("{arguments} = {}", expected.outs[0]);
     }
@@ -262,7 +272,10 @@ pub fn run() -> bool {
 fn report(covered: &BTreeSet<Key>) {
     let mut lacking = 0;
     let stores = [Dialogs::OPERATIONS, RSeqs::OPERATIONS, Pracks::OPERATIONS].concat();
-    let leaves = operations::all().into_iter().chain(dialogs::all()).map(Operation::entry);
+    let leaves = operations::all()
+        .into_iter()
+        .chain(dialogs::all())
+        .map(Operation::entry);
     for entry in leaves.chain(stores) {
         for row in entry.rows {
             if !covered.contains(&Key::Row(base_name(entry.name), *row)) {

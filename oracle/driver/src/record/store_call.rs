@@ -35,10 +35,17 @@ impl StoreCall {
         let outs = match name {
             "put" => vec![[before.store.created, expected.store.created]],
             "remove" => vec![[before.store.terminated, expected.store.terminated]],
-            _ => before.outs.iter().zip(&expected.outs).map(|(before, after)| [*before, *after]).collect(),
+            _ => before
+                .outs
+                .iter()
+                .zip(&expected.outs)
+                .map(|(before, after)| [*before, *after])
+                .collect(),
         };
         let lent_of = |bytes: &[u8]| room::lent(&mut bytes.to_vec()).to_vec();
-        let output = kinds.contains('o').then(|| [lent_of(&before.output), lent_of(&expected.output)]);
+        let output = kinds
+            .contains('o')
+            .then(|| [lent_of(&before.output), lent_of(&expected.output)]);
         let memory = before.store.clone().memory().to_vec();
         StoreCall {
             name,

@@ -37,7 +37,12 @@ impl Writer {
     /// All calls that were kept, by operation, the shortest first; none twice.
     pub fn kept(&mut self, recorder: &Recorder) {
         for form in &FORMS {
-            let mut calls: Vec<_> = recorder.kept.values().flatten().filter(|(_, _, kept)| name_of(kept) == form.name).collect();
+            let mut calls: Vec<_> = recorder
+                .kept
+                .values()
+                .flatten()
+                .filter(|(_, _, kept)| name_of(kept) == form.name)
+                .collect();
             calls.sort_by_key(|(_, seen, _)| *seen);
             calls.dedup_by_key(|(_, seen, _)| *seen);
             for (_, _, kept) in calls {
@@ -131,7 +136,8 @@ impl Writer {
         let sum: usize = self.calls.values().sum();
         lines += &format!("{sum} calls, all as recorded\n");
         println!("{sum} calls, {} bytes", self.text.len());
-        let written = std::fs::write(format!("{FOLDER}/stdin"), &self.text).and(std::fs::write(format!("{FOLDER}/stdout"), lines));
+        let written = std::fs::write(format!("{FOLDER}/stdin"), &self.text)
+            .and(std::fs::write(format!("{FOLDER}/stdout"), lines));
         if let Err(error) = &written {
             println!("{FOLDER}: {error}");
         }
