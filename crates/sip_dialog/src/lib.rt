@@ -1,13 +1,13 @@
 // The C face: functions on numbers and byte runs. Nothing but calls, and answers handed over.
-mod blocks;
-mod creation;
-mod identifiers;
-mod images;
-mod prack;
-mod prack_lists;
-mod rseq;
-mod store_readings;
-mod stores;
-mod timers;
-mod uris;
-mod values;
+pub mod blocks;
+pub mod creation;
+pub mod identifiers;
+pub mod images;
+pub mod prack;
+pub mod prack_lists;
+pub mod rseq;
+pub mod store_readings;
+pub mod stores;
+pub mod timers;
+pub mod uris;
+pub mod values;

@@ -8,6 +8,7 @@
 //!     driver rseq [--calls N] [--seed S]       the same for N lists of calls on an RSeq store
 //!     driver prack [--calls N] [--seed S]      the same for N lists of calls on a PRACK store
 //!     driver planted [--calls N] [--seed S]    plants faults, fails if any goes unreported or if a C function has none
+//!     driver record                            writes the list of recorded answers that the program replay runs
 //!     driver bench                             times both sides
 //!     driver calls                             names the calls on stores that `bench` times
 //!     driver call TABLE SIZE SIDE              makes one of them, for callgrind
@@ -25,6 +26,7 @@ mod places;
 mod prack;
 mod progress;
 mod random;
+mod record;
 mod report;
 mod rseq;
 mod rules;
@@ -35,7 +37,7 @@ mod uris;
 
 use std::process::ExitCode;
 
-const USAGE: &str = "use: driver all|leaves|dialogs|store|rseq|prack|planted [--calls N] [--seed S], driver bench";
+const USAGE: &str = "use: driver all|leaves|dialogs|store|rseq|prack|planted [--calls N] [--seed S], driver bench, driver record";
 
 /// How many calls (or lists of calls) where --calls doesn't say it, and how many in all for `all`.
 const CALLS: usize = 20_000;
@@ -69,6 +71,7 @@ fn main() -> ExitCode {
         "rseq" => report::rseq(calls, options.seed),
         "prack" => report::prack(calls, options.seed),
         "planted" => report::planted(calls, options.seed),
+        "record" => record::run(),
         "bench" => bench::run(),
         "calls" => bench::names(),
         _ => {

@@ -3,6 +3,7 @@
 use crate::answer::{class, Answer, Input, Out, NOTHING};
 use crate::progress;
 use crate::random::Random;
+use crate::record;
 use crate::rules::longest_of;
 use std::collections::BTreeMap;
 
@@ -157,7 +158,7 @@ impl<'a> Feed<'a> {
     /// Compares one call and gives what the port itself answered, without a planted fault.
     pub fn compare_and_go_on(&mut self, input: &Input) -> Answer {
         let operation = self.operation;
-        let pattern = PATTERNS[self.turn % PATTERNS.len()];
+        let pattern = record::pattern(self.turn);
         self.turn += 1;
         let mut expected = Answer::before(operation.outs, pattern);
         let mut answered = expected.clone();
@@ -172,6 +173,7 @@ impl<'a> Feed<'a> {
         let longest = input.texts.iter().any(|text| text.len() == longest);
         self.tally.longest_read += u64::from(longest && expected.number != 1);
         let row = class(operation.outs, &expected);
+        record::call(operation, input, &expected, row);
         let show = || describe(operation, input, &expected, &answered);
         let same = expected == answered;
         self.tally.count(row, same, show);

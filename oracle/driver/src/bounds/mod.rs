@@ -3,6 +3,7 @@
 
 mod table;
 
+use crate::record;
 use std::cell::{Cell, RefCell};
 use std::collections::HashMap;
 use table::BOUNDS;
@@ -40,8 +41,9 @@ pub fn met(operation: &'static str, what: &'static str, side: &str) {
     }
     MET.with_borrow_mut(|met| {
         let sides = met.get_mut(&(operation, what)).expect("a listed bound");
-        for (_, count) in sides.iter_mut().filter(|(listed, _)| *listed == side) {
+        for (listed, count) in sides.iter_mut().filter(|(listed, _)| *listed == side) {
             *count += 1;
+            record::met(operation, what, listed);
         }
     });
 }
@@ -75,6 +77,15 @@ pub fn quietly<T>(work: impl FnOnce() -> T) -> T {
     let result = work();
     QUIET.set(false);
     result
+}
+
+/// Each side of each bound, with its operation and what is bounded.
+pub fn sides() -> impl Iterator<Item = (&'static str, &'static str, &'static str)> {
+    let of_bound = |(operations, what, sides): &'static Bound| {
+        let of_operation = |operation: &'static &'static str| sides.iter().map(|side| (*operation, *what, *side));
+        operations.iter().flat_map(of_operation)
+    };
+    BOUNDS.iter().flat_map(of_bound)
 }
 
 /// Prints how often each side of each bound of these operations was met; answers what was met too seldom.

@@ -1,6 +1,7 @@
 //! What the kinds of stores have in common: calls with lent bytes, and a book of what the store must hold.
 
 use super::memory::Left;
+use crate::record::arguments::Recorded;
 use crate::run::Entry;
 
 /// How bytes that are no store differ from the store that they were.
@@ -9,7 +10,7 @@ pub type Damage = &'static str;
 /// A kind of store.
 pub trait Kind: Sized + 'static {
     /// A call's own arguments.
-    type Call;
+    type Call: Recorded;
     /// What the store must hold.
     type Book;
 

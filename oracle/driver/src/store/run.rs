@@ -5,8 +5,9 @@ use super::kind::{Damage, Kind};
 use super::memory::{Left, Store};
 use crate::progress;
 use crate::random::Random;
+use crate::record;
 use crate::rules::LONGEST;
-use crate::run::{Tally, PATTERNS};
+use crate::run::Tally;
 
 /// The two sides of a list of calls: the store as the port's last call left it, and the book of what it must be.
 pub struct Sides<K: Kind> {
@@ -108,11 +109,12 @@ impl<K: Kind> Run<K> {
     /// Compares one call that is lent the first `lent` bytes of the memory; the next one is given what the port left. No where
     /// the port differs: then the list can't go on.
     pub fn compare(&mut self, sides: &mut Sides<K>, call: &K::Call, lent: usize) -> bool {
-        let pattern = PATTERNS[self.turn % PATTERNS.len()];
+        let pattern = record::pattern(self.turn);
         self.turn += 1;
         let before = Left::before::<K>(call, sides.store.clone(), pattern);
         let mut expected = before.clone();
         K::expect(&mut sides.book, call, lent, &mut expected);
+        record::on_store::<K>(call, lent, &before, &expected);
         let mut answered = before.clone();
         K::ask(call, lent, &mut answered);
         let scene: Scene<K> = Scene {

@@ -1,0 +1,115 @@
+// The counts, and what is printed of them. For the row r: how many calls at r, how many of them differ at 81 + r, the first one's line at 162 + r; at 243 how many lines
+// can't be read.
+use crate::lines::Outcome;
+use libc::STDOUT_FILENO;
+use replay_lines::find_row;
+use replay_lines::part;
+use replay_lines::word;
+
+// Counts what became of a line; how many bytes the memory then has.
+pub fn take(outcome: Outcome, line: usize, tallies: &mut [u64; 244], size: usize) -> usize {
+    match outcome {
+        Outcome::Passed => size,
+        Outcome::Memory(n) => n,
+        Outcome::Same(row) => {
+            add(tallies, row);
+            size
+        }
+        Outcome::Differs(row) => {
+            add(tallies, row);
+            add_differing(tallies, row, line);
+            size
+        }
+        Outcome::Unreadable => {
+            show(b"line ");
+            show_decimal(line as u64);
+            show(b" can't be read\n");
+            add(tallies, 243);
+            size
+        }
+    }
+}
+
+fn add(tallies: &mut [u64; 244], i: usize) {
+    if i < 244 {
+        if tallies[i] < 18446744073709551615 {
+            tallies[i] = tallies[i] + 1;
+        }
+    }
+}
+
+fn add_differing(tallies: &mut [u64; 244], row: usize, line: usize) {
+    if row < 81 {
+        add(tallies, 81 + row);
+        if tallies[162 + row] == 0 {
+            tallies[162 + row] = line as u64;
+        }
+    }
+}
+
+// A line for each operation, and the verdict.
+pub fn report(rows: &[u8], tallies: &[u64; 244]) {
+    let mut row = 0;
+    while row < 81 {
+        let at = find_row(rows, b"", row).name;
+        show(part(rows, at, word(rows, at)));
+        show(b": ");
+        show_decimal(tallies[row]);
+        show(b" calls");
+        show_differing(tallies[81 + row], tallies[162 + row]);
+        row += 1;
+    }
+    let differ = total(tallies, 81);
+    show_decimal(total(tallies, 0));
+    if differ == 0 && tallies[243] == 0 {
+        show(b" calls, all as recorded\n");
+        return;
+    }
+    show(b" calls, ");
+    show_decimal(differ);
+    show(b" differ");
+    if tallies[243] != 0 {
+        show(b", ");
+        show_decimal(tallies[243]);
+        show(b" lines can't be read");
+    }
+    show(b"\n");
+}
+
+fn show_differing(differ: u64, line: u64) {
+    if differ != 0 {
+        show(b", ");
+        show_decimal(differ);
+        show(b" differ, the first in line ");
+        show_decimal(line);
+    }
+    show(b"\n");
+}
+
+// The sum of 81 counts.
+fn total(tallies: &[u64; 244], from: usize) -> u64 {
+    let mut sum = 0;
+    let mut i = 0;
+    while i < 81 {
+        sum = std::num::wrapping_add_u64(sum, tally(tallies, from, i));
+        i += 1;
+    }
+    sum
+}
+
+fn tally(tallies: &[u64; 244], from: usize, i: usize) -> u64 {
+    if from < 163 {
+        if i < 81 {
+            return tallies[from + i];
+        }
+    }
+    0
+}
+
+pub fn show(s: &[u8]) {
+    io::write_all(STDOUT_FILENO, s);
+}
+
+fn show_decimal(n: u64) {
+    io::print_decimal(STDOUT_FILENO, n);
+}
