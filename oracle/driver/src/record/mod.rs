@@ -72,6 +72,8 @@ struct Recorder {
     met: Vec<Key>,
     kept: BTreeMap<Key, Vec<(usize, u64, Kept)>>,
     seen: u64,
+    /// Whether each call is kept.
+    directed: bool,
     /// While a whole list is recorded: its calls.
     list: Option<Vec<StoreCall>>,
     /// What the calls of whole lists meet.
@@ -112,6 +114,9 @@ pub fn call(operation: &Operation, input: &Input, expected: &Answer, row: u8) {
         let mut keys = std::mem::take(&mut recorder.met);
         if !ON_RECORDS.iter().any(|front| name.starts_with(front)) {
             keys.extend(edges::of_call(name, input, expected, row));
+        }
+        if recorder.directed {
+            keys.push(Key::Edge(name, "directed".to_string(), recorder.seen));
         }
         recorder.take(name, row, keys, length, || {
             Kept::Lines(name, lines(operation, input, expected))
@@ -251,7 +256,9 @@ pub fn run() -> bool {
     for operation in operations::all() {
         compare_all(operation, CALLS, SEED, false);
     }
+    with(|recorder| recorder.directed = true);
     edges::each_call();
+    with(|recorder| recorder.directed = false);
     drop(dialogs::compare_all(CALLS, SEED, |_| false));
     drop(store::compare_all(LISTS, SEED, &[]));
     drop(rseq::compare_all(LISTS, SEED, &[]));
