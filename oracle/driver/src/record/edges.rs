@@ -156,6 +156,50 @@ pub fn each_call() {
             &[],
         );
     }
+    for (seconds, elapsed) in [(90, 60), (91, 60), (0, 0), (4_294_967_295, 2_863_311_530)] {
+        for time in [
+            (elapsed * SECOND).saturating_sub(1),
+            elapsed * SECOND,
+            elapsed * SECOND + 1,
+        ] {
+            feed("needs_refresh", &[], &[1, seconds, time]);
+            feed("needs_refresh", &[], &[0, seconds, time]);
+        }
+    }
+    for interval in [
+        89 * SECOND,
+        90 * SECOND - 1,
+        90 * SECOND,
+        119 * SECOND,
+        120 * SECOND - 1,
+        120 * SECOND,
+    ] {
+        feed("validate_session_expires", &[], &[interval, 0, 0]);
+        feed("validate_session_expires", &[], &[interval, 1, 120 * SECOND]);
+        feed(
+            "negotiate_session_expires",
+            &[],
+            &[interval, 90 * SECOND, 1, 120 * SECOND, 0, 0],
+        );
+    }
+    for requested in [1800 * SECOND, 100 * SECOND] {
+        feed(
+            "negotiate_session_expires",
+            &[],
+            &[requested, 90 * SECOND, 1, 120 * SECOND, 1, 60 * SECOND],
+        );
+    }
+    feed("non_refresher_expiry", &[], &[300 * SECOND]);
+    for text in ["uac", "uas", "Uas", ""] {
+        for is_uac in [0, 1] {
+            feed("determine_refresher_role", &[text], &[1, is_uac]);
+        }
+    }
+    feed("extract_tag", &["\"a;tag=x\" <sip:r@h>;tag=y"], &[]);
+    feed("route_count", &["Record-Route: \"a<b\" <sip:p@h>, <sip:q@h>\r\n"], &[]);
+    for method in 0..=15 {
+        feed("method_text", &[], &[method, 12]);
+    }
     for length in [8192, 8193] {
         let blank = " ".repeat(length);
         for name in [

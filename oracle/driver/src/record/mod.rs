@@ -71,6 +71,8 @@ struct Recorder {
     met: Vec<Key>,
     kept: BTreeMap<Key, Vec<(usize, u64, Kept)>>,
     seen: u64,
+    /// Whether each call is kept.
+    directed: bool,
     /// While a whole list is recorded: its calls.
     list: Option<Vec<StoreCall>>,
     /// What the calls of whole lists meet.
@@ -111,6 +113,9 @@ pub fn call(operation: &Operation, input: &Input, expected: &Answer, row: u8) {
         let mut keys = std::mem::take(&mut recorder.met);
         if !ON_RECORDS.iter().any(|front| name.starts_with(front)) {
             keys.extend(edges::of_call(name, input, expected, row));
+        }
+        if recorder.directed {
+            keys.push(Key::Edge(name, "directed".to_string(), recorder.seen));
         }
         recorder.take(name, row, keys, length, || {
             Kept::Lines(name, lines(operation, input, expected))
@@ -248,7 +253,9 @@ fn arguments_of(name: &str, input: &Input, outs: &[u64; 7], lent: &[u8]) -> Stri
 pub fn run() -> bool {
     RECORDER.set(Some(Recorder::default()));
     drop(compare_each(operations::all(), CALLS, SEED, |_| false));
+    with(|recorder| recorder.directed = true);
     edges::each_call();
+    with(|recorder| recorder.directed = false);
     drop(dialogs::compare_all(CALLS, SEED, |_| false));
     drop(store::compare_all(LISTS, SEED, &[]));
     drop(rseq::compare_all(LISTS, SEED, &[]));
