@@ -2,16 +2,15 @@
 // that it answers with what the line has. Prints a line for each operation, and a last one.
 mod calls;
 mod lines;
-mod tallies;
 
 use libc::STDIN_FILENO;
 use lines::one_line;
+use replay_answers::report;
+use replay_answers::show;
+use replay_answers::take;
 use replay_lines::find_row;
 use replay_lines::line_end;
 use replay_lines::part;
-use tallies::report;
-use tallies::show;
-use tallies::take;
 ghost use mathlib.Core.Path.{_≡_};
 ghost use lib.ListN.{length};
 

@@ -1,8 +1,8 @@
 -- `replay::tallies::total` is safe and ends: the measure is how many counts are left. Assumes nothing.
 use Prim.Native.Nat.{_-_}
 use borrow.Author.Needs.{needs}
-use Rattle.replay.proofs.tallies.total.Statement.{statement}
-use Rattle.replay.proofs.tallies.total.Tie as tie
+use Rattle.replay_answers.proofs.tallies.total.Statement.{statement}
+use Rattle.replay_answers.proofs.tallies.total.Tie as tie
 
 abbrev Inv-loop : tie.InvT-loop
 Inv-loop tallies from sum₀ i₀ sum i = Unit {0}

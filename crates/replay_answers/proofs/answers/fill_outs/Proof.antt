@@ -1,7 +1,7 @@
 -- `replay::lines::fill_outs` is safe and ends: the measure is how many items are left. Assumes nothing.
 use borrow.Author.Needs.{needs}
-use Rattle.replay.proofs.lines.fill_outs.Statement.{statement}
-use Rattle.replay.proofs.lines.fill_outs.Tie as tie
+use Rattle.replay_answers.proofs.answers.fill_outs.Statement.{statement}
+use Rattle.replay_answers.proofs.answers.fill_outs.Tie as tie
 
 abbrev Inv-loop : tie.InvT-loop
 Inv-loop shape items equals o₀ left₀ i₀ o left i = Unit {0}

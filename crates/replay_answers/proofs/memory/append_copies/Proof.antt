@@ -2,8 +2,8 @@
 use mathlib.Core.Path.{_≡_}
 use lib.ListN.{length}
 use borrow.Author.Needs.{needs}
-use Rattle.replay.proofs.lines.append_copies.Statement.{statement}
-use Rattle.replay.proofs.lines.append_copies.Tie as tie
+use Rattle.replay_answers.proofs.memory.append_copies.Statement.{statement}
+use Rattle.replay_answers.proofs.memory.append_copies.Tie as tie
 
 abbrev Inv-loop : tie.InvT-loop
 Inv-loop store₀ size piece items left₀ at₀ i₀ store left at i = length store ≡ length store₀

@@ -1,8 +1,8 @@
 -- `replay::tallies::report` is safe and ends: the measure is how many rows are left. Assumes nothing.
 use Prim.Native.Nat.{_≤_, _-_}
 use borrow.Author.Needs.{needs}
-use Rattle.replay.proofs.tallies.report.Statement.{statement}
-use Rattle.replay.proofs.tallies.report.Tie as tie
+use Rattle.replay_answers.proofs.tallies.report.Statement.{statement}
+use Rattle.replay_answers.proofs.tallies.report.Tie as tie
 
 abbrev Inv-loop : tie.InvT-loop
 Inv-loop rows tallies row₀ t6 t7 t8 t9 t10 t11 t12 t13 t14 row = row ≤ 81

@@ -1,8 +1,8 @@
 -- `replay::lines::outs_same` is safe and ends: the measure is how many numbers are left. Assumes nothing.
 use Prim.Native.Nat.{_-_}
 use borrow.Author.Needs.{needs}
-use Rattle.replay.proofs.lines.outs_same.Statement.{statement}
-use Rattle.replay.proofs.lines.outs_same.Tie as tie
+use Rattle.replay_answers.proofs.answers.outs_same.Statement.{statement}
+use Rattle.replay_answers.proofs.answers.outs_same.Tie as tie
 
 abbrev Inv-loop : tie.InvT-loop
 Inv-loop shape items equals o many i₀ i = Unit {0}

@@ -1,6 +1,6 @@
 // The counts, and what is printed of them. For the row r: how many calls at r, how many of them differ at 81 + r, the first one's line at 162 + r; at 243 how many lines
 // can't be read.
-use crate::lines::Outcome;
+use crate::Outcome;
 use libc::STDOUT_FILENO;
 use replay_lines::find_row;
 use replay_lines::part;
