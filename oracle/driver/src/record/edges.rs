@@ -104,15 +104,28 @@ fn numbers_in(text: &[u8]) -> impl Iterator<Item = u64> + '_ {
 
 /// Calls at limits that chance gives seldom.
 pub fn each_call() {
+    uris_and_routes();
+    identifiers();
+    numbers();
+    intervals();
+    test_sheet();
+    for method in 0..=15 {
+        feed("method_text", &[], &[method, 12]);
+    }
+    for length in [8192, 8193] {
+        longest_texts(length);
+        longest_blocks(length);
+    }
+}
+
+/// Estimates, numbers of routes and ports.
+fn uris_and_routes() {
     let routes = |many: usize| format!("Record-Route:{}\r\n", vec!["<sip:r>"; many].join(","));
     let long = |many: usize| format!("sip:{}", "h".repeat(many));
     for estimate in [512, 513] {
         feed("uri_estimate", &[&long(estimate - 10)], &[]);
-        feed(
-            "uri_estimate",
-            &[&format!("sip:u@{}:5", "h".repeat(estimate - 17))],
-            &[],
-        );
+        let with_port = format!("sip:u@{}:5", "h".repeat(estimate - 17));
+        feed("uri_estimate", &[&with_port], &[]);
         let route = format!("Record-Route:<{}>\r\n", long(estimate - 10));
         feed("route_count", &[&route], &[]);
         feed("route", &[&route], &[0, 0]);
@@ -127,67 +140,75 @@ pub fn each_call() {
         feed("sip_uri", &[&format!("sip:u@h:{port}")], &[]);
         feed("sip_uri", &[&format!("sips:[::1]:{port};x")], &[]);
     }
-    for [call_id, local, remote] in [[256, 128, 128], [257, 128, 128], [256, 129, 128], [256, 128, 129]] {
-        feed(
-            "dialog_id_new",
-            &[&"c".repeat(call_id), &"l".repeat(local), &"r".repeat(remote)],
-            &[],
-        );
+}
+
+/// Lengths of identifier parts.
+fn identifiers() {
+    for lengths in [[256, 128, 128], [257, 128, 128], [256, 129, 128], [256, 128, 129]] {
+        let [call_id, local, remote] = lengths;
+        let texts = ["c".repeat(call_id), "l".repeat(local), "r".repeat(remote)];
+        feed("dialog_id_new", &[&texts[0], &texts[1], &texts[2]], &[]);
     }
-    for number in [
-        "0",
-        "1",
-        "2147483647",
-        "2147483648",
-        "4294967295",
-        "4294967296",
-        "+5",
-        "-0",
-        "00007",
-    ] {
+}
+
+/// Numbers in texts.
+const IN_TEXTS: [&str; 9] = [
+    "0",
+    "1",
+    "2147483647",
+    "2147483648",
+    "4294967295",
+    "4294967296",
+    "+5",
+    "-0",
+    "00007",
+];
+
+/// Every reading of a number from a text.
+fn numbers() {
+    for number in IN_TEXTS {
         feed("cseq_number", &[&format!("CSeq: {number} INVITE\r\n")], &[]);
         feed("rseq", &[&format!("RSeq: {number}\r\n")], &[]);
         feed("parse_rack", &[&format!("{number} 1 INVITE")], &[]);
         feed("parse_rack", &[&format!("1 {number} INVITE")], &[]);
         feed("parse_session_expires", &[number], &[]);
-        feed(
-            "session_expires",
-            &[&format!("Session-Expires: {number};refresher=uac\r\n")],
-            &[],
-        );
+        let line = format!("Session-Expires: {number};refresher=uac\r\n");
+        feed("session_expires", &[&line], &[]);
     }
+}
+
+/// Intervals, a nanosecond before and after.
+const INTERVALS: [u64; 6] = [
+    89 * SECOND,
+    90 * SECOND - 1,
+    90 * SECOND,
+    119 * SECOND,
+    120 * SECOND - 1,
+    120 * SECOND,
+];
+
+/// Refresh times, validation and negotiation.
+fn intervals() {
     for (seconds, elapsed) in [(90, 60), (91, 60), (0, 0), (4_294_967_295, 2_863_311_530)] {
-        for time in [
-            (elapsed * SECOND).saturating_sub(1),
-            elapsed * SECOND,
-            elapsed * SECOND + 1,
-        ] {
+        let elapsed = elapsed * SECOND;
+        for time in [elapsed.saturating_sub(1), elapsed, elapsed + 1] {
             feed("needs_refresh", &[], &[1, seconds, time]);
             feed("needs_refresh", &[], &[0, seconds, time]);
         }
     }
-    for interval in [
-        89 * SECOND,
-        90 * SECOND - 1,
-        90 * SECOND,
-        119 * SECOND,
-        120 * SECOND - 1,
-        120 * SECOND,
-    ] {
+    for interval in INTERVALS {
         feed("validate_session_expires", &[], &[interval, 0, 0]);
         feed("validate_session_expires", &[], &[interval, 1, 120 * SECOND]);
-        feed(
-            "negotiate_session_expires",
-            &[],
-            &[interval, 90 * SECOND, 1, 120 * SECOND, 0, 0],
-        );
+        let given = [interval, 90 * SECOND, 1, 120 * SECOND, 0, 0];
+        feed("negotiate_session_expires", &[], &given);
     }
+}
+
+/// Lines of the test sheet.
+fn test_sheet() {
     for requested in [1800 * SECOND, 100 * SECOND] {
-        feed(
-            "negotiate_session_expires",
-            &[],
-            &[requested, 90 * SECOND, 1, 120 * SECOND, 1, 60 * SECOND],
-        );
+        let given = [requested, 90 * SECOND, 1, 120 * SECOND, 1, 60 * SECOND];
+        feed("negotiate_session_expires", &[], &given);
     }
     feed("non_refresher_expiry", &[], &[300 * SECOND]);
     for text in ["uac", "uas", "Uas", ""] {
@@ -197,37 +218,44 @@ pub fn each_call() {
     }
     feed("extract_tag", &["\"a;tag=x\" <sip:r@h>;tag=y"], &[]);
     feed("route_count", &["Record-Route: \"a<b\" <sip:p@h>, <sip:q@h>\r\n"], &[]);
-    for method in 0..=15 {
-        feed("method_text", &[], &[method, 12]);
+}
+
+/// Readings of a value.
+const VALUES: [&str; 5] = [
+    "parse_uri_from_header",
+    "extract_tag",
+    "parse_session_expires",
+    "parse_rack",
+    "next_header_value, to the end",
+];
+
+/// Texts of a length.
+fn longest_texts(length: usize) {
+    let blank = " ".repeat(length);
+    for name in VALUES {
+        feed(name, &[&blank], &[]);
     }
-    for length in [8192, 8193] {
-        let blank = " ".repeat(length);
-        for name in [
-            "parse_uri_from_header",
-            "extract_tag",
-            "parse_session_expires",
-            "parse_rack",
-            "next_header_value, to the end",
-        ] {
-            feed(name, &[&blank], &[]);
-        }
-        feed("sip_uri", &[&format!("sip:h;{}", "x".repeat(length - 6))], &[]);
-        feed("uri_estimate", &[&format!("sip:h;{}", "x".repeat(length - 6))], &[]);
-        for texts in [[length, 1, 1], [1, length, 1], [1, 1, length]] {
-            let texts = texts.map(|length| "x".repeat(length));
-            feed("dialog_id_new", &[&texts[0], &texts[1], &texts[2]], &[]);
-        }
-        feed("method_number", &[&"A".repeat(length)], &[]);
-        feed("determine_refresher_role", &[&"u".repeat(length)], &[1, 1]);
-        let block = |line: &str| format!("{line}\r\nX:{}\r\n", "x".repeat(length - line.len() - 6));
-        for (name, line) in BLOCKS {
-            feed(name, &[&block(line)], &[]);
-        }
-        feed("is_reliable_provisional", &[&block("Require:100rel\r\nRSeq:1")], &[180]);
-        for name in ["header", "next_header", "next_header, to the end"] {
-            feed(name, &[&block("a:1"), "a"], &[]);
-            feed(name, &["a:1\r\n", &"a".repeat(length)], &[]);
-        }
+    let uri = format!("sip:h;{}", "x".repeat(length - 6));
+    feed("sip_uri", &[&uri], &[]);
+    feed("uri_estimate", &[&uri], &[]);
+    for texts in [[length, 1, 1], [1, length, 1], [1, 1, length]] {
+        let texts = texts.map(|length| "x".repeat(length));
+        feed("dialog_id_new", &[&texts[0], &texts[1], &texts[2]], &[]);
+    }
+    feed("method_number", &[&"A".repeat(length)], &[]);
+    feed("determine_refresher_role", &[&"u".repeat(length)], &[1, 1]);
+}
+
+/// Blocks of a length, and names.
+fn longest_blocks(length: usize) {
+    let block = |line: &str| format!("{line}\r\nX:{}\r\n", "x".repeat(length - line.len() - 6));
+    for (name, line) in BLOCKS {
+        feed(name, &[&block(line)], &[]);
+    }
+    feed("is_reliable_provisional", &[&block("Require:100rel\r\nRSeq:1")], &[180]);
+    for name in ["header", "next_header", "next_header, to the end"] {
+        feed(name, &[&block("a:1"), "a"], &[]);
+        feed(name, &["a:1\r\n", &"a".repeat(length)], &[]);
     }
 }
 

@@ -157,38 +157,7 @@ fn over_most_early() -> Vec<Call> {
 /// Records all of them; the rows and sides of bounds that they meet.
 pub fn record(writer: &mut Writer) -> BTreeSet<Key> {
     let mut met = BTreeSet::new();
-    let lists = [
-        ("10,000 records", vec![copies(9_999, "c", Confirmed)], at_most_records()),
-        (
-            "10,001 records handed in",
-            vec![copies(10_001, "c", Confirmed)],
-            over_most_records(),
-        ),
-        (
-            "100 Early records of a Call-ID",
-            vec![copies(99, "e", Early)],
-            at_most_early(),
-        ),
-        (
-            "101 Early records handed in",
-            vec![copies(101, "e", Early)],
-            over_most_early(),
-        ),
-    ];
-    for (remark, copies, calls) in lists {
-        writer.remark(remark);
-        writer.copies(&copies, 400);
-        let used = writer.memory().len() - 400;
-        let store = writer.memory()[..used].to_vec();
-        let calls = captured(&mut met, || {
-            let (mut run, mut random) = (Run::<Dialogs>::new(&[]), Random::new(1, remark));
-            let mut list = List::new(&mut run, &mut random, &store, [0, 0]);
-            for call in &calls {
-                list.compare(call, store.len() + 300);
-            }
-        });
-        calls.iter().for_each(|call| writer.on_store(call));
-    }
+    full(writer, &mut met);
     short(writer, &mut met, "records", |seed| {
         let (mut run, mut random) = (Run::new(&[]), Random::new(seed, "recorded"));
         lists::list(&mut run, &mut random);
@@ -202,6 +171,30 @@ pub fn record(writer: &mut Writer) -> BTreeSet<Key> {
         prack::lists::list(&mut run, &mut random);
     });
     met
+}
+
+/// Records the lists on stores at and over their limits.
+fn full(writer: &mut Writer, met: &mut BTreeSet<Key>) {
+    let lists = [
+        ("10,000 records", copies(9_999, "c", Confirmed), at_most_records()),
+        ("10,001 records handed in", copies(10_001, "c", Confirmed), over_most_records()),
+        ("100 Early records of a Call-ID", copies(99, "e", Early), at_most_early()),
+        ("101 Early records handed in", copies(101, "e", Early), over_most_early()),
+    ];
+    for (remark, copies, calls) in lists {
+        writer.remark(remark);
+        writer.copies(&[copies], 400);
+        let used = writer.memory().len() - 400;
+        let store = writer.memory()[..used].to_vec();
+        let calls = captured(met, || {
+            let (mut run, mut random) = (Run::<Dialogs>::new(&[]), Random::new(1, remark));
+            let mut list = List::new(&mut run, &mut random, &store, [0, 0]);
+            for call in &calls {
+                list.compare(call, store.len() + 300);
+            }
+        });
+        calls.iter().for_each(|call| writer.on_store(call));
+    }
 }
 
 /// Records the first short lists of a kind of store.
