@@ -37,7 +37,8 @@ mod uris;
 
 use std::process::ExitCode;
 
-const USAGE: &str = "use: driver all|leaves|dialogs|store|rseq|prack|planted [--calls N] [--seed S], driver bench, driver record";
+const USAGE: &str =
+    "use: driver all|leaves|dialogs|store|rseq|prack|planted [--calls N] [--seed S], driver bench, driver record";
 
 /// How many calls (or lists of calls) where --calls doesn't say it, and how many in all for `all`.
 const CALLS: usize = 20_000;

@@ -36,7 +36,13 @@ pub fn numbers(plan: &Plan) {
         Pracks::new,
         register,
     );
-    table(plan, ["prack_validate, accepted", THINGS], &SIZES, Pracks::new, validate);
+    table(
+        plan,
+        ["prack_validate, accepted", THINGS],
+        &SIZES,
+        Pracks::new,
+        validate,
+    );
     table(
         plan,
         ["prack_get_pending of one response", THINGS],
@@ -45,7 +51,13 @@ pub fn numbers(plan: &Plan) {
         get_pending,
     );
     table(plan, ["rseq_next of a held number", THINGS], &SIZES, RSeqs::new, next);
-    table(plan, ["rseq_next of a new dialog", THINGS], &SIZES, RSeqs::new, next_new);
+    table(
+        plan,
+        ["rseq_next of a new dialog", THINGS],
+        &SIZES,
+        RSeqs::new,
+        next_new,
+    );
 }
 
 /// The time of all calls: nothing is due.

@@ -1,8 +1,8 @@
 //! Times of calls on a store of N records, beside the Rust's `DialogManager` with the same N dialogs. Each call is timed
 //! alone, after what the one before it changed has been put back; the clock's own time is taken off.
 
-use super::dialogs::{made, parsed_request};
 use super::by_identifier;
+use super::dialogs::{made, parsed_request};
 use super::tables::{table, timed, Plan, Side, Sides};
 use crate::dialogs::encode;
 use port::store::{self, Place, Store};
@@ -19,9 +19,13 @@ const SIZES_OF_PUTS: [usize; 5] = [1, 10, 100, 1000, 9999];
 /// A put, the request entry, the calls by identifier, the look-ups, a sweep, the count and all identifiers.
 pub fn stores(plan: &Plan) {
     if let Plan::Times = plan {
-        println!("\nStores. A port call reads the whole store, as its contract asks, and remembers nothing between calls.");
+        println!(
+            "\nStores. A port call reads the whole store, as its contract asks, and remembers nothing between calls."
+        );
         println!("The Rust has dialogs, not bytes, in a stand-in of `dashmap` without its locks. Both are asked for the record");
-        println!("in the middle; in a sweep every tenth record is Terminated. Each call is timed alone, and no buffer is");
+        println!(
+            "in the middle; in a sweep every tenth record is Terminated. Each call is timed alone, and no buffer is"
+        );
         println!("cleared for it: its store is as the call before found it, and output holds what that one wrote.");
     }
     changes(plan);
@@ -253,10 +257,19 @@ fn all_ids(both: &Both) -> Vec<Side<'_>> {
             "Rattle",
             Box::new(move || {
                 let mut length = 0;
-                timed(|| assert_eq!(store::all_ids(&both.bytes, both.used, &mut out, &mut length), 0, "written"))
+                timed(|| {
+                    assert_eq!(
+                        store::all_ids(&both.bytes, both.used, &mut out, &mut length),
+                        0,
+                        "written"
+                    )
+                })
             }),
         ),
-        ("Rust all_ids", Box::new(|| timed(|| black_box(&both.manager).all_ids()))),
+        (
+            "Rust all_ids",
+            Box::new(|| timed(|| black_box(&both.manager).all_ids())),
+        ),
     ]
 }
 

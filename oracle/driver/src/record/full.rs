@@ -177,9 +177,21 @@ pub fn record(writer: &mut Writer) -> BTreeSet<Key> {
 fn full(writer: &mut Writer, met: &mut BTreeSet<Key>) {
     let lists = [
         ("10,000 records", copies(9_999, "c", Confirmed), at_most_records()),
-        ("10,001 records handed in", copies(10_001, "c", Confirmed), over_most_records()),
-        ("100 Early records of a Call-ID", copies(99, "e", Early), at_most_early()),
-        ("101 Early records handed in", copies(101, "e", Early), over_most_early()),
+        (
+            "10,001 records handed in",
+            copies(10_001, "c", Confirmed),
+            over_most_records(),
+        ),
+        (
+            "100 Early records of a Call-ID",
+            copies(99, "e", Early),
+            at_most_early(),
+        ),
+        (
+            "101 Early records handed in",
+            copies(101, "e", Early),
+            over_most_early(),
+        ),
     ];
     for (remark, copies, calls) in lists {
         writer.remark(remark);
