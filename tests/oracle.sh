@@ -10,10 +10,10 @@ export PORT_LIB
 oracle/run --if-present build
 log=$(mktemp)
 trap 'rm -f "$log"' EXIT
-oracle/run --if-present planted --calls 6000 >"$log" 2>&1 &
+oracle/run --if-present planted >"$log" 2>&1 &
 planted=$!
 status=0
-oracle/run --if-present all --calls 7000000 || status=$?
+oracle/run --if-present all --calls 8000000 || status=$?
 wait "$planted" || status=$?
 cat "$log"
 exit "$status"
