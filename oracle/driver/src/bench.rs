@@ -4,6 +4,8 @@
 mod by_identifier;
 mod dialogs;
 mod numbers;
+mod pracks;
+mod rseqs;
 mod store;
 mod tables;
 
