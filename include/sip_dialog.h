@@ -6,7 +6,10 @@
  * For every call:
  * - It finishes on all bytes, allocates nothing and remembers nothing.
  * - A byte run is a pointer and its length in bytes; no zero byte ends it. A null pointer is allowed only with length 0.
- * - Byte runs of one call must not overlap, neither each other nor a lent number.
+ * - Byte runs of one call must not overlap, neither each other nor a lent number. (Runs that are only read do no harm where they
+ *   are the same bytes, as a compiler may make of equal literals: no call writes them. The proofs speak of runs apart.)
+ * - Stack: a call on a store of records takes about 260 KB of it, however small the store is (tables for the comparison of
+ *   identifiers), sip_dialog_listing about 47 KB, every other call less than 4 KB. The archive calls memcpy, memmove and memset.
  * - A lent number (found, place, ..) is a pointer to a number of its own, never null. It keeps its value except where its
  *   answer is given: a refused call changes none of them (but 13's `least`, and `used` of sip_dialog_prack_validate with 19 to 24),
  *   and with `found` 0 the others keep theirs.
@@ -273,7 +276,8 @@ uint8_t sip_dialog_image_needs_refresh(const uint8_t *image, size_t image_len, u
    and without a readable Session-Expires no interval. Any method is taken. Both functions refuse with 1 (any of the five
    runs); 2 (request, response); 6 (local URI, remote URI); 4 (Call-ID or a tag absent); 5; 7 (estimate of the local URI, the
    remote URI, the target); 7 or 8 in the routes, whichever is met first, as sip_dialog_route_count; 4 (CSeq); 9; 10; 13 below
-   90 and then answer 90 in least, in seconds; 14; 18. But for 13, least keeps its value. */
+   90 and then answer 90 in least, in seconds; 14; 18. But for 13, least keeps its value. An image has as many bytes as its texts and
+   about 40 more; 41,088 are enough for any (four texts and the routes of a block, of 8,192 bytes each). */
 
 /* For a request that we sent, and its response: the tag of From is the local one; Contact and Record-Route are the
    response's, the routes reversed over all lines; the request's CSeq is the local number, and there is no remote one. */
@@ -404,7 +408,7 @@ uint8_t sip_dialog_all_ids(const uint8_t *store, size_t store_len, size_t used, 
 
 /* Writes the handover listing of a store to the front of out, without a zero byte, and answers its length: a line for each record,
    then `total` and their number, each line ended by a line feed. It is given the used bytes alone. Refuses with 1 (over 65,536
-   bytes), 3, 18. */
+   bytes), 3, 18. A line is shorter than two times its image: 131,072 bytes are enough for any listing. */
 uint8_t sip_dialog_listing(const uint8_t *store, size_t used, uint8_t *out, size_t out_len, size_t *length);
 
 /* ---- RSeq numbers: one for each dialog that sends reliable provisional responses, in a store of their own (docs/LAYOUTS.md, "The

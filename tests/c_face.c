@@ -1,6 +1,7 @@
 /*
- * With tests/c_face_store.c and tests/c_face_rseq.c, calls every function of include/sip_dialog.h, accepted and refused: what it
- * returns, what the lent numbers and bytes then hold, and that the rest is kept. Expected values come from document 01, not from the code.
+ * With tests/c_face_store.c, tests/c_face_rseq.c and tests/c_face_prack.c, calls every function of include/sip_dialog.h, accepted
+ * and refused: what it returns, what the lent numbers and bytes then hold, and that the rest is kept. Expected values come from
+ * document 01, not from the code.
  */
 #include "c_face.h"
 
@@ -52,6 +53,11 @@ struct run lend_bytes(const uint8_t *bytes, size_t length)
     return r;
 }
 
+struct run lend_text(struct text t)
+{
+    return t.length == 0 && t.bytes != NULL ? lend("") : lend_bytes((const uint8_t *)t.bytes, t.length);
+}
+
 void take_back(struct run r)
 {
     CHECK(r.length == 0 || memcmp(r.bytes, r.text, r.length) == 0);
@@ -79,6 +85,58 @@ static size_t place_of(const char *whole, const char *part)
 {
     const char *at = strstr(whole, part);
     return at == NULL ? SIZE_MAX : (size_t)(at - whole);
+}
+
+/* ---- Bytes lent to be written, between guard bytes */
+
+enum { GUARD = 32 };
+
+/* How many guard bytes stand on each side. */
+static size_t guard;
+
+struct area lend_area(const uint8_t *content, size_t length, size_t room)
+{
+    struct area a = {room, NULL, NULL, NULL};
+    size_t total = guard + room + guard;
+    size_t k;
+    if (total > 0) {
+        a.memory = allocate(total);
+        a.expected = allocate(total);
+        for (k = 0; k < total; k++) {
+            a.memory[k] = (uint8_t)(KEPT + 29 * k);
+        }
+        a.bytes = a.memory + guard;
+        if (length > 0) {
+            memcpy(a.bytes, content, length < room ? length : room);
+        }
+        memcpy(a.expected, a.memory, total);
+    }
+    return a;
+}
+
+bool front_became(struct area a, const uint8_t *bytes, size_t length)
+{
+    size_t total = guard + a.room + guard;
+    bool holds = length <= a.room;
+    if (holds && length > 0) {
+        memcpy(a.expected + guard, bytes, length);
+    }
+    holds = holds && (total == 0 || memcmp(a.memory, a.expected, total) == 0);
+    free(a.memory);
+    free(a.expected);
+    return holds;
+}
+
+void run_guarded(void (*const tests[])(void), size_t count)
+{
+    size_t round;
+    size_t i;
+    for (round = 0; round < 2; round++) {
+        guard = round == 0 ? GUARD : 0;
+        for (i = 0; i < count; i++) {
+            tests[i]();
+        }
+    }
 }
 
 /* ---- Answers of look-ups. Numbers narrower than size_t are followed by one that must stay KEPT. */
@@ -1482,6 +1540,17 @@ struct image image_of(const uint8_t *bytes, size_t length)
     return i;
 }
 
+struct image nothing(void)
+{
+    return image_of(NULL, 0);
+}
+
+struct image join(struct image a, struct image b)
+{
+    memcpy(a.bytes + a.length, b.bytes, b.length);
+    return with_length(a, a.length + b.length);
+}
+
 struct image sheet_image(void)
 {
     return image_of(sheet_record, sizeof sheet_record);
@@ -2160,7 +2229,6 @@ static void test_image_request_numbers(void)
 {
     struct image sheet = sheet_image();
     struct image least = least_image();
-    struct image full = full_image();
     /* remote number 7 */
     CHECK(request_becomes("INVITE", "CSeq:8 INVITE\r\n", sheet, RECORD, remote_is(8)));
     CHECK(request_becomes("BYE", "CSeq:1007 BYE\r\n", sheet, 600, remote_is(1007)));
@@ -2191,7 +2259,13 @@ static void test_image_request_numbers(void)
     CHECK(request_is_refused("BYE", "CSeq:2147483647 BYE\r\n", remote_is(UINT32_MAX), 11));
     CHECK(request_is_refused("BYE", "CSeq:1 BYE\r\n", remote_is(UINT32_MAX), 11));
     CHECK(request_is_refused("BYE", "CSeq:0 BYE\r\n", remote_is(UINT32_MAX), 9));
-    /* the number alone changes; what stands after it moves where it is new */
+}
+
+/* The number alone changes; what stands after it moves where it is new. */
+static void test_image_request_number_alone(void)
+{
+    struct image least = least_image();
+    struct image full = full_image();
     CHECK(request_becomes("INFO", "CSeq:10 INFO\r\n", full, FULL_LENGTH, with_number(full, FULL_REMOTE, 10)));
     CHECK(request_becomes("INFO", "CSeq:2 INFO\r\n", with_more(least, 0x00F8, LEAST_LENGTH, 9), 38,
                           ending(least, 0x01F8, LEAST_LENGTH, IMAGE("\0\0\0\x09" "\0\0\0\2"))));
@@ -2295,9 +2369,6 @@ static void test_image_request_target(void)
     struct image sheet = sheet_image();
     struct image full = full_image();
     struct image longer = sheet_to(remote_is(8), "sips:new@host.example:5061;x");
-    struct image acked = with_more(sheet, 0x037F, RECORD, 7);
-    char buffer[LONGEST + 2];
-    char uri[LONGEST + 2];
     /* longer: by hand; the secure bit isn't the target's */
     CHECK(request_becomes("BYE", "CSeq:8 BYE\r\nContact:\"N\" <sips:n@host>;q=1\r\n", sheet, 600,
                           IMAGE("\x01\x7F" "\0\2" "c1" "\0\1" "L" "\0\1" "R" "\2" "\0\x0B" "sips:n@host"
@@ -2311,7 +2382,19 @@ static void test_image_request_target(void)
     /* of the same length, and the same */
     CHECK(request_becomes("BYE", "CSeq:8\r\ncontact:< sip:n@h\t>\r\n", sheet, RECORD, sheet_to(remote_is(8), "sip:n@h")));
     CHECK(request_becomes("BYE", "CSeq:8\r\nContact:sip:r@h\r\n", sheet, RECORD, remote_is(8)));
-    /* unreadable or absent: kept; the first line alone is asked */
+    /* what stands after it moves */
+    CHECK(request_becomes("BYE", "CSeq:10\r\nContact:<sip:h>\r\n", full, FULL_LENGTH,
+                          full_to(with_number(full, FULL_REMOTE, 10), "sip:h")));
+    CHECK(request_becomes("BYE", "CSeq:10\r\nContact:<sip:tt@h>\r\n", full, FULL_LENGTH + 1,
+                          full_to(with_number(full, FULL_REMOTE, 10), "sip:tt@h")));
+    CHECK(request_stays("BYE", "CSeq:10\r\nContact:<sip:tt@h>\r\n", full, FULL_LENGTH, FULL_LENGTH, 18));
+}
+
+/* Unreadable or absent: kept. The first line alone is asked. */
+static void test_image_request_no_target(void)
+{
+    struct image sheet = sheet_image();
+    struct image acked = with_more(sheet, 0x037F, RECORD, 7);
     CHECK(request_becomes("BYE", "CSeq:8\r\nContact:*\r\n", sheet, RECORD, remote_is(8)));
     CHECK(request_becomes("BYE", "CSeq:8\r\nContact:\r\n", sheet, RECORD, remote_is(8)));
     CHECK(request_becomes("BYE", "CSeq:8\r\nContact:<sip:n@h\r\n", sheet, RECORD, remote_is(8)));
@@ -2327,13 +2410,14 @@ static void test_image_request_target(void)
     CHECK(request_is_refused("BYE", "CSeq:7\r\nContact:sip:n@h\r\n", sheet, 11));
     CHECK(request_is_refused("BYE", "CSeq:0\r\nContact:sip:n@h\r\n", sheet, 9));
     CHECK(request_is_refused("BYE", "Contact:sip:n@h\r\n", sheet, 4));
-    /* what stands after it moves */
-    CHECK(request_becomes("BYE", "CSeq:10\r\nContact:<sip:h>\r\n", full, FULL_LENGTH,
-                          full_to(with_number(full, FULL_REMOTE, 10), "sip:h")));
-    CHECK(request_becomes("BYE", "CSeq:10\r\nContact:<sip:tt@h>\r\n", full, FULL_LENGTH + 1,
-                          full_to(with_number(full, FULL_REMOTE, 10), "sip:tt@h")));
-    CHECK(request_stays("BYE", "CSeq:10\r\nContact:<sip:tt@h>\r\n", full, FULL_LENGTH, FULL_LENGTH, 18));
-    /* not measured: an estimate of 513, and a block that is all Contact */
+}
+
+/* Not measured: an estimate of 513, and a block that is all Contact. */
+static void test_image_request_long_target(void)
+{
+    struct image sheet = sheet_image();
+    char buffer[LONGEST + 2];
+    char uri[LONGEST + 2];
     filled(buffer, "CSeq:8\r\nContact:<sip:", 'h', ">\r\n", 21 + 503 + 3);
     filled(uri, "sip:", 'h', "", 4 + 503);
     CHECK(request_becomes("BYE", buffer, sheet, RECORD + 500, sheet_to(remote_is(8), uri)));
@@ -2527,9 +2611,6 @@ static void test_image_response_routes(void)
     struct image full = full_image();
     struct image least = least_image();
     struct image reversed = IMAGE("\3" "\0\x0B" "sip:c@hh;lr" "\0\7" "sip:b@h" "\0\7" "sip:a@h");
-    char buffer[LONGEST + 2];
-    char line[1024];
-    char uri[1024];
     CHECK(full_ending(reversed).length == 97);
     /* reversed over all lines, for both sides; more bytes than before, or fewer, or as many */
     CHECK(response_becomes(200, three, full, 600, full_ending(reversed)));
@@ -2550,7 +2631,16 @@ static void test_image_response_routes(void)
     CHECK(response_becomes(200, "Record-Route:, ,\r\nRecord-Route:<x>,y\r\n", full, FULL_LENGTH, full_confirmed()));
     CHECK(response_becomes(200, "Record-Route:\"a<b\" <sip:p@h>, <sip:q@h>\r\n", full, FULL_LENGTH, full_confirmed()));
     CHECK(response_becomes(200, "Record-Route:x\r\n", least, LEAST_LENGTH, with_byte(least, LEAST_STATE, 2)));
-    /* 50 are taken; a part more keeps the old ones, and the rest of the response counts */
+}
+
+/* 50 are taken; a part more keeps the old ones, and the rest of the response counts. */
+static void test_image_response_most_routes(void)
+{
+    struct image full = full_image();
+    struct image least = least_image();
+    char buffer[LONGEST + 2];
+    char line[1024];
+    char uri[1024];
     CHECK(response_becomes(200, numbered_routes(buffer, ROUTES, ""), full, 466, full_ending(numbered_end(ROUTES, true))));
     CHECK(response_stays(200, buffer, full, 465, FULL_LENGTH, 18));
     CHECK(response_becomes(200, numbered_routes(buffer, ROUTES, "Record-Route:, ,\r\n"), full, 600,
@@ -2632,7 +2722,15 @@ static void test_image_response_interval(void)
     CHECK(response_stays(180, "Session-Expires:1800;refresher=uac\r\n", refresher, RECORD + 7, RECORD + 4, 18));
     CHECK(response_becomes(180, "Session-Expires:1800;refresher=uac\r\n", alone, RECORD + 8, both));
     CHECK(response_stays(180, "Session-Expires:1800;refresher=uac\r\n", alone, RECORD + 7, RECORD + 4, 18));
-    /* unmeasured */
+}
+
+/* Unmeasured. */
+static void test_image_response_any_interval(void)
+{
+    struct image full = full_image();
+    struct image sheet = sheet_image();
+    struct image alone = with_more(sheet, 0x057F, RECORD, 1800);
+    struct image refresher = with_more(sheet, 0x097F, RECORD, 2);
     CHECK(response_becomes(200, "Session-Expires:0\r\n", sheet, 600, with_number(alone, RECORD, 0)));
     CHECK(response_becomes(200, "Session-Expires:89\r\n", sheet, 600, with_number(alone, RECORD, 89)));
     CHECK(response_becomes(200, "Session-Expires:86400\r\n", sheet, 600, with_number(alone, RECORD, 86400)));
@@ -2951,8 +3049,6 @@ static void test_creation_identifier(creation_function *call)
     size_t from_tag = uac ? NEW_LOCAL_TAG : NEW_REMOTE_TAG;
     size_t to_tag = uac ? NEW_REMOTE_TAG : NEW_LOCAL_TAG;
     const char *mixed = "to: <sip:t@h>;x;TAG=U\r\nCALL-ID: \tid 1@x\t\r\nCall-ID:c2\r\nFROM:\"a;tag=G;b\" <sip:f@h>;tag=y\r\n";
-    char buffer[LONGEST + 2];
-    char text[LONGEST + 2];
     /* for uac From's tag is the local one, for uas To's */
     CHECK(makes(with_response(c, mixed),
                 with_text(with_text(with_text(plain, from_tag, "G"), to_tag, "U"), NEW_CALL_ID, "id 1@x")));
@@ -2972,7 +3068,16 @@ static void test_creation_identifier(creation_function *call)
                             "\0\0\0\5")
                     : IMAGE("\1\x7D" "\0\2" "c1" "\0\1" "F" "\2" "\0\7" "sip:r@h" "\0\7" "sip:l@h" "\0\7" "sip:r@h"
                             "\0\0\0\5")));
-    /* absent ones are not; the request's don't count */
+}
+
+/* Absent parts aren't taken; the request's don't count. Long ones are: not held to 256 and 128 bytes. */
+static void test_creation_no_identifier(creation_function *call)
+{
+    struct creation c = creation_by(call);
+    struct image plain = plain_image(call);
+    size_t to_tag = call == sip_dialog_new_uac ? NEW_REMOTE_TAG : NEW_LOCAL_TAG;
+    char buffer[LONGEST + 2];
+    char text[LONGEST + 2];
     CHECK(is_not_made(with_response(c, "From:;tag=F\r\nTo:;tag=T\r\n"), 4));
     CHECK(is_not_made(with_response(c, "Call-ID:c1\r\nTo:;tag=T\r\n"), 4));
     CHECK(is_not_made(with_response(c, "Call-ID:c1\r\nFrom:;tag=F\r\n"), 4));
@@ -2982,7 +3087,6 @@ static void test_creation_identifier(creation_function *call)
     CHECK(is_not_made(with_response(c, NULL), 4));
     CHECK(is_not_made(with_response(with_request(c, CSEQ IDENTIFIER), ""), 4));
     CHECK(makes(with_request(c, "Call-ID:x\r\nFrom:;tag=x\r\nTo:x\r\n" CSEQ), plain));
-    /* not held to 256 and 128 bytes */
     filled(buffer, "From:;tag=F\r\nTo:;tag=T\r\nCall-ID:", 'c', "\r\n", 32 + 5000 + 2);
     CHECK(makes(with_response(c, buffer), with_text(plain, NEW_CALL_ID, filled(text, "", 'c', "", 5000))));
     filled(buffer, "Call-ID:c1\r\nFrom:;tag=F\r\nTo:;tag=", 'x', "\r\n", 33 + 300 + 2);
@@ -2994,7 +3098,6 @@ static void test_creation_target(creation_function *call)
     struct creation c = creation_by(call);
     struct image plain = plain_image(call);
     char buffer[LONGEST + 2];
-    char uri[LONGEST + 2];
     char line[LONGEST + 2];
     CHECK(makes(peer_lines(c, buffer, "Contact:<sip:nn@h;x>;y\r\n"), sheet_to(plain, "sip:nn@h;x")));
     CHECK(makes(peer_lines(c, buffer, "CONTACT: \"N\" < sip:h >\r\nContact:sip:k\r\n"), sheet_to(plain, "sip:h")));
@@ -3009,7 +3112,16 @@ static void test_creation_target(creation_function *call)
     CHECK(makes(other_lines(c, buffer, "Contact:<sip:n@h>\r\n"), plain));
     CHECK(makes(other_lines(peer_lines(c, buffer, "Contact:<sip:n>\r\n"), line, "Contact:<sip:k>\r\n"),
                 sheet_to(plain, "sip:n")));
-    /* an estimate of 512, and one more */
+}
+
+/* An estimate of 512, and one more. */
+static void test_creation_estimates(creation_function *call)
+{
+    struct creation c = creation_by(call);
+    struct image plain = plain_image(call);
+    char buffer[LONGEST + 2];
+    char uri[LONGEST + 2];
+    char line[LONGEST + 2];
     filled(uri, "sip:", 'h', "", 4 + 502);
     filled(line, "Contact:<sip:", 'h', ">\r\n", 13 + 502 + 3);
     CHECK(makes(peer_lines(c, buffer, line), sheet_to(plain, uri)));
@@ -3184,15 +3296,10 @@ static void test_creation_uris(creation_function *call)
 static void test_creation_order(creation_function *call)
 {
     struct creation c = creation_by(call);
-    bool uac = call == sip_dialog_new_uac;
     char text[LONGEST + 2];
     char uri[LONGEST + 2];
-    char request[LONGEST + 2];
-    char response[LONGEST + 2];
-    char line[1024];
     filled(text, "", ' ', "", LONGEST + 1);
     filled(uri, "sip:", 'h', "", 4 + 503);
-    filled(line, "Contact:<sip:", 'h', ">\r\n", 13 + 503 + 3);
     c.status = 300;
     c.method = c.request = c.response = c.local_uri = c.remote_uri = text;
     CHECK(is_not_made(c, 1));
@@ -3220,7 +3327,21 @@ static void test_creation_order(creation_function *call)
     CHECK(is_not_made(c, 6));
     c.local_uri = uri;
     CHECK(is_not_made(c, 4));
-    /* an identifier; the message that counts has a Contact over 512 and 51 routes, the response 89 s, the request no CSeq */
+}
+
+/* With an identifier: the message that counts has a Contact over 512 and 51 routes, the response 89 s, the request no CSeq. */
+static void test_creation_order_of_uris(creation_function *call)
+{
+    struct creation c = creation_by(call);
+    bool uac = call == sip_dialog_new_uac;
+    char uri[LONGEST + 2];
+    char request[LONGEST + 2];
+    char response[LONGEST + 2];
+    char line[1024];
+    filled(uri, "sip:", 'h', "", 4 + 503);
+    filled(line, "Contact:<sip:", 'h', ">\r\n", 13 + 503 + 3);
+    c.status = 300;
+    c.local_uri = c.remote_uri = uri;
     numbered_routes(request, uac ? 0 : ROUTES + 1, uac ? "" : line);
     strcpy(response, IDENTIFIER "Session-Expires:89\r\n");
     numbered_routes(response + strlen(response), uac ? ROUTES + 1 : 0, uac ? line : "");
@@ -3246,7 +3367,12 @@ static void test_creation_order(creation_function *call)
     strcpy(response, IDENTIFIER "Session-Expires:89\r\n");
     strcat(response, uac ? line : "");
     CHECK(is_not_made(c, 7));
-    /* no routes: CSeq absent, 0, too large; then the interval; then no room */
+}
+
+/* With short URIs and no routes: CSeq absent, 0, too large; then the interval; then no room. */
+static void test_creation_order_of_numbers(creation_function *call)
+{
+    struct creation c = creation_by(call);
     c.request = "";
     c.response = IDENTIFIER "Session-Expires:89\r\n";
     CHECK(is_not_made(c, 4));
@@ -3292,7 +3418,9 @@ static void test_creation(creation_function *call)
 {
     test_creation_state(call);
     test_creation_identifier(call);
+    test_creation_no_identifier(call);
     test_creation_target(call);
+    test_creation_estimates(call);
     test_creation_routes(call);
     test_creation_number(call);
     test_creation_interval(call);
@@ -3300,6 +3428,8 @@ static void test_creation(creation_function *call)
     test_creation_method(call);
     test_creation_uris(call);
     test_creation_order(call);
+    test_creation_order_of_uris(call);
+    test_creation_order_of_numbers(call);
     test_creation_pairs(call);
 }
 
@@ -3338,12 +3468,13 @@ int main(void)
         test_format_rack, test_validate_session_expires, test_negotiate_session_expires, test_intervals, test_needs_refresh,
         test_determine_refresher_role, test_count, test_listing, test_image_parts, test_image_numbers, test_image_routes,
         test_no_image, test_image_matches_request, test_image_needs_refresh, test_image_confirm, test_image_terminate,
-        test_image_next_local_cseq, test_image_set_session_expires, test_image_request_numbers, test_image_request_cseq,
-        test_image_request_ack, test_image_request_methods, test_image_request_target, test_image_request_room,
+        test_image_next_local_cseq, test_image_set_session_expires, test_image_request_numbers,
+        test_image_request_number_alone, test_image_request_cseq, test_image_request_ack, test_image_request_methods,
+        test_image_request_target, test_image_request_no_target, test_image_request_long_target, test_image_request_room,
         test_image_request_rest, test_image_request_order, test_image_response_state, test_image_response_routes,
-        test_image_response_no_routes, test_image_response_interval, test_image_response_target, test_image_response_parts,
-        test_image_response_order, test_new_uac, test_new_uas, test_counts, test_stores,
-        test_rseq_stores, test_prack_stores,
+        test_image_response_most_routes, test_image_response_no_routes, test_image_response_interval,
+        test_image_response_any_interval, test_image_response_target, test_image_response_parts, test_image_response_order,
+        test_new_uac, test_new_uas, test_counts, test_stores, test_rseq_stores, test_prack_stores,
     };
     size_t i;
     for (i = 0; i < sizeof tests / sizeof tests[0]; i++) {

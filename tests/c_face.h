@@ -39,6 +39,17 @@ struct run lend(const char *text);
 /* Bytes as a byte run; none are lent as a null pointer. */
 struct run lend_bytes(const uint8_t *bytes, size_t length);
 
+/* A text of any bytes; without any it is lent as a null pointer where `bytes` is one. */
+struct text {
+    const char *bytes;
+    size_t length;
+};
+
+struct run lend_text(struct text t);
+
+/* A byte run as the two arguments of a call. */
+#define RUN(r) (r).bytes, (r).length
+
 /* Checks that the bytes are as they were lent. */
 void take_back(struct run r);
 
@@ -47,6 +58,29 @@ const char *filled(char *buffer, const char *head, char byte, const char *tail, 
 
 /* A header block of `total` bytes that begins with these lines. */
 const char *long_block(char *buffer, const char *lines, size_t total);
+
+/* ---- Bytes lent to be written, between guard bytes */
+
+/* `expected` is how all of them, and the guard bytes, are to be found after the call. */
+struct area {
+    size_t room;
+    uint8_t *memory;
+    uint8_t *bytes;
+    uint8_t *expected;
+};
+
+/* The content, as far as there is room; all other bytes differ from their neighbours. No bytes at all are a null pointer. */
+struct area lend_area(const uint8_t *content, size_t length, size_t room);
+
+/* Whether the front is now these bytes and all others are as they were. */
+bool front_became(struct area a, const uint8_t *bytes, size_t length);
+
+/* Runs the tests with guard bytes, and then with none, so that valgrind sees any step past the lent bytes. */
+void run_guarded(void (*const tests[])(void), size_t count);
+
+/* Of three numbers the middle one is lent: whether it is as expected, and the two around it are KEPT. */
+#define IS(numbers, expected, field)                                                                                   \
+    ((numbers)->field[0] == KEPT && (numbers)->field[1] == (expected)->field && (numbers)->field[2] == KEPT)
 
 /* ---- Record images */
 
@@ -59,6 +93,8 @@ struct image {
 #define IMAGE(text) image_of((const uint8_t *)(text), sizeof(text) - 1)
 
 struct image image_of(const uint8_t *bytes, size_t length);
+struct image nothing(void);
+struct image join(struct image a, struct image b);
 
 /* Document 01's example: Call-ID "c1", tags "L" and "R", Confirmed, we are uas, remote number 7. */
 struct image sheet_image(void);

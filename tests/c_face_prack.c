@@ -5,49 +5,6 @@
  */
 #include "c_face.h"
 
-/* ---- Lent bytes, between guard bytes */
-
-enum { GUARD = 32 };
-
-/* How many guard bytes stand on each side: GUARD, or none, so that valgrind sees any step past the lent bytes. */
-static size_t guard;
-
-/* The first bytes of a content with the guard bytes, which all differ from their neighbours; no bytes at all are a null pointer. */
-static uint8_t *lend_area(const struct image *content, size_t room)
-{
-    size_t total = guard + room + guard;
-    size_t shown = content->length < room ? content->length : room;
-    uint8_t *memory = NULL;
-    size_t k;
-    if (total > 0) {
-        memory = allocate(total);
-        for (k = 0; k < total; k++) {
-            memory[k] = (uint8_t)(KEPT + 29 * k);
-        }
-        memcpy(memory + guard, content->bytes, shown);
-    }
-    return memory;
-}
-
-static uint8_t *lent(uint8_t *memory)
-{
-    return memory == NULL ? NULL : memory + guard;
-}
-
-/* Whether the front of the area is now these bytes, and all others are as they were lent. */
-static bool became(const struct image *content, size_t room, uint8_t *memory, const struct image *after)
-{
-    uint8_t *expected = lend_area(content, room);
-    bool holds = after->length <= room;
-    if (holds && after->length > 0) {
-        memcpy(expected + guard, after->bytes, after->length);
-    }
-    holds = holds && (memory == NULL || memcmp(memory, expected, guard + room + guard) == 0);
-    free(expected);
-    free(memory);
-    return holds;
-}
-
 /* ---- Calls */
 
 enum function {
@@ -58,12 +15,6 @@ enum function {
     REMOVE_DIALOG,
     REMOVE_PRACKED,
     FUNCTIONS /* how many there are */
-};
-
-/* A text of any bytes; without any it is lent as a null pointer where `bytes` is one. */
-struct text {
-    const char *bytes;
-    size_t length;
 };
 
 /* Of a string, whose closing zero isn't a byte of it. */
@@ -111,21 +62,12 @@ struct outcome {
     struct image out;
 };
 
-#define IS(n, o, field) ((n)->field[0] == KEPT && (n)->field[1] == (o)->field && (n)->field[2] == KEPT)
-
 static bool numbers_are(const struct numbers *n, const struct outcome *o)
 {
     return IS(n, o, used) && IS(n, o, written) && IS(n, o, rseq) && IS(n, o, cseq) && IS(n, o, method) && IS(n, o, pracked);
 }
 
-static struct run lend_text(struct text t)
-{
-    return t.length == 0 && t.bytes != NULL ? lend("") : lend_bytes((const uint8_t *)t.bytes, t.length);
-}
-
-#define RUN(r) (r).bytes, (r).length
-
-static uint8_t ask(const struct call *c, uint8_t *store, const struct lent *l, uint8_t *out, struct numbers *n)
+static uint8_t ask(const struct call *c, struct area s, struct area out, struct numbers *n)
 {
     struct run id = lend_text(c->id);
     struct run block = lend_text(c->block);
@@ -133,23 +75,23 @@ static uint8_t ask(const struct call *c, uint8_t *store, const struct lent *l, u
     uint8_t returned;
     switch (c->function) {
     case REGISTER:
-        returned = sip_dialog_prack_register(RUN(id), c->rseq, c->cseq, c->method, c->code, c->time, store, l->room, used);
+        returned = sip_dialog_prack_register(RUN(id), c->rseq, c->cseq, c->method, c->code, c->time, s.bytes, s.room, used);
         break;
     case VALIDATE:
-        returned = sip_dialog_prack_validate(RUN(id), RUN(block), c->time, store, l->room, used, &n->rseq[1], &n->cseq[1],
+        returned = sip_dialog_prack_validate(RUN(id), RUN(block), c->time, s.bytes, s.room, used, &n->rseq[1], &n->cseq[1],
                                              &n->method[1]);
         break;
     case IS_PRACKED:
-        returned = sip_dialog_prack_is_pracked(RUN(id), c->rseq, store, l->room, *used, &n->pracked[1]);
+        returned = sip_dialog_prack_is_pracked(RUN(id), c->rseq, s.bytes, s.room, *used, &n->pracked[1]);
         break;
     case GET_PENDING:
-        returned = sip_dialog_prack_get_pending(RUN(id), c->time, store, l->room, used, out, l->out_room, &n->written[1]);
+        returned = sip_dialog_prack_get_pending(RUN(id), c->time, s.bytes, s.room, used, out.bytes, out.room, &n->written[1]);
         break;
     case REMOVE_DIALOG:
-        returned = sip_dialog_prack_remove_dialog(RUN(id), store, l->room, used);
+        returned = sip_dialog_prack_remove_dialog(RUN(id), s.bytes, s.room, used);
         break;
     default:
-        returned = sip_dialog_prack_remove_pracked(RUN(id), c->rseq, store, l->room, used);
+        returned = sip_dialog_prack_remove_pracked(RUN(id), c->rseq, s.bytes, s.room, used);
         break;
     }
     take_back(id);
@@ -157,17 +99,11 @@ static uint8_t ask(const struct call *c, uint8_t *store, const struct lent *l, u
     return returned;
 }
 
-static struct image nothing(void)
-{
-    return image_of(NULL, 0);
-}
-
 static bool gives(const struct call *c, const struct lent *l, const struct outcome *o)
 {
     struct numbers n;
-    struct image none = nothing();
-    uint8_t *memory = lend_area(&l->content, l->room);
-    uint8_t *output = lend_area(&none, l->out_room);
+    struct area s = lend_area(l->content.bytes, l->content.length, l->room);
+    struct area out = lend_area(NULL, 0, l->out_room);
     uint8_t returned;
     bool holds;
     size_t k;
@@ -177,9 +113,9 @@ static bool gives(const struct call *c, const struct lent *l, const struct outco
         n.method[k] = n.pracked[k] = KEPT;
     }
     n.used[1] = l->used;
-    returned = ask(c, lent(memory), l, lent(output), &n);
-    holds = became(&l->content, l->room, memory, &o->store);
-    holds = became(&none, l->out_room, output, &o->out) && holds;
+    returned = ask(c, s, out, &n);
+    holds = front_became(s, o->store.bytes, o->store.length);
+    holds = front_became(out, o->out.bytes, o->out.length) && holds;
     return holds && returned == o->returned && numbers_are(&n, o);
 }
 
@@ -507,12 +443,6 @@ static struct image long_entry(size_t length, struct image behind)
     memcpy(i.bytes + 2 + length, time.bytes, 8);
     memcpy(i.bytes + 10 + length, behind.bytes, behind.length);
     return with_length(i, 10 + length + behind.length);
-}
-
-static struct image join(struct image a, struct image b)
-{
-    memcpy(a.bytes + a.length, b.bytes, b.length);
-    return with_length(a, a.length + b.length);
 }
 
 static void test_longest_texts(void)
@@ -999,12 +929,5 @@ void test_prack_stores(void)
         test_is_pracked, test_get_pending, test_remove_dialog, test_remove_pracked, test_a_day,
         test_departures,
     };
-    size_t round;
-    size_t i;
-    for (round = 0; round < 2; round++) {
-        guard = round == 0 ? GUARD : 0;
-        for (i = 0; i < sizeof tests / sizeof tests[0]; i++) {
-            tests[i]();
-        }
-    }
+    run_guarded(tests, sizeof tests / sizeof tests[0]);
 }

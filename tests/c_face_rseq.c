@@ -5,51 +5,6 @@
  */
 #include "c_face.h"
 
-/* ---- A store's lent bytes, between guard bytes */
-
-enum { GUARD = 32 };
-
-/* How many guard bytes stand on each side: GUARD, or none, so that valgrind sees any step past the lent bytes. */
-static size_t guard;
-
-/* A store as it is lent: what is in it, how many bytes are lent, and how many are said to be used. */
-struct lent {
-    struct image content;
-    size_t room;
-    size_t used;
-};
-
-/* The lent bytes with the guard bytes, which all differ from their neighbours; no bytes at all are a null pointer. */
-static uint8_t *lend_store(const struct lent *l)
-{
-    size_t total = guard + l->room + guard;
-    size_t shown = l->content.length < l->room ? l->content.length : l->room;
-    uint8_t *memory = NULL;
-    size_t k;
-    if (total > 0) {
-        memory = allocate(total);
-        for (k = 0; k < total; k++) {
-            memory[k] = (uint8_t)(KEPT + 29 * k);
-        }
-        memcpy(memory + guard, l->content.bytes, shown);
-    }
-    return memory;
-}
-
-/* Whether the front of the store is now this one, and all other bytes are as they were lent. */
-static bool store_became(const struct lent *l, uint8_t *memory, const struct image *after)
-{
-    uint8_t *expected = lend_store(l);
-    bool holds = after->length <= l->room;
-    if (holds && after->length > 0) {
-        memcpy(expected + guard, after->bytes, after->length);
-    }
-    holds = holds && (memory == NULL || memcmp(memory, expected, guard + l->room + guard) == 0);
-    free(expected);
-    free(memory);
-    return holds;
-}
-
 /* ---- Calls */
 
 enum function {
@@ -59,12 +14,6 @@ enum function {
     LEN,
     IS_EMPTY,
     FUNCTIONS /* how many there are */
-};
-
-/* A text of any bytes; without any it is lent as a null pointer where `bytes` is one. */
-struct text {
-    const char *bytes;
-    size_t length;
 };
 
 struct id {
@@ -81,6 +30,13 @@ struct call {
     enum function function;
     struct id id;
     uint32_t n;
+};
+
+/* A store as it is lent: what is in it, how many bytes are lent, and how many are said to be used. */
+struct lent {
+    struct image content;
+    size_t room;
+    size_t used;
 };
 
 /* Lent numbers: the middle one is lent, and stands between two that must stay KEPT. */
@@ -103,20 +59,10 @@ struct outcome {
 
 static bool numbers_are(const struct numbers *n, const struct outcome *o)
 {
-    bool used = n->used[0] == KEPT && n->used[1] == o->used && n->used[2] == KEPT;
-    bool rseq = n->rseq[0] == KEPT && n->rseq[1] == o->rseq && n->rseq[2] == KEPT;
-    bool len = n->len[0] == KEPT && n->len[1] == o->len && n->len[2] == KEPT;
-    return used && rseq && len && n->empty[0] == KEPT && n->empty[1] == o->empty && n->empty[2] == KEPT;
+    return IS(n, o, used) && IS(n, o, rseq) && IS(n, o, len) && IS(n, o, empty);
 }
 
-static struct run lend_text(struct text t)
-{
-    return t.length == 0 && t.bytes != NULL ? lend("") : lend_bytes((const uint8_t *)t.bytes, t.length);
-}
-
-#define RUN(r) (r).bytes, (r).length
-
-static uint8_t ask(const struct call *c, uint8_t *store, size_t room, struct numbers *n)
+static uint8_t ask(const struct call *c, struct area s, struct numbers *n)
 {
     struct run call_id = lend_text(c->id.call_id);
     struct run local = lend_text(c->id.local_tag);
@@ -124,19 +70,19 @@ static uint8_t ask(const struct call *c, uint8_t *store, size_t room, struct num
     uint8_t returned;
     switch (c->function) {
     case NEXT:
-        returned = sip_dialog_rseq_next(RUN(call_id), RUN(local), RUN(remote), c->n, store, room, &n->used[1], &n->rseq[1]);
+        returned = sip_dialog_rseq_next(RUN(call_id), RUN(local), RUN(remote), c->n, s.bytes, s.room, &n->used[1], &n->rseq[1]);
         break;
     case CURRENT:
-        returned = sip_dialog_rseq_current(RUN(call_id), RUN(local), RUN(remote), store, room, n->used[1], &n->rseq[1]);
+        returned = sip_dialog_rseq_current(RUN(call_id), RUN(local), RUN(remote), s.bytes, s.room, n->used[1], &n->rseq[1]);
         break;
     case REMOVE:
-        returned = sip_dialog_rseq_remove(RUN(call_id), RUN(local), RUN(remote), store, room, &n->used[1]);
+        returned = sip_dialog_rseq_remove(RUN(call_id), RUN(local), RUN(remote), s.bytes, s.room, &n->used[1]);
         break;
     case LEN:
-        returned = sip_dialog_rseq_len(store, room, n->used[1], &n->len[1]);
+        returned = sip_dialog_rseq_len(s.bytes, s.room, n->used[1], &n->len[1]);
         break;
     default:
-        returned = sip_dialog_rseq_is_empty(store, room, n->used[1], &n->empty[1]);
+        returned = sip_dialog_rseq_is_empty(s.bytes, s.room, n->used[1], &n->empty[1]);
         break;
     }
     take_back(call_id);
@@ -148,20 +94,14 @@ static uint8_t ask(const struct call *c, uint8_t *store, size_t room, struct num
 static bool gives(const struct call *c, const struct lent *l, const struct outcome *o)
 {
     struct numbers n = {{KEPT, KEPT, KEPT}, {KEPT, KEPT, KEPT}, {KEPT, KEPT, KEPT}, {KEPT, KEPT, KEPT}};
-    uint8_t *memory = lend_store(l);
-    uint8_t *store = memory == NULL ? NULL : memory + guard;
+    struct area s = lend_area(l->content.bytes, l->content.length, l->room);
     uint8_t returned;
     n.used[1] = l->used;
-    returned = ask(c, store, l->room, &n);
-    return store_became(l, memory, &o->store) && returned == o->returned && numbers_are(&n, o);
+    returned = ask(c, s, &n);
+    return front_became(s, o->store.bytes, o->store.length) && returned == o->returned && numbers_are(&n, o);
 }
 
 /* ---- What is expected of a call */
-
-static struct image nothing(void)
-{
-    return image_of(NULL, 0);
-}
 
 /* Refused in so much room: all is kept. */
 static bool refuses_in(struct call c, struct image before, size_t room, size_t used, uint8_t number)
@@ -374,12 +314,6 @@ static struct image long_entry(int part, size_t length)
     i.bytes[at] = (uint8_t)(length >> 8);
     i.bytes[at + 1] = (uint8_t)length;
     return with_length(i, i.length - 1 + length);
-}
-
-static struct image join(struct image a, struct image b)
-{
-    memcpy(a.bytes + a.length, b.bytes, b.length);
-    return with_length(a, a.length + b.length);
 }
 
 static void test_longest_identifiers(void)
@@ -678,12 +612,5 @@ void test_rseq_stores(void)
         test_next_first, test_next_held, test_next_place, test_order_of_identifiers, test_null_texts, test_current,
         test_remove, test_counts, test_a_day, test_histories,
     };
-    size_t round;
-    size_t i;
-    for (round = 0; round < 2; round++) {
-        guard = round == 0 ? GUARD : 0;
-        for (i = 0; i < sizeof tests / sizeof tests[0]; i++) {
-            tests[i]();
-        }
-    }
+    run_guarded(tests, sizeof tests / sizeof tests[0]);
 }

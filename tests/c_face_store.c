@@ -5,56 +5,6 @@
  */
 #include "c_face.h"
 
-/* ---- Lent bytes, between guard bytes */
-
-enum { GUARD = 32 };
-
-/* How many guard bytes stand on each side: GUARD, or none, so that valgrind sees any step past the lent bytes. */
-static size_t guard;
-
-/* Bytes lent to be written; `expected` is how all of them, and the guard bytes, are to be found after the call. */
-struct area {
-    size_t room;
-    uint8_t *memory;
-    uint8_t *bytes;
-    uint8_t *expected;
-};
-
-/* The content, as far as there is room; all other bytes differ from their neighbours. No bytes at all are a null pointer. */
-static struct area lend_area(const uint8_t *content, size_t length, size_t room)
-{
-    struct area a = {room, NULL, NULL, NULL};
-    size_t total = guard + room + guard;
-    size_t k;
-    if (total > 0) {
-        a.memory = allocate(total);
-        a.expected = allocate(total);
-        for (k = 0; k < total; k++) {
-            a.memory[k] = (uint8_t)(KEPT + 29 * k);
-        }
-        a.bytes = a.memory + guard;
-        if (length > 0) {
-            memcpy(a.bytes, content, length < room ? length : room);
-        }
-        memcpy(a.expected, a.memory, total);
-    }
-    return a;
-}
-
-/* Whether the front is now these bytes and all others are as they were. */
-static bool front_became(struct area a, const uint8_t *bytes, size_t length)
-{
-    size_t total = guard + a.room + guard;
-    bool holds = length <= a.room;
-    if (holds && length > 0) {
-        memcpy(a.expected + guard, bytes, length);
-    }
-    holds = holds && (total == 0 || memcmp(a.memory, a.expected, total) == 0);
-    free(a.memory);
-    free(a.expected);
-    return holds;
-}
-
 /* ---- Calls */
 
 enum function {
@@ -118,18 +68,7 @@ static struct numbers fresh_numbers(size_t used, uint64_t count)
     return n;
 }
 
-static bool neighbours_kept(const struct numbers *n)
-{
-    bool used = n->used[0] == KEPT && n->used[2] == KEPT;
-    bool count = n->count[0] == KEPT && n->count[2] == KEPT;
-    bool least = n->least[0] == KEPT && n->least[2] == KEPT;
-    bool next = n->next[0] == KEPT && n->next[2] == KEPT;
-    bool place = n->place[0] == KEPT && n->place[2] == KEPT;
-    return used && count && least && next && place && n->length[0] == KEPT && n->length[2] == KEPT;
-}
-
 #define TEXT(text) (const uint8_t *)(text), strlen(text)
-#define RUN(r) (r).bytes, (r).length
 #define IDENTIFIER(t) RUN((t)->call_id), RUN((t)->local_tag), RUN((t)->remote_tag)
 
 /* The functions that change a store. */
@@ -224,9 +163,7 @@ static struct outcome all_kept(const struct call *c, size_t used, uint8_t return
 
 static bool numbers_are(const struct numbers *n, const struct outcome *o)
 {
-    bool places = n->place[1] == o->place && n->length[1] == o->length;
-    bool counts = n->used[1] == o->used && n->count[1] == o->count;
-    return places && counts && n->least[1] == o->least && n->next[1] == o->next && neighbours_kept(n);
+    return IS(n, o, used) && IS(n, o, count) && IS(n, o, least) && IS(n, o, next) && IS(n, o, place) && IS(n, o, length);
 }
 
 static bool gives(const struct call *c, struct lent l, const struct outcome *o)
@@ -398,21 +335,9 @@ static struct call of_least(enum function function)
 
 /* ---- Stores */
 
-static struct image join(struct image a, struct image b)
-{
-    memcpy(a.bytes + a.length, b.bytes, b.length);
-    a.length += b.length;
-    return a;
-}
-
 static struct image three(struct image first, struct image second, struct image third)
 {
     return join(first, join(second, third));
-}
-
-static struct image nothing(void)
-{
-    return with_length(least_image(), 0);
 }
 
 /* The record with every field, this one, and the record with no other field: places 0, 88 and, for the example, 132. */
@@ -1437,12 +1362,5 @@ void test_stores(void)
         test_set_session_expires, test_remove, test_sweep, test_get, test_find_by_call_id, test_find_by_request,
         test_found_image, test_all_ids, test_a_day,
     };
-    size_t round;
-    size_t i;
-    for (round = 0; round < 2; round++) {
-        guard = round == 0 ? GUARD : 0;
-        for (i = 0; i < sizeof tests / sizeof tests[0]; i++) {
-            tests[i]();
-        }
-    }
+    run_guarded(tests, sizeof tests / sizeof tests[0]);
 }

@@ -23,7 +23,8 @@ use Rattle.record.specs.Record.{State, early, confirmed, terminated, Record, im
 use Rattle.dialog.specs.OneImage.{oneRecord}
 use Rattle.dialog.specs.Matching.{namedBy}
 use Rattle.dialog.proofs.StepLaws.{given-same, never-given}
-use Rattle.book.specs.Calls.{Ident, Reading, Call, put, remove, read, lent, Value, imageAt, noValue}
+use Rattle.dialog_id.specs.Ident.{Ident}
+use Rattle.book.specs.Calls.{Reading, Call, put, remove, read, lent, Value, imageAt, noValue}
 use Rattle.book.specs.Book.{Book, storeImage, size, identOf, isOf, swapped, namedIn, find, findNamed, place, Staying, others, living, isTerminated, stays, keep, isEarly, isEarlyOf, earlyIn, earlyOf, isFull, isCrowded, argumentCause, placeOf, reply, set, only, unchanged, apply, Taken, taking, judge, fitting, decide, after}
 use Rattle.book.specs.History.{All}
 use Rattle.book.proofs.IdentLaws.{id-cases}

@@ -10,7 +10,7 @@ use lib.Seq.{take-append-seam, drop-append-seam, drop-append-add}
 use Rattle.edit.specs.Edit.{spliced}
 use Rattle.record.specs.Codec.{writeAll}
 use Rattle.record.specs.Record.{Record, image}
-use Rattle.book.specs.Calls.{Ident}
+use Rattle.dialog_id.specs.Ident.{Ident}
 use Rattle.book.specs.Book.{Book, storeImage, size, identOf, find, place, amend, Staying, others, stays, keep}
 use Rattle.book.proofs.IdentLaws.{id-cases}
 use Rattle.book.proofs.BookLaws.{some-is, no-record, not-none, find-here, find-there, place-here, place-there, amend-here, amend-there, keep-here, keep-there, others-here, others-all}

@@ -22,7 +22,8 @@ use Rattle.record.specs.Record.{State, early, confirmed, terminated, Record, im
 use Rattle.record.specs.Store.{encodeAll, decodeAll}
 use Rattle.dialog.specs.OneImage.{oneRecord}
 use Rattle.dialog.specs.Updates.{kindOf, requestUpdate, responseUpdate, terminateUpdate, localUpdate, intervalUpdate}
-use Rattle.book.specs.Calls.{Ident, sameIdent, Update, request, response, terminate, localNumber, interval, Reading, get, findByRequest, findByCallId, count, allIds}
+use Rattle.dialog_id.specs.Ident.{Ident, ident, sameIdent, identCause}
+use Rattle.book.specs.Calls.{Update, request, response, terminate, localNumber, interval, Reading, get, findByRequest, findByCallId, count, allIds}
 use Rattle.book.specs.Calls.{Call, put, update, remove, sweep, read, lent, Value, noValue, number, imageAt, written, Answer}
 
 -- the records held, in order
@@ -53,7 +54,7 @@ size b = length (storeImage b)
 -- ---- identifiers
 
 abbrev pub identOf : Record → Ident
-identOf r = record { callId = r .callId; localTag = r .localTag; remoteTag = r .remoteTag }
+identOf r = ident (r .callId) (r .localTag) (r .remoteTag)
 
 -- the record has this identifier
 abbrev pub isOf : Ident → Record → Bool
@@ -62,7 +63,7 @@ isOf i r = sameIdent (identOf r) i
 -- a request from the peer has From as remote tag: `from_request` calls that tag local, and look-up swaps the two
 abbrev pub swapped : Option Identifier → Option Ident
 swapped none = none
-swapped (some i) = some (record { callId = i .callId .text; localTag = i .remoteTag .text; remoteTag = i .localTag .text })
+swapped (some i) = some (ident (i .callId .text) (i .remoteTag .text) (i .localTag .text))
 
 -- the identifier that a request's block names, if all its parts can be read
 unfoldable pub namedIn : List ℕ → Option Ident
@@ -144,9 +145,6 @@ unfoldable pub isCrowded : LimitSet → Record → Book → Bool
 isCrowded L r b = isEarly (r .numbers .state) && leb (L .earlyPerCallId) (earlyOf (r .callId) (keep (others (identOf r)) b))
 
 -- ---- 1 and 2: what the arguments alone refuse
-
-abbrev pub identCause : LimitSet → Ident → Option Refusal
-identCause L i = orElse (lengthCause L (i .callId)) (orElse (lengthCause L (i .localTag)) (lengthCause L (i .remoteTag)))
 
 unfoldable pub updateCause : LimitSet → Update → Option Refusal
 updateCause L (request method block) = orElse (lengthCause L method) (blockCause L block)

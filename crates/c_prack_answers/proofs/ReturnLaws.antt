@@ -1,45 +1,26 @@
 -- What the operations of `prack_validator` promise is what a C caller is to be handed. Assumes nothing.
 use Prim.Native.Nat.{ℕ}
 use native.Mathlib.Omega.{arith}
-use mathlib.Core.Path.{_≡_, refl, sym, ap, subst, _∙_}
-use mathlib.Core.Bool.{Bool, false}
+use mathlib.Core.Path.{_≡_, refl, ap, subst, _∙_}
+use mathlib.Core.Bool.{false}
 use mathlib.Core.List.{List}
 use Rattle.limits.specs.Limits.{rustLimits}
 use Rattle.limits.specs.Outcome.{Outcome, refused, given, andThen, numberIn}
-use Rattle.limits.specs.declared.Refusal.{Refusal}
 use Rattle.output.specs.Output.{fitted}
-use Rattle.output.specs.declared.Written.{Written}
-use Rattle.output.specs.declared.Written.the-variants as writing
 use Rattle.rack.specs.declared.RAck.{RAck}
 use Rattle.ordered_store.specs.Entries.{setEntry}
-use Rattle.ordered_store.specs.Run.{Decided, Left, Returns}
+use Rattle.ordered_store.specs.Run.{Decided, Returns}
 use Rattle.ordered_store.proofs.RunLaws.{answer-has}
 use Rattle.prack_body.specs.Lists.{Tracked, openIn}
 use Rattle.prack_body.specs.Layout.{toBit, trackedForm, openBytes}
 use Rattle.prack_entries.specs.Entries.{keyOf, cleanFor}
-use Rattle.prack_validator.specs.Validator.{validate, isPracked, getPending, Value, noValue, rack, flag, written, actionCause, rackValue, deciding, judgedFor, judge, ran}
-use Rattle.prack_validator.specs.Answers.{rackAfter, flagAfter, lengthAfter, noRack, writtenBy, writtenIn, usedWritten, validatedBy, validatedIn, prackedOf, listedBy, listedIn, usedListed}
+use Rattle.prack_validator.specs.Validator.{validate, isPracked, getPending, Value, rack, written, actionCause, rackValue, deciding, judgedFor, judge, ran}
+use Rattle.prack_validator.specs.Answers.{rackAfter, flagAfter, lengthAfter, noRack, validatedBy, validatedIn, prackedOf, listedBy, listedIn, usedListed}
 use Rattle.prack_validator.specs.declared.Validated.{Validated}
-use Rattle.prack_validator.specs.declared.Validated.the-variants as validated
 use Rattle.prack_validator.specs.declared.Pracked.{Pracked}
-use Rattle.prack_validator.specs.declared.Pracked.the-variants as pracked
 use Rattle.prack_validator.specs.declared.Listed.{Listed}
 use Rattle.prack_validator.specs.declared.Listed.the-variants as listed
-use Rattle.c_answers.specs.Given.{WrittenGives, writtenNumber, writtenAfter}
 use Rattle.c_prack_answers.specs.Given.{prackedAfter, ValidatedNumbers, ValidatedGives, validatedNumber, validatedAfter, PrackedGives, prackedNumber, prackedLeft, ListedNumbers, ListedGives, listedNumber, listedAfter}
-
--- ---- registering and removing: the new used length
-
-pub written-returns : (l : Left Value) (used : ℕ) (w : Written) (after : List ℕ) (left r : ℕ) → w ≡ writtenIn l → after ≡ l .bytes → usedWritten w used ≡ l .used → WrittenGives w used r left → Returns l after left r
-written-returns l used w after left r e b u g = record { bytes-are = b; used-is = g .left-is ∙ (used-same w ∙ u); number-is = g .number-is ∙ (ap writtenNumber e ∙ number-same (l .answer) (l .used)) }
-  where
-    used-same : (x : Written) → writtenAfter x used ≡ usedWritten x used
-    used-same (writing.Refused cause) = refl
-    used-same (writing.Length m) = refl
-
-    number-same : (a : Outcome Value) (m : ℕ) → writtenNumber (writtenBy a m) ≡ numberIn a
-    number-same (refused cause) m = refl
-    number-same (given v) m = refl
 
 -- what was decided
 decided : {ts : List Tracked} {a : Outcome Value} {d : Decided Tracked Value} → deciding ts a ≡ given d → a ≡ d .answer

@@ -5,15 +5,12 @@ use mathlib.Core.Bool.{Bool, true, false, cond}
 use mathlib.Core.List.{List}
 use lib.Dec.{eqb}
 use Rattle.limits.specs.Outcome.{Outcome, refused, given, numberIn}
-use Rattle.output.specs.declared.Written.{Written}
-use Rattle.output.specs.declared.Written.the-variants as written
 use Rattle.ordered_store.specs.Run.{Left, Returns}
-use Rattle.rseq_manager.specs.Answers.{numberedBy, numberedIn, usedAfter, writtenBy, writtenIn, usedWritten, currentOf, countedOf, emptiness}
+use Rattle.rseq_manager.specs.Answers.{numberedBy, numberedIn, usedAfter, currentOf, countedOf, emptiness}
 use Rattle.rseq_manager.specs.declared.Numbered.{Numbered}
 use Rattle.rseq_manager.specs.declared.Numbered.the-variants as numbered
 use Rattle.rseq_manager.specs.declared.Current.{Current}
 use Rattle.rseq_manager.specs.declared.Counted.{Counted}
-use Rattle.c_answers.specs.Given.{WrittenGives, writtenNumber, writtenAfter}
 use Rattle.c_rseq_answers.specs.Given.{valueAfter, NumberedNumbers, NumberedGives, numberedNumber, numberedAfter, currentNumber, currentAfter, countedNumber, countedAfter, flagOf, emptyAfter}
 
 module _ (l : Left ℕ) (used : ℕ) where
@@ -36,18 +33,6 @@ module _ (l : Left ℕ) (used : ℕ) where
       value-same : (a : Outcome ℕ) (m : ℕ) → numberedAfter (numberedBy a m) (record { used = used; rseq = old }) .rseq ≡ valueAfter a old
       value-same (refused cause) m = refl
       value-same (given n) m = refl
-
-  -- `remove`
-  pub written-returns : (w : Written) (after : List ℕ) (left r : ℕ) → w ≡ writtenIn l → after ≡ l .bytes → usedWritten w used ≡ l .used → WrittenGives w used r left → Returns l after left r
-  written-returns w after left r e b u g = record { bytes-are = b; used-is = g .left-is ∙ (used-same w ∙ u); number-is = g .number-is ∙ (ap writtenNumber e ∙ number-same (l .answer) (l .used)) }
-    where
-      used-same : (x : Written) → writtenAfter x used ≡ usedWritten x used
-      used-same (written.Refused cause) = refl
-      used-same (written.Length m) = refl
-
-      number-same : (a : Outcome ℕ) (m : ℕ) → writtenNumber (writtenBy a m) ≡ numberIn a
-      number-same (refused cause) m = refl
-      number-same (given n) m = refl
 
 -- readings: the answer handed over
 

@@ -22,7 +22,8 @@ use Rattle.store.specs.declared.Held.the-variants as held
 use Rattle.dialog.specs.Updates.{localUpdate}
 use Rattle.dialog_changes.specs.declared.Raised.{Raised}
 use Rattle.dialog_changes.specs.declared.Raised.the-variants as raised
-use Rattle.book.specs.Calls.{Ident, localNumber, Call, update, read, count, allIds, Value, noValue, number, imageAt, Answer}
+use Rattle.dialog_id.specs.Ident.{Ident}
+use Rattle.book.specs.Calls.{localNumber, Call, update, read, count, allIds, Value, noValue, number, imageAt, Answer}
 use Rattle.book.specs.Calls as calls
 use Rattle.book.specs.Book.{Book, storeRead, size, find, alter, unchanged, Taken, apply, argumentCause, readingCause, revised, judge, reply, identifiersOf}
 use Rattle.book.specs.Store.{Left, Result, resultOf, verdict, leave, run}

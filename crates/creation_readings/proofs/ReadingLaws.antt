@@ -11,7 +11,7 @@ use borrow.Author.Tests.{lt-ltb, le-ltb, eq-eqb, ne-eqb}
 use Rattle.limits.specs.Limits.{rustLimits}
 use Rattle.limits.specs.Outcome.{Outcome, refused, given, refuseBy, refuseIf, andThen, orRefuse, checkOf}
 use Rattle.limits.specs.declared.Refusal.{Refusal}
-use Rattle.limits.specs.declared.Refusal.the-variants.{MissingHeader, CSeqZero, CSeqTooLarge, SessionExpiresTooSmall, SessionExpiresTooLarge}
+use Rattle.limits.specs.declared.Refusal.the-variants.{MissingHeader, CSeqZero, CSeqTooLarge}
 use Rattle.limits.specs.declared.Check.the-variants.{Passed, Refused}
 use Rattle.limits.proofs.Laws.{passed, stopped}
 use Rattle.text.specs.Text.{Piece}
@@ -21,7 +21,6 @@ use Rattle.text.specs.declared.number.Number.the-variants.{Value, Unreadable}
 use Rattle.text.specs.Answers.{spanOf}
 use Rattle.msg.proofs.LookupLaws.{Placed}
 use Rattle.headers.specs.SessionExpires.{Interval, expiresFrom}
-use Rattle.headers.specs.declared.session_timer.Refresher.{Refresher}
 use Rattle.headers.specs.declared.session_timer.Expires.{Expires}
 use Rattle.headers.specs.declared.session_timer.Expires.the-variants as expires
 use Rattle.route_set.specs.Routes.{contactOf, contactFrom}
@@ -67,16 +66,6 @@ module _ (o : Option ℕ) (n : ℕ) (e : numberFrom o ≡ Value n) where
   taken-number h k = rw (reads, ne-eqb n 0 h, le-ltb 2147483647 n k)
 
 -- ---- the interval
-
-module _ (n : ℕ) (r : Refresher) where
-  pub short-interval : n < 90 → Refused (SessionExpiresTooSmall 90) ≡ checkOf (intervalCause rustLimits (intervalIn (expires.Of n r)))
-  short-interval h = rw (lt-ltb n 90 h)
-
-  pub long-interval : 90 ≤ n → 86400 < n → Refused SessionExpiresTooLarge ≡ checkOf (intervalCause rustLimits (intervalIn (expires.Of n r)))
-  long-interval h k = rw (le-ltb n 90 h, lt-ltb 86400 n k)
-
-  pub taken-interval : 90 ≤ n → n ≤ 86400 → Passed ≡ checkOf (intervalCause rustLimits (intervalIn (expires.Of n r)))
-  taken-interval h k = rw (le-ltb n 90 h, le-ltb 86400 n k)
 
 -- what the code has of an interval is the interval
 interval-same : (o : Option Interval) {x : Expires} → x ≡ expiresFrom o → intervalIn x ≡ o

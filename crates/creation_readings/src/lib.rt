@@ -13,6 +13,8 @@ use record::Step;
 use route_section::Section;
 use route_section::measure_routes;
 use route_set::Contact;
+use session_timer_manager::CheckedSeconds;
+use session_timer_manager::check_expires_seconds;
 use text::Number;
 ghost use mathlib.Core.Path.{_≡_};
 ghost use Prim.Native.Nat.{_≤_};
@@ -143,13 +145,10 @@ fn check_interval(expires: Expires) -> Check
     let Expires::Of(seconds, _) = expires else {
         return Check::Passed;
     };
-    if seconds < Limits::MIN_SESSION_EXPIRES {
-        return Check::Refused(Refusal::SessionExpiresTooSmall(Limits::MIN_SESSION_EXPIRES as u64));
+    match check_expires_seconds(seconds as u64) {
+        CheckedSeconds::Accepted(_) => Check::Passed,
+        CheckedSeconds::Refused(cause) => Check::Refused(cause),
     }
-    if Limits::MAX_SESSION_EXPIRES < seconds {
-        return Check::Refused(Refusal::SessionExpiresTooLarge);
-    }
-    Check::Passed
 }
 
 // The request's number is the uac's local one and the uas's remote one.

@@ -24,7 +24,7 @@ use Rattle.record.specs.Record.{Numbers, isFilled, isSips}
 use Rattle.image_writer.specs.Parts.{Parts, partsOf, imageOf, Front, frontOf, fittedBefore}
 use Rattle.image_writer.proofs.FieldLaws.{accepted}
 use Rattle.image_writer.proofs.ImageLaws.{image-front}
-use Rattle.dialog.specs.Matching.{partIn}
+use Rattle.text.specs.Spans.{partIn}
 use Rattle.creation_writing.specs.NewParts.{partsFor}
 
 -- ---- the parts

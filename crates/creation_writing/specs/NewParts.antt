@@ -5,7 +5,7 @@ use mathlib.Core.List.{List}
 use Rattle.dialog_id.specs.declared.DialogId.{DialogId}
 use Rattle.record.specs.Record.{Numbers, isSips}
 use Rattle.image_writer.specs.Parts.{Parts, partsOf}
-use Rattle.dialog.specs.Matching.{partIn}
+use Rattle.text.specs.Spans.{partIn}
 
 -- the parts of the record: the identifier's texts are the response's own bytes
 abbrev pub partsFor : Bool → Numbers → DialogId → List ℕ → List ℕ → List ℕ → List ℕ → List ℕ → Parts

@@ -15,7 +15,7 @@ ghost use Rattle.output.specs.Output.{fitted, leaves, writtenFrom};
 ghost use Rattle.record.specs.Record.{isSips};
 ghost use Rattle.record.specs.NumbersForm.{meaning};
 ghost use Rattle.image_writer.specs.Parts.{imageOf};
-ghost use Rattle.dialog.specs.Matching.{partIn};
+ghost use Rattle.text.specs.Spans.{partIn};
 ghost use Rattle.route_section.specs.Section.{sectionIn};
 ghost use Rattle.creation_writing.specs.NewParts.{partsFor};
 

@@ -6,21 +6,20 @@ use mathlib.Core.Bool.{Bool, true, false, cond}
 use mathlib.Core.List.{List, [], _∷_}
 use mathlib.Core.Option.{Option, none, some}
 use lib.ListN.{length}
-use lib.Dec.{ltb}
-use borrow.Author.Tests.{ltb-false}
 use Rattle.limits.specs.Limits.{LimitSet}
-use Rattle.limits.specs.Outcome.{Outcome, refused, given, refuseIf, andThen}
-use Rattle.limits.specs.declared.Refusal.the-variants.{SessionExpiresTooSmall, SessionExpiresTooLarge}
+use Rattle.limits.specs.Outcome.{Outcome, refused, given, andThen}
 use Rattle.text.specs.Text.{Piece}
 use Rattle.headers.specs.SessionExpires.{Interval, expiresNamed}
 use Rattle.route_set.specs.Routes.{contactOf, routesOf}
+use Rattle.session_timer_manager.specs.Intervals.{secondsCause}
+use Rattle.session_timer_manager.proofs.Laws.{seconds-within}
 use Rattle.record.specs.Record.{Numbers, Record, UriPart, OptionalPart, EachUri, WellFormed}
 use Rattle.record.specs.Rules.{Kind, withSeconds, intervalStep, confirmStep, terminateStep, localStep}
 use Rattle.dialog.specs.Updates.{textOr, retargeted, isSuccess, confirms, routesOr, rerouted, intervalFrom, answered, responseUpdate, confirmUpdate, terminateUpdate, localUpdate, intervalUpdate}
 use Rattle.record.specs.Changes.{withNumbers, withRoutes}
-use Rattle.dialog.proofs.StepLaws.{given-same, never-given, past-test, Taken, moved, acknowledged, taken}
+use Rattle.dialog.proofs.StepLaws.{given-same, never-given, Taken, moved, acknowledged, taken}
 use Rattle.dialog.proofs.UpdateLaws.{Request}
-use Rattle.dialog.proofs.RefusalLaws.{passed-test}
+use Rattle.dialog.proofs.RefusalLaws.{passed-cause}
 use Rattle.dialog.proofs.ReadLaws.{cseq-below, expires-below, contact-within}
 use Rattle.dialog.proofs.RouteLaws.{reversed-formed}
 
@@ -168,11 +167,9 @@ local-formed r w = with-formed r (localStep (r .numbers)) w (record { local = om
 step-formed : (L : LimitSet) (n : ℕ) (x y : Numbers) → L .maxExpires < 2 ^ 32 → FormedNumbers x → intervalStep L n x ≡ given y → FormedNumbers y
 unfolding intervalStep
 step-formed L n x y h f e =
-    let largest = refuseIf (ltb (L .maxExpires) n) SessionExpiresTooLarge (given (withSeconds n x)) in
-    let q : largest ≡ given y = past-test (ltb n (L .minExpires)) (SessionExpiresTooSmall (L .minExpires)) largest e in
-    let m : n ≤ L .maxExpires = ltb-false (L .maxExpires) n (passed-test (ltb (L .maxExpires) n) SessionExpiresTooLarge (given (withSeconds n x)) q) in
-    subst FormedNumbers (given-same (past-test (ltb (L .maxExpires) n) SessionExpiresTooLarge (given (withSeconds n x)) q))
-    (record { local = f .local; remote = f .remote; lastAck = f .lastAck; seconds = omega (arith, m, h) })
+    let q = passed-cause (secondsCause L n) (given (withSeconds n x)) e in
+    let m = seconds-within L n (q .0) .1 in
+    subst FormedNumbers (given-same (q .1)) (record { local = f .local; remote = f .remote; lastAck = f .lastAck; seconds = omega (arith, m, h) })
 
 -- a new interval keeps a record well-formed
 pub interval-formed : (L : LimitSet) (n : ℕ) (r s : Record) → L .maxExpires < 2 ^ 32 → intervalUpdate L n r ≡ given s → WellFormed r → WellFormed s

@@ -27,7 +27,8 @@ use Rattle.image.specs.declared.RecordAt.{RecordAt}
 use Rattle.image_writer.proofs.LieLaws.{Lie, record-lies}
 use Rattle.image.proofs.SizeLaws.{Got, got, recordSize, record-sized}
 use Rattle.dialog.specs.OneImage.{alone, onlyOne, oneRecord, imageAnswer}
-use Rattle.dialog.specs.Matching.{namedBy, matchesRequest, matchesAnswer, partIn}
+use Rattle.text.specs.Spans.{partIn}
+use Rattle.dialog.specs.Matching.{namedBy, matchesRequest, matchesAnswer}
 use Rattle.dialog.specs.declared.readings.ImageAnswer.the-variants as answer
 use Rattle.dialog.specs.declared.matching.Matches.{Matches}
 use Rattle.dialog.specs.declared.matching.Matches.the-variants as matches

@@ -6,17 +6,18 @@ use mathlib.Core.Path.{_≡_, refl, sym, ap, subst, _∙_}
 use mathlib.Core.Bool.{Bool, true, false, cond}
 use mathlib.Core.List.{List}
 use mathlib.Core.Option.{Option, none, some}
-use lib.Dec.{ltb}
 use Rattle.limits.specs.Limits.{LimitSet}
-use Rattle.limits.specs.Outcome.{Outcome, refused, given, refuseIf, andThen, orRefuse}
-use Rattle.limits.specs.declared.Refusal.the-variants.{MissingHeader, SessionExpiresTooSmall, SessionExpiresTooLarge}
+use Rattle.limits.specs.Outcome.{Outcome, refused, given, andThen, orRefuse}
+use Rattle.limits.specs.declared.Refusal.the-variants.{MissingHeader}
 use Rattle.headers.specs.SessionExpires.{Interval, expiresNamed}
 use Rattle.prack_headers.specs.Sequence.{cseqNumber}
+use Rattle.session_timer_manager.specs.Intervals.{secondsCause}
 use Rattle.record.specs.Record.{State, early, confirmed, terminated, Numbers, Record}
 use Rattle.record.specs.Rules.{Kind, requestStep, withSeconds, intervalStep, confirmStep}
 use Rattle.dialog.specs.Updates.{retargeted, requestUpdate, isSuccess, confirms, rerouted, intervalFrom, confirmedBy, answered, responseUpdate, confirmUpdate, terminateUpdate, localUpdate, intervalUpdate}
 use Rattle.record.specs.Changes.{withNumbers}
-use Rattle.dialog.proofs.StepLaws.{given-same, never-given, past-test, Taken, moved, acknowledged, taken, rank, confirm-on, terminate-on}
+use Rattle.dialog.proofs.StepLaws.{given-same, never-given, Taken, moved, acknowledged, taken, rank, confirm-on, terminate-on}
+use Rattle.dialog.proofs.RefusalLaws.{passed-cause}
 
 -- ---- what every update keeps
 
@@ -121,9 +122,7 @@ local-kept r = record { callId = refl; localTag = refl; remoteTag = refl; weAreU
 
 interval-taken : (L : LimitSet) (n : ℕ) (x y : Numbers) → intervalStep L n x ≡ given y → y ≡ withSeconds n x
 unfolding intervalStep
-interval-taken L n x y e =
-    let largest = refuseIf (ltb (L .maxExpires) n) SessionExpiresTooLarge (given (withSeconds n x)) in
-    sym (given-same (past-test (ltb (L .maxExpires) n) SessionExpiresTooLarge (given (withSeconds n x)) (past-test (ltb n (L .minExpires)) (SessionExpiresTooSmall (L .minExpires)) largest e)))
+interval-taken L n x y e = sym (given-same (passed-cause (secondsCause L n) (given (withSeconds n x)) e .1))
 
 pub interval-kept : (L : LimitSet) (n : ℕ) (r s : Record) → intervalUpdate L n r ≡ given s → Kept r s × (s .routes ≡ r .routes)
 interval-kept L n r s e = by (intervalStep L n (r .numbers)) refl e

@@ -1,6 +1,7 @@
 -- A new record (RFC 3261 sections 12.1.1 and 12.1.2; `new_uac` and `new_uas` of lib.rs). Identifier and Session-Expires come from the response,
 -- the CSeq from the request; Contact and Record-Route from the response for uac and from the request for uas. Departures of the Rust,
--- ported: 100 makes an Early record too; the CSeq must be 1 to 2,147,483,647; an interval must be 90 to 86,400 s.
+-- ported: 100 makes an Early record too; the whole identifier is the response's; a CSeq of 0 is refused (RFC 3261 section 8.1.1.5 forbids those over
+-- 2,147,483,647); an interval must be 90 to 86,400 s.
 use Prim.Native.Nat.{ℕ}
 use mathlib.Core.Bool.{Bool, true, false, cond, not}
 use mathlib.Core.List.{List, [], _∷_, map}
@@ -10,7 +11,7 @@ use lib.Dec.{ltb, eqb}
 use Rattle.limits.specs.Limits.{LimitSet}
 use Rattle.limits.specs.Outcome.{Outcome, refused, given, causeIf, orElse, refuseBy, refuseIf, andThen, orRefuse}
 use Rattle.limits.specs.declared.Refusal.{Refusal}
-use Rattle.limits.specs.declared.Refusal.the-variants.{Malformed, MissingHeader, InvalidStatus, InvalidUri, UriTooLong, CSeqZero, CSeqTooLarge, SessionExpiresTooSmall, SessionExpiresTooLarge}
+use Rattle.limits.specs.declared.Refusal.the-variants.{Malformed, MissingHeader, InvalidStatus, InvalidUri, UriTooLong, CSeqZero, CSeqTooLarge}
 use Rattle.text.specs.Text.{Piece}
 use Rattle.text.specs.Answers.{lengthCause}
 use Rattle.msg.specs.Block.{isBlock}
@@ -20,6 +21,7 @@ use Rattle.dialog_id.specs.DialogId.{Identifier, identifierOf, fromName, toName
 use Rattle.headers.specs.SessionExpires.{Interval, expiresNamed}
 use Rattle.route_set.specs.Routes.{contactOf, routesOf, inOrder}
 use Rattle.prack_headers.specs.Sequence.{cseqNumber}
+use Rattle.session_timer_manager.specs.Intervals.{secondsCause}
 use Rattle.record.specs.Record.{State, early, confirmed, Side, uac, uas, Numbers, Record, isRead}
 use Rattle.dialog.specs.Updates.{textOr, intervalFrom}
 
@@ -91,7 +93,7 @@ sequenceIn L block = andThen (orRefuse MissingHeader (cseqNumber block)) (λ n. 
 -- 13 with the least, 14; without an interval neither
 abbrev pub intervalCause : LimitSet → Option Interval → Option Refusal
 intervalCause L none = none
-intervalCause L (some i) = orElse (causeIf (ltb (i .seconds) (L .minExpires)) (SessionExpiresTooSmall (L .minExpires))) (causeIf (ltb (L .maxExpires) (i .seconds)) SessionExpiresTooLarge)
+intervalCause L (some i) = secondsCause L (i .seconds)
 
 -- ---- the record
 

@@ -4,11 +4,9 @@ use Prim.Native.Nat.{ℕ}
 use mathlib.Core.Bool.{Bool, true, false, _&&_}
 use mathlib.Core.List.{List}
 use mathlib.Core.Option.{Option, none, some}
-use lib.ListN.{take, drop}
 use Rattle.limits.specs.Limits.{LimitSet}
 use Rattle.limits.specs.Outcome.{Outcome, refused, given, refuseBy, andThen}
 use Rattle.text.specs.Text.{equal}
-use Rattle.text.specs.declared.Span.{Span}
 use Rattle.msg.specs.Block.{blockCause}
 use Rattle.dialog_id.specs.DialogId.{Identifier, identifierOf, fromName, toName}
 use Rattle.record.specs.Record.{Record}
@@ -29,7 +27,3 @@ abbrev pub matchesAnswer : Outcome Bool → Matches
 matchesAnswer (refused cause) = matches.Refused cause
 matchesAnswer (given true) = matches.Yes
 matchesAnswer (given false) = matches.No
-
--- a step of the code: the bytes that a span names
-abbrev pub partIn : List ℕ → Span → List ℕ
-partIn s v = take (v .length) (drop (v .start) s)

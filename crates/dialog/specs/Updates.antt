@@ -1,7 +1,8 @@
 -- What a request, a response and the other calls make of a record (RFC 3261 sections 12.2.1.2, 12.2.2 and 13.2.2.4; RFC 4028 section 7.2).
 -- Document 01, "CSeq", "Contact" and "Response". Each is given a block that was checked. Departures of the Rust, ported: a readable Contact
 -- replaces the target on every taken request, ACK included, and on every response, whatever its status, and is not measured; Session-Expires
--- on a response replaces seconds and refresher both, unmeasured; a Terminated record still takes requests and responses.
+-- counts on every response, and a 2xx without it ends nothing; every 2xx confirms, whatever its request; a Terminated record still takes
+-- requests and responses.
 use Prim.Native.Nat.{ℕ}
 use mathlib.Core.Bool.{Bool, true, false, cond}
 use mathlib.Core.List.{List, [], _∷_, map, reverse}

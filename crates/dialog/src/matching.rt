@@ -14,7 +14,8 @@ ghost use Prim.Native.Nat.{_+_, _≤_};
 ghost use lib.ListN.{length};
 ghost use Rattle.limits.specs.Limits.{rustLimits};
 ghost use Rattle.text.specs.Text.{equal};
-ghost use Rattle.dialog.specs.Matching.{matchesRequest, matchesAnswer, partIn};
+ghost use Rattle.text.specs.Spans.{partIn};
+ghost use Rattle.dialog.specs.Matching.{matchesRequest, matchesAnswer};
 
 // What `matches_request` answers.
 pub enum Matches {

@@ -6,17 +6,15 @@ use mathlib.Core.Path.{_≡_, refl, sym, ap, subst, _∙_}
 use mathlib.Core.Bool.{Bool, true, false}
 use mathlib.Core.List.{List, [], _∷_, _++_, append-nil}
 use mathlib.Core.Option.{Option, none, some}
-use lib.ListN.{length, take, drop, getD}
-use lib.Seq.{length-take-le}
+use lib.ListN.{length, take, getD}
 use lib.Dec.{ltb}
-use borrow.Author.Tests.{lt-ltb, le-ltb, ltb-true, ltb-false}
+use borrow.Author.Tests.{lt-ltb, le-ltb, ltb-false}
 use Rattle.limits.specs.Outcome.{Outcome, refused, given, causeIf, refuseBy, refuseIf, andThen, orRefuse}
 use Rattle.limits.specs.declared.Refusal.{Refusal}
 use Rattle.limits.specs.declared.Refusal.the-variants.{BadStore, NoRoom}
 use Rattle.output.specs.Output.{fitted, leaves, writtenFrom}
 use Rattle.output.specs.declared.Written.the-variants as written
 use Rattle.output.specs.declared.Written.{Written}
-use Rattle.edit.specs.Edit.{over}
 use Rattle.record.specs.Codec.{Reading}
 use Rattle.record.specs.NumbersForm.{meaning}
 use Rattle.record.proofs.NumberLaws.{meaning-same}
@@ -26,7 +24,7 @@ use Rattle.image.specs.Places.{recordFrom, recordPlaces}
 use Rattle.image.specs.declared.RecordAt.{RecordAt}
 use Rattle.image.specs.declared.RecordReading.the-variants.{Whole}
 use Rattle.image_edit.specs.Changes.{readAt, changed}
-use Rattle.image_edit.proofs.ImageCuts.{Held, held-used, changed-held}
+use Rattle.image_edit.proofs.ImageCuts.{held-used, changed-held}
 use Rattle.dialog.specs.OneImage.{alone, onlyOne, oneRecord, imageAnswer}
 use Rattle.dialog_changes.specs.ImageUpdates.{usedRecord, imageAfter, localRaised, raisedRecord, raisedAnswer}
 use Rattle.dialog.specs.Updates.{localUpdate}
@@ -115,27 +113,42 @@ changed-one bytes used p h f b =
     let r : g .rest ≡ [] = ap (λ (z : Reading Record). z .rest) o in
     changed-held f (take used bytes) 0 g ∙ ap (λ (t : List ℕ). image .write (f (g .value)) ++ t) r ∙ append-nil (image .write (f (g .value))) ∙ ap (λ (z : Record). image .write (f z)) v
 
--- ---- the answers
+-- ---- the answers, where the numbers are changed by a step that may refuse
 
-module _ (bytes : List ℕ) (used : ℕ) (step : Record → Outcome Record) where
-  pub after-refused : usedRecord bytes used ≡ refused BadStore → (written.Refused BadStore ≡ writtenFrom (imageAfter step bytes used)) × (bytes ≡ leaves (imageAfter step bytes used) bytes)
+module _ (bytes : List ℕ) (used : ℕ) (step : Numbers → Outcome Numbers) where
+  abbrev after-step : Outcome (List ℕ)
+  after-step = imageAfter (λ r. andThen (step (r .numbers)) (λ x. given (withNumbers x r))) bytes used
+
+  -- the answer and the lent bytes are those of the step on the one record
+  abbrev pub Ended : Written → List ℕ → Type 0
+  Ended r after = (r ≡ writtenFrom after-step) × (after ≡ leaves after-step bytes)
+
+  -- 3
+  pub unread-ended : {cause : Refusal} → answer.Refused cause ≡ imageAnswer (usedRecord bytes used) → Ended (written.Refused BadStore) bytes
   unfolding imageAfter
-  after-refused e = rw e (refl, refl)
+  unread-ended e = rw (used-refused bytes used e) (refl, refl)
 
-  module _ (p : RecordAt) (h : One bytes used p) where
-    pub step-refused : {cause : Refusal} → step (h .value) ≡ refused cause → (written.Refused cause ≡ writtenFrom (imageAfter step bytes used)) × (bytes ≡ leaves (imageAfter step bytes used) bytes)
+  -- p is where the record lies
+  module _ {p : RecordAt} (e : answer.Of p ≡ imageAnswer (usedRecord bytes used)) where
+    the-record : One bytes used p
+    the-record = one-used bytes used p e
+
+    step-is : {o : Outcome Numbers} → step (meaning (p .numbers)) ≡ o → step (the-record .value .numbers) ≡ o
+    step-is f = ap step (sym (meaning-read bytes used p the-record)) ∙ f
+
+    -- the step's refusals
+    pub refused-ended : {cause : Refusal} → step (meaning (p .numbers)) ≡ refused cause → Ended (written.Refused cause) bytes
     unfolding imageAfter
-    step-refused e = rw (h .one, e) (refl, refl)
+    refused-ended f = rw (the-record .one, step-is f) (refl, refl)
 
-    -- the numbers were changed, or there was no room
-    pub step-taken : (x : Numbers) (r : Written) (after : List ℕ) → ((i : ℕ) → getD bytes i 0 < 256) → step (h .value) ≡ given (withNumbers x (h .value))
+    -- the numbers are changed, or 18; r and after are what the change answers and leaves
+    pub changed-ended : {x : Numbers} → step (meaning (p .numbers)) ≡ given x → ((i : ℕ) → getD bytes i 0 < 256) → {r : Written} {after : List ℕ}
         → (r ≡ writtenFrom (fitted (length bytes) (changed (withNumbers x) 0 (take used bytes)))) × (after ≡ leaves (fitted (length bytes) (changed (withNumbers x) 0 (take used bytes))) bytes)
-        → (r ≡ writtenFrom (imageAfter step bytes used)) × (after ≡ leaves (imageAfter step bytes used) bytes)
+        → Ended r after
     unfolding imageAfter
-    step-taken x r after b e w =
-        let c : changed (withNumbers x) 0 (take used bytes) ≡ image .write (withNumbers x (h .value)) = changed-one bytes used p h (withNumbers x) b in
-        rw (h .one, e)
-        (subst (λ (s : List ℕ). (r ≡ writtenFrom (fitted (length bytes) s)) × (after ≡ leaves (fitted (length bytes) s) bytes)) c w)
+    changed-ended {x} f b {r} {after} w =
+        rw (the-record .one, step-is f)
+        (subst (λ (s : List ℕ). (r ≡ writtenFrom (fitted (length bytes) s)) × (after ≡ leaves (fitted (length bytes) s) bytes)) (changed-one bytes used p the-record (withNumbers x) b) w)
 
 -- ---- the new local number
 

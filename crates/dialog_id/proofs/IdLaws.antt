@@ -9,8 +9,8 @@ use mathlib.Core.Option.{Option, none, some}
 use Rattle.limits.specs.Limits.{LimitSet}
 use Rattle.limits.specs.Outcome.{orElse, orRefuse}
 use Rattle.limits.specs.declared.Refusal.{Refusal}
-use Rattle.limits.specs.declared.Refusal.the-variants.{TextTooLong, MissingHeader}
-use Rattle.text.specs.Answers.{tooLong, spanOf}
+use Rattle.limits.specs.declared.Refusal.the-variants.{MissingHeader}
+use Rattle.text.specs.Answers.{spanOf}
 use Rattle.text.specs.Text.{Piece, moved}
 use Rattle.text.specs.declared.Span.{Span}
 use Rattle.msg.specs.Block.{HeaderLine, foundOf, valueOf, blockCause}
@@ -21,25 +21,18 @@ use Rattle.headers.specs.declared.tag.Part.the-variants.{At, Nothing}
 use Rattle.dialog_id.specs.declared.DialogId.{DialogId}
 use Rattle.dialog_id.specs.declared.IdPart.the-variants as id
 use Rattle.dialog_id.specs.declared.IdAnswer.the-variants as answer
+use Rattle.dialog_id.specs.Ident.{ident, identCause}
 use Rattle.dialog_id.specs.DialogId.{partCause, identifierCause, tagIn, Identifier, identifier, identifierOf, readIdentifier, dialogIdFrom, idFrom, idAnswer}
 
+-- 1, or the causes of the three parts
 module _ (L : LimitSet) (c l r : List ℕ) where
-  pub long-call-id : tooLong L c ≡ true → identifierCause L c l r ≡ some TextTooLong
+  pub lengths-stop : {cause : Refusal} → identCause L (ident c l r) ≡ some cause → identifierCause L c l r ≡ some cause
   unfolding identifierCause
-  long-call-id e = rw e
+  lengths-stop e = ap (λ (o : Option Refusal). orElse o (orElse (partCause (L .callId) c) (orElse (partCause (L .tag) l) (partCause (L .tag) r)))) e
 
-  pub long-local : tooLong L c ≡ false → tooLong L l ≡ true → identifierCause L c l r ≡ some TextTooLong
+  pub lengths-pass : identCause L (ident c l r) ≡ none → identifierCause L c l r ≡ orElse (partCause (L .callId) c) (orElse (partCause (L .tag) l) (partCause (L .tag) r))
   unfolding identifierCause
-  long-local e f = rw (e, f)
-
-  pub long-remote : tooLong L c ≡ false → tooLong L l ≡ false → tooLong L r ≡ true → identifierCause L c l r ≡ some TextTooLong
-  unfolding identifierCause
-  long-remote e f g = rw (e, f, g)
-
-  pub lengths-pass : tooLong L c ≡ false → tooLong L l ≡ false → tooLong L r ≡ false
-      → identifierCause L c l r ≡ orElse (partCause (L .callId) c) (orElse (partCause (L .tag) l) (partCause (L .tag) r))
-  unfolding identifierCause
-  lengths-pass e f g = rw (e, f, g)
+  lengths-pass e = ap (λ (o : Option Refusal). orElse o (orElse (partCause (L .callId) c) (orElse (partCause (L .tag) l) (partCause (L .tag) r)))) e
 
 -- ---- the readings from a block
 

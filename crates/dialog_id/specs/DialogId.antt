@@ -12,9 +12,10 @@ use Rattle.limits.specs.Outcome.{Outcome, refused, given, refuseBy, orRefuse, c
 use Rattle.limits.specs.declared.Refusal.{Refusal}
 use Rattle.limits.specs.declared.Refusal.the-variants.{MissingHeader, IdentifierEmpty, IdentifierTooLong, ControlCharacters}
 use Rattle.text.specs.Text.{within, all, Piece, moved}
-use Rattle.text.specs.Answers.{lengthCause, spanOf}
+use Rattle.text.specs.Answers.{spanOf}
 use Rattle.msg.specs.Block.{blockCause, valueNamed}
 use Rattle.headers.specs.Tag.{tagOf}
+use Rattle.dialog_id.specs.Ident.{ident, identCause}
 use Rattle.dialog_id.specs.declared.DialogId.{DialogId}
 use Rattle.dialog_id.specs.declared.IdPart.{IdPart}
 use Rattle.dialog_id.specs.declared.IdPart.the-variants as part
@@ -36,11 +37,9 @@ partCause limit s =
 -- 1 of each part, then 25, 26, 27 of the Call-ID, of the local tag, of the remote tag
 unfoldable pub identifierCause : LimitSet → List ℕ → List ℕ → List ℕ → Option Refusal
 identifierCause L callId localTag remoteTag =
-    orElse (lengthCause L callId)
-    (orElse (lengthCause L localTag)
-    (orElse (lengthCause L remoteTag)
+    orElse (identCause L (ident callId localTag remoteTag))
     (orElse (partCause (L .callId) callId)
-    (orElse (partCause (L .tag) localTag) (partCause (L .tag) remoteTag)))))
+    (orElse (partCause (L .tag) localTag) (partCause (L .tag) remoteTag)))
 
 -- ---- the reading from a block
 

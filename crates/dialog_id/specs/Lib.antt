@@ -1,1 +1,2 @@
 pub mod DialogId
+pub mod Ident

@@ -13,6 +13,7 @@ ghost use Prim.Native.Nat.{_≤_};
 ghost use lib.ListN.{length};
 ghost use Rattle.text.specs.Text.{all, span};
 ghost use Rattle.headers.specs.Tag.{partOf};
+ghost use Rattle.dialog_id.specs.Ident.{ident, identCause};
 ghost use Rattle.dialog_id.specs.DialogId.{isPlain, partCause, identifierCause, tagNamed, fromName, toName, identifierOf, fromRequest, fromResponseUac, fromResponseUas, idFrom, idAnswer};
 
 // Where the three parts stand in a header block.
@@ -39,14 +40,8 @@ impl DialogId {
     pub fn new(call_id: &[u8], local_tag: &[u8], remote_tag: &[u8]) -> Check
         ensures { λ r. ⌜ r ≡ checkOf (identifierCause rustLimits (now («call_id» .entry)) (now («local_tag» .entry)) (now («remote_tag» .entry))) ⌝ }
     {
-        if text::too_long(call_id) {
-            return Check::Refused(Refusal::TextTooLong);
-        }
-        if text::too_long(local_tag) {
-            return Check::Refused(Refusal::TextTooLong);
-        }
-        if text::too_long(remote_tag) {
-            return Check::Refused(Refusal::TextTooLong);
+        if let Check::Refused(x) = check_lengths(call_id, local_tag, remote_tag) {
+            return Check::Refused(x);
         }
         if let Check::Refused(x) = check_part(call_id, Limits::MAX_CALL_ID_LENGTH) {
             return Check::Refused(x);
@@ -134,6 +129,22 @@ fn tag_named(block: &[u8], name: &[u8]) -> Part
         start: a + t.start,
         length: t.length,
     })
+}
+
+// The lengths of the three texts of an identifier: 1.
+pub fn check_lengths(call_id: &[u8], local_tag: &[u8], remote_tag: &[u8]) -> Check
+    ensures { λ r. ⌜ r ≡ checkOf (identCause rustLimits (ident (now («call_id» .entry)) (now («local_tag» .entry)) (now («remote_tag» .entry)))) ⌝ }
+{
+    if text::too_long(call_id) {
+        return Check::Refused(Refusal::TextTooLong);
+    }
+    if text::too_long(local_tag) {
+        return Check::Refused(Refusal::TextTooLong);
+    }
+    if text::too_long(remote_tag) {
+        return Check::Refused(Refusal::TextTooLong);
+    }
+    Check::Passed
 }
 
 // A part of an identifier, of at most `limit` bytes: 25, 26, 27.

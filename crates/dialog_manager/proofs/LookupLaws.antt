@@ -26,10 +26,11 @@ use Rattle.store.specs.declared.Held.the-variants as held
 use Rattle.msg.specs.Block.{blockCause}
 use Rattle.dialog_id.specs.DialogId.{identifierOf, fromName, toName}
 use Rattle.dialog_id.specs.declared.DialogId.{DialogId}
-use Rattle.dialog.specs.Matching.{partIn}
+use Rattle.text.specs.Spans.{partIn}
 use Rattle.dialog.proofs.MatchLaws.{Asked}
-use Rattle.book.specs.Calls.{Ident, ident, Reading, findByCallId, findByRequest, read, Value, imageAt}
-use Rattle.book.specs.Book.{Book, storeImage, storeRead, isOf, find, namedIn, size, firstPlace, placeOf, reply, identCause, readingCause, argumentCause, judge, taking, unchanged, apply}
+use Rattle.dialog_id.specs.Ident.{Ident, ident, identCause}
+use Rattle.book.specs.Calls.{Reading, findByCallId, findByRequest, read, Value, imageAt}
+use Rattle.book.specs.Book.{Book, storeImage, storeRead, isOf, find, namedIn, size, firstPlace, placeOf, reply, readingCause, argumentCause, judge, taking, unchanged, apply}
 use Rattle.book.specs.Store.{Result, resultOf, verdict, leave, run}
 use Rattle.dialog_manager.specs.Search.{named, Spot, first, foundOf, foundIn, Stored, Stands}
 use Rattle.dialog_manager.specs.Lookups.{getting, placeIn}

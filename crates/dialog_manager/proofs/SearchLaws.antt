@@ -20,11 +20,11 @@ use Rattle.image.specs.declared.sections.IdsAt.{IdsAt}
 use Rattle.image.proofs.AnswerLaws.{RecordGot, record-got}
 use Rattle.image.proofs.SizeLaws.{recordSize}
 use Rattle.image_writer.proofs.LieLaws.{Lie, record-lies}
-use Rattle.dialog.specs.Matching.{partIn}
+use Rattle.text.specs.Spans.{partIn}
 use Rattle.distinct.specs.Keys.{At}
 use Rattle.distinct.specs.Ends.{endAt}
 use Rattle.store.proofs.WalkLaws.{Step, step}
-use Rattle.book.specs.Calls.{sameIdent}
+use Rattle.dialog_id.specs.Ident.{sameIdent}
 use Rattle.book.specs.Book.{Book, storeRead}
 use Rattle.dialog_manager.specs.Search.{named, Spot, first, foundOf, foundIn, Stored, IdsWithin, namedAt}
 use Rattle.dialog_manager.specs.declared.finding.Found.the-variants as found

@@ -6,7 +6,8 @@ use mathlib.Core.Option.{Option, none, some}
 use Rattle.limits.specs.Outcome.{Outcome, refused, given, orRefuse}
 use Rattle.limits.specs.declared.Refusal.the-variants.{BadStore, NotFound}
 use Rattle.record.specs.Record.{Record}
-use Rattle.book.specs.Calls.{ident, Reading, get, Value, imageAt, Answer}
+use Rattle.dialog_id.specs.Ident.{ident}
+use Rattle.book.specs.Calls.{Reading, get, Value, imageAt, Answer}
 use Rattle.book.specs.Book.{Book, firstPlace, placeOf}
 use Rattle.dialog_manager.specs.declared.placing.Place.{Place}
 use Rattle.dialog_manager.specs.declared.placing.Place.the-variants as place

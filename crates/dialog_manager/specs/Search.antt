@@ -11,7 +11,7 @@ use Rattle.record.specs.Record.{Record, image}
 use Rattle.image.specs.Places.{recordPlaces, recordFrom}
 use Rattle.image.specs.declared.RecordReading.the-variants.{Whole}
 use Rattle.image.specs.declared.sections.IdsAt.{IdsAt}
-use Rattle.dialog.specs.Matching.{partIn}
+use Rattle.text.specs.Spans.{partIn}
 use Rattle.book.specs.Book.{Book, storeRead, isOf, firstPlace}
 use Rattle.dialog_manager.specs.declared.finding.Found.{Found}
 use Rattle.dialog_manager.specs.declared.finding.Found.the-variants as found

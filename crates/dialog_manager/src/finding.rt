@@ -9,7 +9,7 @@ ghost use mathlib.Core.Path.{_≡_};
 ghost use Prim.Native.Nat.{_+_, _≤_};
 ghost use lib.ListN.{length};
 ghost use Rattle.text.specs.Text.{equal};
-ghost use Rattle.dialog.specs.Matching.{partIn};
+ghost use Rattle.text.specs.Spans.{partIn};
 ghost use Rattle.book.specs.Book.{storeRead};
 ghost use Rattle.dialog_manager.specs.Search.{named, namedAt, IdsWithin, Stored, foundIn, Stands};
 

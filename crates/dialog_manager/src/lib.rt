@@ -6,7 +6,6 @@ mod placing;
 pub use finding::Found;
 pub use finding::is_part;
 pub use finding::search;
-pub use lookups::check_identifier;
 pub use lookups::find_by_call_id;
 pub use lookups::find_by_request;
 pub use lookups::get;

@@ -3,6 +3,7 @@ use crate::placing::Place;
 use crate::placing::place_of;
 use crate::placing::place_of_request;
 use dialog_id::IdPart;
+use dialog_id::check_lengths;
 use dialog_id::request_id;
 use limits::Check;
 use limits::Refusal;
@@ -10,9 +11,7 @@ use store::Held;
 ghost use mathlib.Core.Path.{_≡_};
 ghost use lib.ListN.{length};
 ghost use Rattle.limits.specs.Limits.{rustLimits};
-ghost use Rattle.limits.specs.Outcome.{checkOf};
-ghost use Rattle.book.specs.Calls.{ident, read, findByRequest, findByCallId};
-ghost use Rattle.book.specs.Book.{identCause};
+ghost use Rattle.book.specs.Calls.{read, findByRequest, findByCallId};
 ghost use Rattle.book.specs.Store.{run};
 ghost use Rattle.dialog_manager.specs.Lookups.{getting, answerIn};
 
@@ -20,7 +19,7 @@ ghost use Rattle.dialog_manager.specs.Lookups.{getting, answerIn};
 pub fn get(call_id: &[u8], local_tag: &[u8], remote_tag: &[u8], bytes: &[u8], used: usize) -> Place
     ensures { λ r. ⌜ answerIn r ≡ run rustLimits (read (length (now (bytes .entry))) (getting (now («call_id» .entry)) (now («local_tag» .entry)) (now («remote_tag» .entry)))) (now (bytes .entry)) used .answer ⌝ }
 {
-    if let Check::Refused(x) = check_identifier(call_id, local_tag, remote_tag) {
+    if let Check::Refused(x) = check_lengths(call_id, local_tag, remote_tag) {
         return Place::Refused(x);
     }
     let Held::Records(_) = store::count(bytes, used) else {
@@ -56,20 +55,4 @@ pub fn find_by_request(block: &[u8], bytes: &[u8], used: usize) -> Place
         return Place::Refused(Refusal::NotFound);
     };
     place_of_request(block, i, &bytes[..used])
-}
-
-// 1, of the three texts of an identifier.
-pub fn check_identifier(call_id: &[u8], local_tag: &[u8], remote_tag: &[u8]) -> Check
-    ensures { λ r. ⌜ r ≡ checkOf (identCause rustLimits (ident (now («call_id» .entry)) (now («local_tag» .entry)) (now («remote_tag» .entry)))) ⌝ }
-{
-    if text::too_long(call_id) {
-        return Check::Refused(Refusal::TextTooLong);
-    }
-    if text::too_long(local_tag) {
-        return Check::Refused(Refusal::TextTooLong);
-    }
-    if text::too_long(remote_tag) {
-        return Check::Refused(Refusal::TextTooLong);
-    }
-    Check::Passed
 }

@@ -7,7 +7,7 @@ ghost use mathlib.Core.Path.{_≡_};
 ghost use mathlib.Core.Bool.{true};
 ghost use Prim.Native.Nat.{_+_, _≤_};
 ghost use lib.ListN.{length};
-ghost use Rattle.dialog.specs.Matching.{partIn};
+ghost use Rattle.text.specs.Spans.{partIn};
 ghost use Rattle.book.specs.Book.{storeRead};
 ghost use Rattle.dialog_manager.specs.Search.{named, Stored};
 ghost use Rattle.dialog_manager.specs.Lookups.{answerIn, placeIn};

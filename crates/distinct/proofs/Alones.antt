@@ -10,13 +10,14 @@ use Rattle.record.specs.Record.{Record, isGiven}
 use Rattle.record.specs.Store.{sameId, lacks, distinct, decodeAll}
 use Rattle.record.proofs.CodecLaws.{Bytes}
 use Rattle.distinct.specs.Distinct.{Whole, isDistinct}
-use Rattle.distinct.specs.Keys.{At, keyAt, order}
+use Rattle.ordered_store.specs.Order.{order}
+use Rattle.ordered_store.specs.declared.Order.the-variants.{Same}
+use Rattle.ordered_store.proofs.OrderLaws.{order-itself, order-equal}
+use Rattle.distinct.specs.Keys.{At, keyAt}
 use Rattle.distinct.specs.Ends.{endAt}
 use Rattle.distinct.specs.Pairs.{WholeFrom, aloneFrom}
-use Rattle.distinct.specs.declared.keys.Order.the-variants.{Equal}
 use Rattle.distinct.proofs.Identities.{same-key}
 use Rattle.distinct.proofs.Images.{back, key-is}
-use Rattle.distinct.proofs.Orders.{order-same, order-equal}
 use Rattle.distinct.proofs.Sames.{equal-same, equal-is}
 use Rattle.distinct.proofs.Walks.{From, Next, next, from-end, from-more}
 
@@ -51,14 +52,14 @@ module _ (s : List ℕ) (b : Bytes s) where
         let k : sameId (n .rec) (x .reading .value) ≡ equal (keyAt s q) (keyAt s p) = same-key (n .rec) (x .reading .value) (n .next .formed) (back s p b x .1) ∙ rw (n .next .key, key-is s p b x) in
         rw (x .reads, n .all, n .next .others, k)
 
-    pub alone-met : (q : ℕ) → Step q → order (keyAt s q) (keyAt s p) ≡ Equal → aloneFrom s p q ≡ false
+    pub alone-met : (q : ℕ) → Step q → order (keyAt s q) (keyAt s p) ≡ Same → aloneFrom s p q ≡ false
     alone-met q n e = alone-step q n ∙ rw (order-equal (keyAt s q) (keyAt s p) e, equal-same (keyAt s p))
 
-    pub alone-next : (q : ℕ) → Step q → (order (keyAt s q) (keyAt s p) ≡ Equal → ⊥) → aloneFrom s p q ≡ aloneFrom s p (endAt s q)
+    pub alone-next : (q : ℕ) → Step q → (order (keyAt s q) (keyAt s p) ≡ Same → ⊥) → aloneFrom s p q ≡ aloneFrom s p (endAt s q)
     alone-next q n e = alone-step q n ∙ by (equal (keyAt s q) (keyAt s p)) refl
       where
         by : (t : Bool) → equal (keyAt s q) (keyAt s p) ≡ t → (not (equal (keyAt s q) (keyAt s p)) && aloneFrom s p (endAt s q)) ≡ aloneFrom s p (endAt s q)
-        by true t = absurd (e (ap (λ (k : List ℕ). order k (keyAt s p)) (equal-is (keyAt s q) (keyAt s p) t) ∙ order-same (keyAt s p)))
+        by true t = absurd (e (ap (λ (k : List ℕ). order k (keyAt s p)) (equal-is (keyAt s q) (keyAt s p) t) ∙ order-itself (keyAt s p)))
         by false t = rw t
 
 -- ---- all records

@@ -7,11 +7,12 @@ use mathlib.Core.List.{List, [], _∷_, _++_}
 use lib.ListN.{length, getD, take, drop, take-append-drop}
 use Rattle.text.specs.Text.{equal}
 use Rattle.record.specs.Record.{bitOf}
-use Rattle.distinct.specs.Keys.{At, keyAt, order}
+use Rattle.ordered_store.specs.Order.{order}
+use Rattle.ordered_store.specs.declared.Order.the-variants.{Before, Same}
+use Rattle.ordered_store.proofs.OrderLaws.{order-itself, order-transitive}
+use Rattle.distinct.specs.Keys.{At, keyAt}
 use Rattle.distinct.specs.Sorting.{EachAt, Ascending, tally}
-use Rattle.distinct.specs.declared.keys.Order.the-variants.{Less}
 use Rattle.distinct.proofs.Bits.{bit-le}
-use Rattle.distinct.proofs.Orders.{less≢equal, order-same, order-trans}
 use Rattle.distinct.proofs.Sames.{equal-same, equal-is}
 
 module _ (s : List ℕ) where
@@ -55,25 +56,25 @@ module _ (s : List ℕ) where
   -- ---- ascending runs
 
   -- a place that comes before the rest of one run goes to the end of what both have in front
-  pub between : (zs : List ℕ) (x : ℕ) (xs : List ℕ) (y : ℕ) (ys : List ℕ) → Ascending s (zs ++ (x ∷ xs)) → Ascending s (zs ++ (y ∷ ys)) → order (keyAt s x) (keyAt s y) ≡ Less → Ascending s (zs ++ (x ∷ y ∷ ys))
+  pub between : (zs : List ℕ) (x : ℕ) (xs : List ℕ) (y : ℕ) (ys : List ℕ) → Ascending s (zs ++ (x ∷ xs)) → Ascending s (zs ++ (y ∷ ys)) → order (keyAt s x) (keyAt s y) ≡ Before → Ascending s (zs ++ (x ∷ y ∷ ys))
   unfolding Ascending
   between [] x xs y ys h k l = (l, k)
   between (a ∷ []) x xs y ys h k l = (h .0, (l, k .1))
   between (a ∷ b ∷ zs) x xs y ys h k l = (h .0, between (b ∷ zs) x xs y ys (h .1) (k .1) l)
 
   -- a place has no key that is less than its own
-  other : (k : List ℕ) (q : ℕ) → order k (keyAt s q) ≡ Less → bitOf (equal (keyAt s q) k) ≡ 0
+  other : (k : List ℕ) (q : ℕ) → order k (keyAt s q) ≡ Before → bitOf (equal (keyAt s q) k) ≡ 0
   other k q h = by (equal (keyAt s q) k) refl
     where
       by : (t : Bool) → equal (keyAt s q) k ≡ t → bitOf (equal (keyAt s q) k) ≡ 0
-      by true t = absurd (less≢equal (sym h ∙ ap (order k) (equal-is (keyAt s q) k t) ∙ order-same k))
+      by true t = absurd (let e : Before ≡ Same = sym h ∙ ap (order k) (equal-is (keyAt s q) k t) ∙ order-itself k in let z : _≡_ {A = ℕ} 0 1 = cc in omega arith)
       by false t = rw t
 
   -- a key below the first of an ascending run stands nowhere in it
-  below : (k : List ℕ) (q : ℕ) (ps : List ℕ) → order k (keyAt s q) ≡ Less → Ascending s (q ∷ ps) → tally s k (q ∷ ps) ≡ 0
+  below : (k : List ℕ) (q : ℕ) (ps : List ℕ) → order k (keyAt s q) ≡ Before → Ascending s (q ∷ ps) → tally s k (q ∷ ps) ≡ 0
   unfolding tally Ascending
   below k q [] h a = omega (arith, other k q h)
-  below k q (r ∷ ps) h a = omega (arith, other k q h, below k r ps (order-trans k (keyAt s q) (keyAt s r) h (a .0)) (a .1))
+  below k q (r ∷ ps) h a = omega (arith, other k q h, below k r ps (order-transitive k (keyAt s q) (keyAt s r) h (a .0)) (a .1))
 
   -- no key stands twice in an ascending run
   pub once : (k ps : List ℕ) → Ascending s ps → tally s k ps ≤ 1

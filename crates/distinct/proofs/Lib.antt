@@ -7,7 +7,6 @@ pub mod Halves
 pub mod Identities
 pub mod Images
 pub mod Merges
-pub mod Orders
 pub mod Parts
 pub mod Sames
 pub mod Tails

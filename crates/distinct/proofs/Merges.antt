@@ -7,10 +7,11 @@ use mathlib.Core.Logic.{_⊎_, inl, inr}
 use mathlib.Core.List.{List, [], _∷_, _++_, append-assoc, append-nil}
 use lib.ListN.{length, getD, take, drop, set, length-append, length-drop, length-set, drop-of-length-le}
 use lib.Seq.{take-all, drop-cons, getD-take, take-suc-set, append-snoc, length-take-le, take-at, take-add, drop-at}
-use Rattle.distinct.specs.Keys.{keyAt, order}
+use Rattle.ordered_store.specs.Order.{order}
+use Rattle.ordered_store.specs.declared.Order.the-variants.{Before, Same, After}
+use Rattle.ordered_store.proofs.OrderLaws.{order-equal, order-mirror, flip}
+use Rattle.distinct.specs.Keys.{keyAt}
 use Rattle.distinct.specs.Sorting.{EachAt, Ascending, tally, Sorted, Twice, put}
-use Rattle.distinct.specs.declared.keys.Order.the-variants.{Less, Equal, Greater}
-use Rattle.distinct.proofs.Orders.{order-equal, order-turned}
 use Rattle.distinct.proofs.Ascents.{each-append, each-take, each-drop, each-one, each-at, tally-append, tally-split, between, tally-first}
 
 pub part-length : (n i : ℕ) (l : List ℕ) → i + n ≤ length l → length (take n (drop i l)) ≡ n
@@ -60,7 +61,7 @@ module _ (s ps : List ℕ) (mid : ℕ) (h : mid ≤ length ps) (whole : EachAt s
     longer : (x : ℕ) → take (suc k) (set out k x) ≡ take k out ++ (x ∷ [])
     longer x = take-suc-set out k x room
 
-    pub turn-left : order (keyAt s (getD ps i 0)) (keyAt s (getD ps j 0)) ≡ Less → Merging s ps mid (set out k (getD ps i 0)) (i + 1) j
+    pub turn-left : order (keyAt s (getD ps i 0)) (keyAt s (getD ps j 0)) ≡ Before → Merging s ps mid (set out k (getD ps i 0)) (i + 1) j
     unfolding tally
     turn-left o =
         let x = getD ps i 0 in
@@ -79,7 +80,7 @@ module _ (s ps : List ℕ) (mid : ℕ) (h : mid ≤ length ps) (whole : EachAt s
           kept = λ q. rw e (omega (arith, m .kept q, tally-append s q (take k out) (x ∷ []), ap (tally s q) left-is));
         }
 
-    pub turn-right : order (keyAt s (getD ps i 0)) (keyAt s (getD ps j 0)) ≡ Greater → Merging s ps mid (set out k (getD ps j 0)) i (j + 1)
+    pub turn-right : order (keyAt s (getD ps i 0)) (keyAt s (getD ps j 0)) ≡ After → Merging s ps mid (set out k (getD ps j 0)) i (j + 1)
     unfolding tally
     turn-right o =
         let y = getD ps j 0 in
@@ -93,13 +94,13 @@ module _ (s ps : List ℕ) (mid : ℕ) (h : mid ≤ length ps) (whole : EachAt s
           end = omega arith;
           wide = length-set out k y ∙ m .wide;
           each = rw e (each-append s (take k out) (y ∷ []) (m .each) (each-one s y (each-at s ps j whole r)));
-          first = rw (e, append-snoc (take k out) y (drop i (take mid ps)), left-is) (between s (take k out) y (drop (j + 1) ps) (getD ps i 0) (drop (i + 1) (take mid ps)) (rw right-is at g) (rw left-is at f) (order-turned (keyAt s (getD ps i 0)) (keyAt s y) o));
+          first = rw (e, append-snoc (take k out) y (drop i (take mid ps)), left-is) (between s (take k out) y (drop (j + 1) ps) (getD ps i 0) (drop (i + 1) (take mid ps)) (rw right-is at g) (rw left-is at f) (order-mirror (keyAt s (getD ps i 0)) (keyAt s y) ∙ ap flip o));
           second = rw (e, append-snoc (take k out) y (drop (j + 1) ps)) (rw right-is at g);
           kept = λ q. rw e (omega (arith, m .kept q, tally-append s q (take k out) (y ∷ []), ap (tally s q) right-is));
         }
 
     -- two equal keys
-    pub met : order (keyAt s (getD ps i 0)) (keyAt s (getD ps j 0)) ≡ Equal → Twice s ps
+    pub met : order (keyAt s (getD ps i 0)) (keyAt s (getD ps j 0)) ≡ Same → Twice s ps
     met o =
         let q = keyAt s (getD ps i 0) in
         let a = tally-first s (getD ps i 0) q (drop (i + 1) (take mid ps)) refl in

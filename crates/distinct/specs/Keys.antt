@@ -1,16 +1,13 @@
--- A step of the code: the key of a record, and the order of keys. A key tells which of the three texts of an identifier stand (bits 0 to 2 of the
+-- A step of the code: the key of a record. A key tells which of the three texts of an identifier stand (bits 0 to 2 of the
 -- image's map), and then has the bytes of those that stand as they are in the image: two length bytes and the text.
 use Prim.Native.Nat.{ℕ, _+_, _*_}
 use mathlib.Core.Path.{_≡_}
-use mathlib.Core.Bool.{Bool, true, false, cond}
+use mathlib.Core.Bool.{Bool, true, false}
 use mathlib.Core.List.{List, [], _∷_, _++_}
 use mathlib.Core.Option.{Option, none, some}
 use lib.ListN.{drop, getD}
-use lib.Dec.{ltb}
 use Rattle.record.specs.Codec.{Reading}
 use Rattle.record.specs.Record.{Record, Ids, idText, isFilled, idsMap, fieldsOf, image}
-use Rattle.distinct.specs.declared.keys.Order.{Order}
-use Rattle.distinct.specs.declared.keys.Order.the-variants.{Less, Equal, Greater}
 
 -- ---- keys
 
@@ -39,15 +36,6 @@ keyRead (some x) = keyOf (x .value)
 -- the key of the record at a place
 unfoldable pub keyAt : List ℕ → ℕ → List ℕ
 keyAt s p = keyRead (image .read (drop p s))
-
--- ---- their order
-
--- by the first byte that differs; a front comes before the whole
-unfoldable pub order : List ℕ → List ℕ → Order
-order [] [] = Equal
-order [] (y ∷ b) = Less
-order (x ∷ a) [] = Greater
-order (x ∷ a) (y ∷ b) = cond (ltb x y) Less (cond (ltb y x) Greater (order a b))
 
 -- ---- places within a record
 

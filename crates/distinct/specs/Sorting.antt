@@ -6,8 +6,9 @@ use mathlib.Core.List.{List, [], _∷_, _++_}
 use lib.ListN.{length, take, drop}
 use Rattle.text.specs.Text.{equal}
 use Rattle.record.specs.Record.{bitOf}
-use Rattle.distinct.specs.Keys.{At, keyAt, order}
-use Rattle.distinct.specs.declared.keys.Order.the-variants.{Less}
+use Rattle.ordered_store.specs.Order.{order}
+use Rattle.ordered_store.specs.declared.Order.the-variants.{Before}
+use Rattle.distinct.specs.Keys.{At, keyAt}
 
 -- a record stands at each of the places
 unfoldable pub EachAt : List ℕ → List ℕ → Type 0
@@ -18,7 +19,7 @@ EachAt s (p ∷ ps) = At s p × EachAt s ps
 unfoldable pub Ascending : List ℕ → List ℕ → Type 0
 Ascending s [] = Unit {0}
 Ascending s (p ∷ []) = Unit {0}
-Ascending s (p ∷ q ∷ ps) = (order (keyAt s p) (keyAt s q) ≡ Less) × Ascending s (q ∷ ps)
+Ascending s (p ∷ q ∷ ps) = (order (keyAt s p) (keyAt s q) ≡ Before) × Ascending s (q ∷ ps)
 
 -- two ascending runs, the places before mid and the others, and a list as long
 pub record Runs (s ps : List ℕ) (mid : ℕ) (out : List ℕ) : Type 0 where

@@ -1,15 +1,11 @@
 // The key of a record: which of the three texts of its identifier stand, then the bytes of those texts with their lengths.
 // Two records have one identifier exactly if they have one key.
+use ordered_store::Order;
 ghost use mathlib.Core.Path.{_≡_};
-ghost use Prim.Native.Nat.{_+_, _-_, _≤_, _<_};
+ghost use Prim.Native.Nat.{_+_, _≤_, _<_};
 ghost use lib.ListN.{length, getD};
-ghost use Rattle.distinct.specs.Keys.{At, twoAt, pastText, keyAt, order};
-
-pub enum Order {
-    Less,
-    Equal,
-    Greater,
-}
+ghost use Rattle.ordered_store.specs.Order.{order};
+ghost use Rattle.distinct.specs.Keys.{At, twoAt, pastText, keyAt};
 
 // How the key of the record at one place stands to that at another.
 pub fn compare(bytes: &[u8], p: usize, q: usize) -> Order
@@ -19,16 +15,16 @@ pub fn compare(bytes: &[u8], p: usize, q: usize) -> Order
     let p_flags = flags(bytes, p);
     let q_flags = flags(bytes, q);
     if p_flags < q_flags {
-        return Order::Less;
+        return Order::Before;
     }
     if q_flags < p_flags {
-        return Order::Greater;
+        return Order::After;
     }
     let a = p + 2;
     let a_end = ids_end(bytes, p);
     let b = q + 2;
     let b_end = ids_end(bytes, q);
-    compare_bytes(&bytes[a..a_end], &bytes[b..b_end])
+    ordered_store::compare(&bytes[a..a_end], &bytes[b..b_end])
 }
 
 // Which texts of the identifier stand: bits 0 to 2 of the map.
@@ -73,38 +69,4 @@ pub fn wide(b: u8) -> usize
     ensures { λ r. ⌜ (r ≡ b) × (r < 256) ⌝ }
 {
     b as usize
-}
-
-// The order of two lists of bytes: by the first byte that differs; a front comes before the whole.
-fn compare_bytes(a: &[u8], b: &[u8]) -> Order
-    ensures { λ r. ⌜ r ≡ order (now (a .entry)) (now (b .entry)) ⌝ }
-{
-    let n = shorter(a.len(), b.len());
-    let mut i = 0;
-    while i < n {
-        if a[i] != b[i] {
-            if a[i] < b[i] {
-                return Order::Less;
-            }
-            return Order::Greater;
-        }
-        i += 1;
-    }
-    if i < b.len() {
-        return Order::Less;
-    }
-    if i < a.len() {
-        return Order::Greater;
-    }
-    Order::Equal
-}
-
-// The smaller of two lengths.
-fn shorter(x: usize, y: usize) -> usize
-    ensures { λ r. ⌜ r ≡ x - (x - y) ⌝ }
-{
-    if x <= y {
-        return x;
-    }
-    y
 }

@@ -1,6 +1,6 @@
 // Places sorted by the keys of their records, from small runs to large. Where two equal keys meet, the sort ends.
-use crate::keys::Order;
 use crate::keys::compare;
+use ordered_store::Order;
 ghost use mathlib.Core.Path.{_≡_};
 ghost use Prim.Native.Nat.{_+_, _≤_};
 ghost use lib.ListN.{length};
@@ -51,15 +51,15 @@ fn merge(bytes: &[u8], places: &[usize], mid: usize, out: &mut [usize]) -> bool
         let k = i + (j - mid);
         let way = compare(bytes, p, q);
         match way {
-            Order::Less => {
+            Order::Before => {
                 out[k] = p;
                 i += 1;
             }
-            Order::Greater => {
+            Order::After => {
                 out[k] = q;
                 j += 1;
             }
-            Order::Equal => return false,
+            Order::Same => return false,
         }
     }
     copy_at(out, i + (j - mid), &places[i..mid]);

@@ -1,7 +1,7 @@
 // A record against those after it.
 use crate::ends::record_end;
-use crate::keys::Order;
 use crate::keys::compare;
+use ordered_store::Order;
 ghost use mathlib.Core.Path.{_≡_};
 ghost use Rattle.distinct.specs.Keys.{At};
 ghost use Rattle.distinct.specs.Pairs.{WholeFrom, aloneFrom};
@@ -14,7 +14,7 @@ pub fn is_alone(bytes: &[u8], p: usize, from: usize) -> bool
     let mut q = from;
     while q < bytes.len() {
         let way = compare(bytes, q, p);
-        if let Order::Equal = way {
+        if let Order::Same = way {
             return false;
         }
         q = record_end(bytes, q);

@@ -2,20 +2,20 @@
 use Prim.Native.Nat.{ℕ, _+_, _-_, _≤_}
 use native.Mathlib.Nat.{add-sub-cancel-left}
 use native.Mathlib.Omega.{arith}
-use mathlib.Core.Path.{_≡_, refl, sym, ap, subst, _∙_}
+use mathlib.Core.Path.{_≡_, refl, sym, ap, _∙_}
 use mathlib.Core.Bool.{Bool}
 use mathlib.Core.List.{List}
 use mathlib.Core.Option.{Option, none, some}
 use lib.ListN.{length, take, drop}
 use lib.Seq.{drop-drop}
 use Rattle.text.specs.declared.Span.{Span}
-use Rattle.record.specs.Codec.{Reading, text}
+use Rattle.record.specs.Codec.{Reading, Codec, text}
 use Rattle.record.specs.Record.{Side, isSips, idText, uriText, number, optional, refresherField, routesField, StateByte, stateByte, Ids, Uris, Tail, idsField, urisField, tailField, Record, image}
 use Rattle.record.specs.NumbersForm.{stateFrom, numberFrom, sideFrom}
 use Rattle.record.specs.declared.numbers.State.{State}
 use Rattle.record.specs.declared.numbers.Optional.{Optional}
 use Rattle.record.specs.declared.numbers.Refresher.{Refresher}
-use Rattle.image.specs.Places.{numberSize, optionSize, routesSize, idSpan, textSpan, textFrom, idFrom, uriFrom, numberAt, optionalAt, refresherAt, routesAt, stateFieldOf, idsPlaces, idsFrom, urisPlaces, urisFrom, tailPlaces, tailFrom, recordPlaces, recordFrom}
+use Rattle.image.specs.Places.{answered, numberSize, optionSize, routesSize, idSpan, textSpan, textFrom, idFrom, uriFrom, numberAt, optionalAt, refresherAt, routesAt, stateFieldOf, idsPlaces, idsFrom, urisPlaces, urisFrom, tailPlaces, tailFrom, recordPlaces, recordFrom}
 use Rattle.image.specs.declared.parts.Text.the-variants as T
 use Rattle.image.specs.declared.parts.UriText.the-variants as U
 use Rattle.image.specs.declared.parts.Number.the-variants as N
@@ -31,254 +31,164 @@ use Rattle.image.specs.declared.RecordAt.{RecordAt}
 use Rattle.image.specs.declared.RecordReading.the-variants as Whole
 use Rattle.image.specs.declared.sections.TailAt.{TailAt}
 use Rattle.image.specs.declared.sections.TailSection.the-variants as TailS
-use Rattle.image.proofs.SizeLaws.{Got, got, got-to, text-ends, text-sized, id-sized, uri-sized, number-sized, optional-sized, side-sized, routes-sized, state-sized, ids-sized, uris-sized, tail-sized, record-sized}
+use Rattle.image.proofs.SizeLaws.{Sized, Got, got, got-to, text-ends, text-sized, id-sized, uri-sized, number-sized, optional-sized, side-sized, routes-sized, state-sized, ids-sized, uris-sized, tail-sized, record-sized}
 
--- ---- a text
+-- ---- any reader
 
-pub record TextGot (s : List ℕ) (at : ℕ) (p : Span) : Type 0 where
-  pub value : List ℕ
-  pub got : Got text s at value (p .start + p .length)
-  pub placed : p ≡ textSpan at value
-  -- the part that the code lends
-  pub part : take (p .start + p .length - p .start) (drop (p .start) s) ≡ value
+-- the form reads a value at the place; p is what is answered of it, and the next field begins at p's end
+pub record PlacesGot {A P : Type 0} (form : Codec A) (places : ℕ → A → P) (end : P → ℕ) (s : List ℕ) (at : ℕ) (p : P) : Type 0 where
+  pub value : A
+  pub got : Got form s at value (end p)
+  pub placed : p ≡ places at value
+
+module _ {A R : Type 0} {broken : R} {tell : A → R} where
+  -- an answer other than `broken` tells of a value
+  pub places-got : {P : Type 0} {form : Codec A} {size : A → ℕ} {places : ℕ → A → P} {end : P → ℕ} {r : R} {p : P} → Sized form size → (s : List ℕ) (at : ℕ) → at ≤ length s → answered broken tell (form .read (drop at s)) ≡ r
+      → (broken ≡ r → _≡_ {A = ℕ} 0 1) → ((a : A) → tell a ≡ r → p ≡ places at a) → ((a : A) → at + size a ≡ end (places at a)) → PlacesGot form places end s at p
+  places-got {P} {form} {size} {places} {end} {r} {p} sized s at h e apart same ends = by (form .read (drop at s)) refl e
+    where
+      by : (o : Option (Reading A)) → form .read (drop at s) ≡ o → answered broken tell o ≡ r → PlacesGot form places end s at p
+      by none q e = absurd (let z = apart e in omega arith)
+      by (some x) q e =
+          let w : p ≡ places at (x .value) = same (x .value) e in
+          record { value = x .value; got = got-to (got sized s at x h q) (ends (x .value) ∙ ap end (sym w)); placed = w }
+
+  -- `broken` says that nothing can be read
+  pub nothing-got : (o : Option (Reading A)) → answered broken tell o ≡ broken → ((a : A) → tell a ≡ broken → _≡_ {A = ℕ} 0 1) → o ≡ none
+  nothing-got none e apart = refl
+  nothing-got (some x) e apart = absurd (let z = apart (x .value) e in omega arith)
+
+-- an answer of two parts
+pub both : {A B : Type 0} {p q : A × B} → p ≡ q → (p .0 ≡ q .0) × (p .1 ≡ q .1)
+both {A} {B} e = (ap (λ (p : A × B). p .0) e, ap (λ (p : A × B). p .1) e)
+
+abbrev spanEnd : Span → ℕ
+spanEnd p = p .start + p .length
+
+-- ---- texts
+
+abbrev pub TextGot : List ℕ → ℕ → Span → Type 0
+TextGot s at p = PlacesGot text textSpan spanEnd s at p
 
 pub text-got : (s : List ℕ) (at : ℕ) {p : Span} → at ≤ length s → textFrom at (text .read (drop at s)) ≡ T.At p → TextGot s at p
-text-got s at {p} h e = by (text .read (drop at s)) refl e
-  where
-    by : (o : Option (Reading (List ℕ))) → text .read (drop at s) ≡ o → textFrom at o ≡ T.At p → TextGot s at p
-    by none q e = absurd (let z : _≡_ {A = ℕ} 0 1 = cc in omega arith)
-    by (some x) q e =
-        let w : textSpan at (x .value) ≡ p = cc in
-        let k : x .value ≡ take (length (x .value)) (drop (at + 2) s) = text-ends (drop at s) x q .0 ∙ ap (λ (t : List ℕ). take (length (x .value)) t) (drop-drop 2 at s) in
-        subst (λ (z : Span). TextGot s at z) w (record {
-          value = x .value;
-          got = got-to (got text-sized s at x h q) (omega arith);
-          placed = refl;
-          part = rw (add-sub-cancel-left (at + 2) (length (x .value))) (sym k);
-        })
+text-got s at h e = places-got text-sized s at h e (λ q. cc) (λ a q. cc) (λ a. omega arith)
 
 pub text-not : (at : ℕ) (o : Option (Reading (List ℕ))) → textFrom at o ≡ T.Broken → o ≡ none
-text-not at none e = refl
-text-not at (some x) e = absurd (let z : _≡_ {A = ℕ} 0 1 = cc in omega arith)
+text-not at o e = nothing-got o e (λ a q. cc)
 
--- ---- an identifier part
+-- the part that the code lends
+pub text-part : (s : List ℕ) (at : ℕ) {p : Span} (g : TextGot s at p) → take (p .start + p .length - p .start) (drop (p .start) s) ≡ g .value
+text-part s at g =
+    rw (g .placed, add-sub-cancel-left (at + 2) (length (g .value)))
+    (sym (text-ends (drop at s) _ (g .got .reads) .0 ∙ ap (λ (t : List ℕ). take (length (g .value)) t) (drop-drop 2 at s)))
 
-pub record IdGot (flag : Bool) (s : List ℕ) (at : ℕ) (p : Span) : Type 0 where
-  pub value : List ℕ
-  pub got : Got (idText flag) s at value (p .start + p .length)
-  pub placed : p ≡ idSpan at value
+abbrev pub IdGot : Bool → List ℕ → ℕ → Span → Type 0
+IdGot flag s at p = PlacesGot (idText flag) idSpan spanEnd s at p
 
 pub id-got : (flag : Bool) (s : List ℕ) (at : ℕ) {p : Span} → at ≤ length s → idFrom at (idText flag .read (drop at s)) ≡ T.At p → IdGot flag s at p
-id-got flag s at {p} h e = by (idText flag .read (drop at s)) refl e
-  where
-    by : (o : Option (Reading (List ℕ))) → idText flag .read (drop at s) ≡ o → idFrom at o ≡ T.At p → IdGot flag s at p
-    by none q e = absurd (let z : _≡_ {A = ℕ} 0 1 = cc in omega arith)
-    by (some x) q e =
-        let w : idSpan at (x .value) ≡ p = cc in
-        subst (λ (z : Span). IdGot flag s at z) w (record { value = x .value; got = got-to (got (id-sized flag) s at x h q) (omega arith); placed = refl })
+id-got flag s at h e = places-got (id-sized flag) s at h e (λ q. cc) (λ a q. cc) (λ a. omega arith)
 
 pub id-not : (at : ℕ) (o : Option (Reading (List ℕ))) → idFrom at o ≡ T.Broken → o ≡ none
-id-not at none e = refl
-id-not at (some x) e = absurd (let z : _≡_ {A = ℕ} 0 1 = cc in omega arith)
+id-not at o e = nothing-got o e (λ a q. cc)
 
--- ---- a URI
-
-pub record UriGot (s : List ℕ) (at : ℕ) (p : Span) (secure : Bool) : Type 0 where
-  pub value : List ℕ
-  pub got : Got uriText s at value (p .start + p .length)
-  pub placed : p ≡ textSpan at value
-  pub told : secure ≡ isSips value
+-- with whether it is `sips`
+abbrev pub UriGot : List ℕ → ℕ → Span → Bool → Type 0
+UriGot s at p secure = PlacesGot {P = Span × Bool} uriText (λ at t. (textSpan at t, isSips t)) (λ q. spanEnd (q .0)) s at (p, secure)
 
 pub uri-got : (s : List ℕ) (at : ℕ) {p : Span} {b : Bool} → at ≤ length s → uriFrom at (uriText .read (drop at s)) ≡ U.At p b → UriGot s at p b
-uri-got s at {p} {b} h e = by (uriText .read (drop at s)) refl e
-  where
-    by : (o : Option (Reading (List ℕ))) → uriText .read (drop at s) ≡ o → uriFrom at o ≡ U.At p b → UriGot s at p b
-    by none q e = absurd (let z : _≡_ {A = ℕ} 0 1 = cc in omega arith)
-    by (some x) q e =
-        let w : textSpan at (x .value) ≡ p = cc in
-        let v : isSips (x .value) ≡ b = cc in
-        subst (λ (z : Span). UriGot s at z b) w (record { value = x .value; got = got-to (got uri-sized s at x h q) (omega arith); placed = refl; told = sym v })
+uri-got s at h e = places-got uri-sized s at h e (λ q. cc) (λ a q. cc) (λ a. omega arith)
 
 pub uri-not : (at : ℕ) (o : Option (Reading (List ℕ))) → uriFrom at o ≡ U.Broken → o ≡ none
-uri-not at none e = refl
-uri-not at (some x) e = absurd (let z : _≡_ {A = ℕ} 0 1 = cc in omega arith)
+uri-not at o e = nothing-got o e (λ a q. cc)
 
--- ---- numbers
+-- ---- numbers and routes: what the answer has of the value, and the place after it
 
-pub record NumberGot (flag : Bool) (s : List ℕ) (at n next : ℕ) : Type 0 where
-  pub got : Got (number flag) s at n next
-  pub placed : next ≡ at + numberSize n
+abbrev ShownGot : {A B : Type 0} → Codec A → (A → B) → (A → ℕ) → List ℕ → ℕ → B → ℕ → Type 0
+ShownGot {A} {B} form shown size s at n next = PlacesGot {P = B × ℕ} form (λ at a. (shown a, at + size a)) (λ q. q .1) s at (n, next)
+
+abbrev pub NumberGot : Bool → List ℕ → ℕ → ℕ → ℕ → Type 0
+NumberGot flag s at n next = ShownGot (number flag) (λ n. n) numberSize s at n next
 
 pub number-got : (flag : Bool) (s : List ℕ) (at : ℕ) {n next : ℕ} → at ≤ length s → numberAt at (number flag .read (drop at s)) ≡ N.Of n next → NumberGot flag s at n next
-number-got flag s at {n} {next} h e = by (number flag .read (drop at s)) refl e
-  where
-    by : (o : Option (Reading ℕ)) → number flag .read (drop at s) ≡ o → numberAt at o ≡ N.Of n next → NumberGot flag s at n next
-    by none q e = absurd (let z : _≡_ {A = ℕ} 0 1 = cc in omega arith)
-    by (some x) q e =
-        let v : x .value ≡ n = cc in
-        let w : at + numberSize (x .value) ≡ next = cc in
-        subst (λ (z : ℕ). NumberGot flag s at z next) v (record { got = got-to (got (number-sized flag) s at x h q) w; placed = sym w })
+number-got flag s at h e = places-got (number-sized flag) s at h e (λ q. cc) (λ a q. cc) (λ a. refl)
 
 pub number-not : (at : ℕ) (o : Option (Reading ℕ)) → numberAt at o ≡ N.Broken → o ≡ none
-number-not at none e = refl
-number-not at (some x) e = absurd (let z : _≡_ {A = ℕ} 0 1 = cc in omega arith)
+number-not at o e = nothing-got o e (λ a q. cc)
 
-pub record OptionalGot (flag : Bool) (s : List ℕ) (at : ℕ) (n : Optional) (next : ℕ) : Type 0 where
-  pub value : Option ℕ
-  pub got : Got (optional flag) s at value next
-  pub told : n ≡ numberFrom value
-  pub placed : next ≡ at + optionSize value
+abbrev pub OptionalGot : Bool → List ℕ → ℕ → Optional → ℕ → Type 0
+OptionalGot flag s at n next = ShownGot (optional flag) numberFrom optionSize s at n next
 
 pub optional-got : (flag : Bool) (s : List ℕ) (at : ℕ) {n : Optional} {next : ℕ} → at ≤ length s → optionalAt at (optional flag .read (drop at s)) ≡ O.Of n next → OptionalGot flag s at n next
-optional-got flag s at {n} {next} h e = by (optional flag .read (drop at s)) refl e
-  where
-    by : (o : Option (Reading (Option ℕ))) → optional flag .read (drop at s) ≡ o → optionalAt at o ≡ O.Of n next → OptionalGot flag s at n next
-    by none q e = absurd (let z : _≡_ {A = ℕ} 0 1 = cc in omega arith)
-    by (some x) q e =
-        let v : numberFrom (x .value) ≡ n = cc in
-        let w : at + optionSize (x .value) ≡ next = cc in
-        record { value = x .value; got = got-to (got (optional-sized flag) s at x h q) w; told = sym v; placed = sym w }
+optional-got flag s at h e = places-got (optional-sized flag) s at h e (λ q. cc) (λ a q. cc) (λ a. refl)
 
 pub optional-not : (at : ℕ) (o : Option (Reading (Option ℕ))) → optionalAt at o ≡ O.Broken → o ≡ none
-optional-not at none e = refl
-optional-not at (some x) e = absurd (let z : _≡_ {A = ℕ} 0 1 = cc in omega arith)
+optional-not at o e = nothing-got o e (λ a q. cc)
 
-pub record SideGot (flag : Bool) (s : List ℕ) (at : ℕ) (n : Refresher) (next : ℕ) : Type 0 where
-  pub value : Option Side
-  pub got : Got (refresherField flag) s at value next
-  pub told : n ≡ sideFrom value
-  pub placed : next ≡ at + optionSize value
+abbrev pub SideGot : Bool → List ℕ → ℕ → Refresher → ℕ → Type 0
+SideGot flag s at n next = ShownGot (refresherField flag) sideFrom optionSize s at n next
 
 pub side-got : (flag : Bool) (s : List ℕ) (at : ℕ) {n : Refresher} {next : ℕ} → at ≤ length s → refresherAt at (refresherField flag .read (drop at s)) ≡ F.Of n next → SideGot flag s at n next
-side-got flag s at {n} {next} h e = by (refresherField flag .read (drop at s)) refl e
-  where
-    by : (o : Option (Reading (Option Side))) → refresherField flag .read (drop at s) ≡ o → refresherAt at o ≡ F.Of n next → SideGot flag s at n next
-    by none q e = absurd (let z : _≡_ {A = ℕ} 0 1 = cc in omega arith)
-    by (some x) q e =
-        let v : sideFrom (x .value) ≡ n = cc in
-        let w : at + optionSize (x .value) ≡ next = cc in
-        record { value = x .value; got = got-to (got (side-sized flag) s at x h q) w; told = sym v; placed = sym w }
+side-got flag s at h e = places-got (side-sized flag) s at h e (λ q. cc) (λ a q. cc) (λ a. refl)
 
 pub side-not : (at : ℕ) (o : Option (Reading (Option Side))) → refresherAt at o ≡ F.Broken → o ≡ none
-side-not at none e = refl
-side-not at (some x) e = absurd (let z : _≡_ {A = ℕ} 0 1 = cc in omega arith)
+side-not at o e = nothing-got o e (λ a q. cc)
 
--- ---- routes, and the state byte
-
-pub record RoutesGot (flag : Bool) (s : List ℕ) (at count next : ℕ) : Type 0 where
-  pub value : List (List ℕ)
-  pub got : Got (routesField flag) s at value next
-  pub told : count ≡ length value
-  pub placed : next ≡ at + routesSize value
+abbrev pub RoutesGot : Bool → List ℕ → ℕ → ℕ → ℕ → Type 0
+RoutesGot flag s at count next = ShownGot (routesField flag) length routesSize s at count next
 
 pub routes-got : (flag : Bool) (s : List ℕ) (at : ℕ) {count next : ℕ} → at ≤ length s → routesAt at (routesField flag .read (drop at s)) ≡ R.Of count next → RoutesGot flag s at count next
-routes-got flag s at {count} {next} h e = by (routesField flag .read (drop at s)) refl e
-  where
-    by : (o : Option (Reading (List (List ℕ)))) → routesField flag .read (drop at s) ≡ o → routesAt at o ≡ R.Of count next → RoutesGot flag s at count next
-    by none q e = absurd (let z : _≡_ {A = ℕ} 0 1 = cc in omega arith)
-    by (some x) q e =
-        let v : length (x .value) ≡ count = cc in
-        let w : at + routesSize (x .value) ≡ next = cc in
-        record { value = x .value; got = got-to (got (routes-sized flag) s at x h q) w; told = sym v; placed = sym w }
+routes-got flag s at h e = places-got (routes-sized flag) s at h e (λ q. cc) (λ a q. cc) (λ a. refl)
 
 pub routes-not : (at : ℕ) (o : Option (Reading (List (List ℕ)))) → routesAt at o ≡ R.Broken → o ≡ none
-routes-not at none e = refl
-routes-not at (some x) e = absurd (let z : _≡_ {A = ℕ} 0 1 = cc in omega arith)
+routes-not at o e = nothing-got o e (λ a q. cc)
 
-pub record StateGot (s : List ℕ) (at : ℕ) (state : State) (uac secure : Bool) : Type 0 where
-  pub value : StateByte
-  pub got : Got stateByte s at value (at + 1)
-  pub state-told : state ≡ stateFrom (value .state)
-  pub uac-told : uac ≡ value .weAreUac
-  pub secure-told : secure ≡ value .secure
+-- ---- the state byte: the state, whether we are uac, and the secure bit
+
+abbrev pub StateGot : List ℕ → ℕ → State → Bool → Bool → Type 0
+StateGot s at state uac secure = PlacesGot {P = State × (Bool × Bool)} stateByte (λ at b. (stateFrom (b .state), (b .weAreUac, b .secure))) (λ q. at + 1) s at (state, (uac, secure))
 
 pub state-got : (s : List ℕ) (at : ℕ) {state : State} {uac secure : Bool} → at ≤ length s → stateFieldOf (stateByte .read (drop at s)) ≡ S.Of state uac secure → StateGot s at state uac secure
-state-got s at {state} {uac} {secure} h e = by (stateByte .read (drop at s)) refl e
-  where
-    by : (o : Option (Reading StateByte)) → stateByte .read (drop at s) ≡ o → stateFieldOf o ≡ S.Of state uac secure → StateGot s at state uac secure
-    by none q e = absurd (let z : _≡_ {A = ℕ} 0 1 = cc in omega arith)
-    by (some x) q e =
-        let u : stateFrom (x .value .state) ≡ state = cc in
-        let v : x .value .weAreUac ≡ uac = cc in
-        let w : x .value .secure ≡ secure = cc in
-        record { value = x .value; got = got state-sized s at x h q; state-told = sym u; uac-told = sym v; secure-told = sym w }
+state-got s at h e = places-got state-sized s at h e (λ q. cc) (λ a q. cc) (λ a. refl)
 
 pub state-not : (o : Option (Reading StateByte)) → stateFieldOf o ≡ S.Broken → o ≡ none
-state-not none e = refl
-state-not (some x) e = absurd (let z : _≡_ {A = ℕ} 0 1 = cc in omega arith)
+state-not o e = nothing-got o e (λ a q. cc)
 
 -- ---- sections
 
-pub record IdsGot (m : ℕ) (s : List ℕ) (at : ℕ) (p : IdsAt) : Type 0 where
-  pub value : Ids
-  pub got : Got (idsField m) s at value (p .end)
-  pub placed : p ≡ idsPlaces at value
+abbrev pub IdsGot : ℕ → List ℕ → ℕ → IdsAt → Type 0
+IdsGot m s at p = PlacesGot (idsField m) idsPlaces (λ (q : IdsAt). q .end) s at p
 
 pub ids-got : (m : ℕ) (s : List ℕ) (at : ℕ) {p : IdsAt} → at ≤ length s → idsFrom at (idsField m .read (drop at s)) ≡ IdsS.At p → IdsGot m s at p
-ids-got m s at {p} h e = by (idsField m .read (drop at s)) refl e
-  where
-    by : (o : Option (Reading Ids)) → idsField m .read (drop at s) ≡ o → idsFrom at o ≡ IdsS.At p → IdsGot m s at p
-    by none q e = absurd (let z : _≡_ {A = ℕ} 0 1 = cc in omega arith)
-    by (some x) q e =
-        let w : idsPlaces at (x .value) ≡ p = cc in
-        subst (λ (z : IdsAt). IdsGot m s at z) w (record { value = x .value; got = got-to (got (ids-sized m) s at x h q) (omega arith); placed = refl })
+ids-got m s at h e = places-got (ids-sized m) s at h e (λ q. cc) (λ a q. cc) (λ a. omega arith)
 
 pub ids-not : (at : ℕ) (o : Option (Reading Ids)) → idsFrom at o ≡ IdsS.Broken → o ≡ none
-ids-not at none e = refl
-ids-not at (some x) e = absurd (let z : _≡_ {A = ℕ} 0 1 = cc in omega arith)
+ids-not at o e = nothing-got o e (λ a q. cc)
 
-pub record UrisGot (s : List ℕ) (at : ℕ) (p : UrisAt) : Type 0 where
-  pub value : Uris
-  pub got : Got urisField s at value (p .end)
-  pub placed : p ≡ urisPlaces at value
+abbrev pub UrisGot : List ℕ → ℕ → UrisAt → Type 0
+UrisGot s at p = PlacesGot urisField urisPlaces (λ (q : UrisAt). q .end) s at p
 
 pub uris-got : (s : List ℕ) (at : ℕ) {p : UrisAt} → at ≤ length s → urisFrom at (urisField .read (drop at s)) ≡ UrisS.At p → UrisGot s at p
-uris-got s at {p} h e = by (urisField .read (drop at s)) refl e
-  where
-    by : (o : Option (Reading Uris)) → urisField .read (drop at s) ≡ o → urisFrom at o ≡ UrisS.At p → UrisGot s at p
-    by none q e = absurd (let z : _≡_ {A = ℕ} 0 1 = cc in omega arith)
-    by (some x) q e =
-        let w : urisPlaces at (x .value) ≡ p = cc in
-        subst (λ (z : UrisAt). UrisGot s at z) w (record { value = x .value; got = got-to (got uris-sized s at x h q) (omega arith); placed = refl })
+uris-got s at h e = places-got uris-sized s at h e (λ q. cc) (λ a q. cc) (λ a. omega arith)
 
 pub uris-not : (at : ℕ) (o : Option (Reading Uris)) → urisFrom at o ≡ UrisS.Broken → o ≡ none
-uris-not at none e = refl
-uris-not at (some x) e = absurd (let z : _≡_ {A = ℕ} 0 1 = cc in omega arith)
+uris-not at o e = nothing-got o e (λ a q. cc)
 
-pub record TailGot (m : ℕ) (s : List ℕ) (at : ℕ) (p : TailAt) : Type 0 where
-  pub value : Tail
-  pub got : Got (tailField m) s at value (p .end)
-  pub placed : p ≡ tailPlaces at value
+abbrev pub TailGot : ℕ → List ℕ → ℕ → TailAt → Type 0
+TailGot m s at p = PlacesGot (tailField m) tailPlaces (λ (q : TailAt). q .end) s at p
 
 pub tail-got : (m : ℕ) (s : List ℕ) (at : ℕ) {p : TailAt} → at ≤ length s → tailFrom at (tailField m .read (drop at s)) ≡ TailS.At p → TailGot m s at p
-tail-got m s at {p} h e = by (tailField m .read (drop at s)) refl e
-  where
-    by : (o : Option (Reading Tail)) → tailField m .read (drop at s) ≡ o → tailFrom at o ≡ TailS.At p → TailGot m s at p
-    by none q e = absurd (let z : _≡_ {A = ℕ} 0 1 = cc in omega arith)
-    by (some x) q e =
-        let w : tailPlaces at (x .value) ≡ p = cc in
-        subst (λ (z : TailAt). TailGot m s at z) w (record { value = x .value; got = got-to (got (tail-sized m) s at x h q) (omega arith); placed = refl })
+tail-got m s at h e = places-got (tail-sized m) s at h e (λ q. cc) (λ a q. cc) (λ a. omega arith)
 
 pub tail-not : (at : ℕ) (o : Option (Reading Tail)) → tailFrom at o ≡ TailS.Broken → o ≡ none
-tail-not at none e = refl
-tail-not at (some x) e = absurd (let z : _≡_ {A = ℕ} 0 1 = cc in omega arith)
+tail-not at o e = nothing-got o e (λ a q. cc)
 
 -- ---- a record, for callers
 
-pub record RecordGot (s : List ℕ) (at : ℕ) (p : RecordAt) : Type 0 where
-  pub value : Record
-  pub got : Got image s at value (p .end)
-  pub placed : p ≡ recordPlaces at value
+abbrev pub RecordGot : List ℕ → ℕ → RecordAt → Type 0
+RecordGot s at p = PlacesGot image recordPlaces (λ (q : RecordAt). q .end) s at p
 
 pub record-got : (s : List ℕ) (at : ℕ) {p : RecordAt} → at ≤ length s → recordFrom at (image .read (drop at s)) ≡ Whole.Whole p → RecordGot s at p
-record-got s at {p} h e = by (image .read (drop at s)) refl e
-  where
-    by : (o : Option (Reading Record)) → image .read (drop at s) ≡ o → recordFrom at o ≡ Whole.Whole p → RecordGot s at p
-    by none q e = absurd (let z : _≡_ {A = ℕ} 0 1 = cc in omega arith)
-    by (some x) q e =
-        let w : recordPlaces at (x .value) ≡ p = cc in
-        subst (λ (z : RecordAt). RecordGot s at z) w (record { value = x .value; got = got-to (got record-sized s at x h q) (omega arith); placed = refl })
+record-got s at h e = places-got record-sized s at h e (λ q. cc) (λ a q. cc) (λ a. omega arith)
 
 pub record-not : (at : ℕ) (o : Option (Reading Record)) → recordFrom at o ≡ Whole.Broken → o ≡ none
-record-not at none e = refl
-record-not at (some x) e = absurd (let z : _≡_ {A = ℕ} 0 1 = cc in omega arith)
+record-not at o e = nothing-got o e (λ a q. cc)

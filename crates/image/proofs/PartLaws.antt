@@ -33,7 +33,7 @@ use Rattle.image.specs.declared.parts.Number.the-variants as N
 use Rattle.image.specs.declared.parts.OptionalNumber.the-variants as O
 use Rattle.image.specs.declared.parts.RefresherNumber.the-variants as F
 use Rattle.image.specs.declared.parts.StateField.the-variants as S
-use Rattle.image.proofs.AnswerLaws.{TextGot, text-got, text-not}
+use Rattle.image.proofs.AnswerLaws.{TextGot, text-got, text-not, text-part}
 use Rattle.image.proofs.UriLaws.{secure-is}
 
 -- ---- one, two and four bytes
@@ -131,7 +131,7 @@ module _ (s : List ℕ) (at : ℕ) where
         by-value (x ∷ t) rest g k = (λ z. rw (← k, z) (ap T.At g), λ z. rw (← k, z))
 
         known : (v ≡ true → T.At p ≡ idFrom at (idText b .read (drop at s))) × (v ≡ false → T.Broken ≡ idFrom at (idText b .read (drop at s)))
-        known = rw (f, id-text .got .reads) (by-value (id-text .value) _ (id-text .placed) (a ∙ ap (λ (t : List ℕ). all isValue t) (id-text .part)))
+        known = rw (f, id-text .got .reads) (by-value (id-text .value) _ (id-text .placed) (a ∙ ap (λ (t : List ℕ). all isValue t) (text-part s at id-text)))
 
         pub id-unfit : v ≡ false → T.Broken ≡ idFrom at (idText b .read (drop at s))
         id-unfit z = known .1 z
@@ -153,11 +153,11 @@ module _ (s : List ℕ) (at : ℕ) where
       uri-inside = uri-text .got .within
 
       pub uri-unread : answerOf (sipUri (take (p .start + p .length - p .start) (drop (p .start) s))) ≡ uri.Unreadable → U.Broken ≡ uriFrom at (uriText .read (drop at s))
-      uri-unread g = rw (uri-text .got .reads, unread (sipUri (uri-text .value)) (rw (uri-text .part) at g))
+      uri-unread g = rw (uri-text .got .reads, unread (sipUri (uri-text .value)) (rw (text-part s at uri-text) at g))
 
       pub uri-whole : {u : SipUri} → answerOf (sipUri (take (p .start + p .length - p .start) (drop (p .start) s))) ≡ uri.Read u → U.At p (u .secure) ≡ uriFrom at (uriText .read (drop at s))
       uri-whole {u} g =
-          let k : PartsRead (sipUri (uri-text .value)) u = read (sipUri (uri-text .value)) (rw (uri-text .part) at g) in
+          let k : PartsRead (sipUri (uri-text .value)) u = read (sipUri (uri-text .value)) (rw (text-part s at uri-text) at g) in
           rw (uri-text .got .reads, k .reads) (ap₂ U.At (uri-text .placed) (ap (λ (x : SipUri). x .secure) (sym (k .told)) ∙ secure-is (uri-text .value) (k .reads)))
 
   -- ---- numbers

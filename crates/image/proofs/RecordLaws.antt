@@ -27,7 +27,7 @@ use Rattle.image.specs.declared.sections.TailSection.the-variants as Tai
 use Rattle.image.specs.declared.RecordAt.{RecordAt}
 use Rattle.image.specs.declared.RecordReading.the-variants as Whole
 use Rattle.image.proofs.PartLaws.{two-none}
-use Rattle.image.proofs.AnswerLaws.{IdsGot, ids-not, StateGot, state-not, UrisGot, uris-not, TailGot, tail-not}
+use Rattle.image.proofs.AnswerLaws.{both, IdsGot, ids-not, StateGot, state-not, UrisGot, uris-not, TailGot, tail-not}
 use Rattle.image.proofs.MapBits.{isMap, map-is, map-not, ids-give, tail-gives}
 
 -- ---- the secure bit: v is what the code holds it against
@@ -121,7 +121,7 @@ module _ (s : List ℕ) (at : ℕ) where
         module _ {u : UrisAt} (z : UrisGot s (p .end + 1) u) where
           -- the secure bit, as the code has it and as the definition does
           right-is : Bool·beq (y .value .secure) (isSecure (z .value)) ≡ Bool·beq secure (u .«local_secure» || u .«remote_secure»)
-          right-is = cc (y .secure-told, z .placed)
+          right-is = cc (both (both (y .placed) .1) .1, z .placed)
 
           pub wrong-bit : Bool·beq secure (u .«local_secure» || u .«remote_secure») ≡ false → Whole.Broken ≡ recordFrom at (image .read (drop at s))
           wrong-bit e = rw (k, x .got .reads, y .got .reads, z .got .reads) (by (tailField m .read (drop (u .end) s)))
@@ -145,4 +145,4 @@ module _ (s : List ℕ) (at : ℕ) where
             mapped-right = map-is m all f (ids-give m .holds (drop (at + 2) s) _ (x .got .reads)) (tail-gives m .holds (drop (u .end) s) _ (w .got .reads))
 
             pub record-whole : {r : RecordAt} → r ≡ made p state uac u t → Whole.Whole r ≡ recordFrom at (image .read (drop at s))
-            record-whole e = rw (k, x .got .reads, y .got .reads, z .got .reads, w .got .reads, mapped-right, right-is, g) (ap Whole.Whole (e ∙ made-is at all (x .placed) (y .state-told) (y .uac-told) (z .placed) (w .placed)))
+            record-whole e = rw (k, x .got .reads, y .got .reads, z .got .reads, w .got .reads, mapped-right, right-is, g) (ap Whole.Whole (e ∙ made-is at all (x .placed) (both (y .placed) .0) (both (both (y .placed) .1) .0) (z .placed) (w .placed)))

@@ -17,7 +17,7 @@ use Rattle.image.specs.declared.parts.Routes.{Routes}
 use Rattle.image.specs.declared.parts.Routes.the-variants as R
 use Rattle.image.proofs.SizeLaws.{texts-end}
 use Rattle.image.proofs.PartLaws.{byte-at, byte-none}
-use Rattle.image.proofs.AnswerLaws.{UriGot}
+use Rattle.image.proofs.AnswerLaws.{both, UriGot}
 
 -- gone on with, where i texts were read before and the next would begin at `end`
 abbrev pub resume : ℕ → ℕ → Option (Reading (List (List ℕ))) → Routes
@@ -37,7 +37,7 @@ module _ (s : List ℕ) (i count end : ℕ) where
   unfolding readAll
   turn h {p} g =
       let k : count - i ≡ suc (count - (i + 1)) = omega arith in
-      let e : end + 2 + length (g .value) ≡ p .start + p .length = ap (λ (x : Span). x .start + x .length) (sym (g .placed)) in
+      let e : end + 2 + length (g .value) ≡ p .start + p .length = ap (λ (x : Span). x .start + x .length) (sym (both (g .placed) .0)) in
       rw (k, g .got .reads) (one-more i end (g .value) (readAll uriText (count - (i + 1)) (drop (p .start + p .length) s)) ∙ ap (λ (n : ℕ). resume (i + 1) n (readAll uriText (count - (i + 1)) (drop (p .start + p .length) s))) e)
 
   pub stop : i < count → uriText .read (drop end s) ≡ none → resume i end (readAll uriText (count - i) (drop end s)) ≡ R.Broken

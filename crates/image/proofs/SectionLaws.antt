@@ -23,7 +23,7 @@ use Rattle.image.specs.declared.parts.Routes.the-variants as R
 use Rattle.image.specs.declared.sections.IdsSection.the-variants as IdsS
 use Rattle.image.specs.declared.sections.UrisSection.the-variants as UrisS
 use Rattle.image.specs.declared.sections.TailSection.the-variants as TailS
-use Rattle.image.proofs.AnswerLaws.{IdGot, id-got, id-not, UriGot, NumberGot, number-got, number-not, OptionalGot, optional-got, optional-not, SideGot, side-got, side-not, RoutesGot, routes-got, routes-not}
+use Rattle.image.proofs.AnswerLaws.{both, IdGot, id-got, id-not, UriGot, NumberGot, number-got, number-not, OptionalGot, optional-got, optional-not, SideGot, side-got, side-not, RoutesGot, routes-got, routes-not}
 
 -- ---- in a caller's words: r is what the call gave, b the bit that it was handed
 
@@ -92,7 +92,9 @@ module _ (s : List ℕ) (at : ℕ) where
 
       pub uris-whole : {c : Span} {sc : Bool} → UriGot s (b .start + b .length) c sc
           → UrisS.At (record { target = a; «local_uri» = b; «remote_uri» = c; «local_secure» = sb; «remote_secure» = sc; end = c .start + c .length }) ≡ urisFrom at (urisField .read (drop at s))
-      uris-whole z = rw (x .got .reads, y .got .reads, z .got .reads) (cc (x .placed, y .placed, z .placed, y .told, z .told))
+      uris-whole z =
+          rw (x .got .reads, y .got .reads, z .got .reads)
+          (cc (both (x .placed) .0, both (y .placed) .0, both (z .placed) .0, both (y .placed) .1, both (z .placed) .1))
 
 -- ---- the numbers and the routes
 
@@ -124,4 +126,17 @@ module _ (m : ℕ) (s : List ℕ) (at : ℕ) where
                 → TailS.At (record { local = i; remote = j; «last_ack» = k; seconds = l; refresher = n; routes = f; «route_count» = count; end = g }) ≡ tailFrom at (tailField m .read (drop at s))
             tail-whole x6 =
                 rw (x1 .got .reads, x2 .got .reads, x3 .got .reads, x4 .got .reads, x5 .got .reads, x6 .got .reads)
-                (cc (x1 .placed, x2 .placed, x3 .placed, x4 .placed, x5 .placed, x6 .placed, x3 .told, x4 .told, x5 .told, x6 .told))
+                (cc (
+                  both (x1 .placed) .0,
+                  both (x2 .placed) .0,
+                  both (x3 .placed) .0,
+                  both (x4 .placed) .0,
+                  both (x5 .placed) .0,
+                  both (x6 .placed) .0,
+                  both (x1 .placed) .1,
+                  both (x2 .placed) .1,
+                  both (x3 .placed) .1,
+                  both (x4 .placed) .1,
+                  both (x5 .placed) .1,
+                  both (x6 .placed) .1,
+                ))

@@ -2,16 +2,14 @@
 -- fields whose bit stands, in bit order. A text lies past its two length bytes; one whose bit doesn't stand lies where it would begin,
 -- with length 0. What the parts are is `image .read` alone (record/specs/Record.antt); here are only their places.
 use Prim.Native.Nat.{ℕ, _+_, _*_}
-use mathlib.Core.Bool.{Bool, true, false}
 use mathlib.Core.List.{List, [], _∷_}
 use mathlib.Core.Option.{Option, none, some}
 use lib.ListN.{length}
 use lib.Dec.{ltb}
 use Rattle.text.specs.declared.Span.{Span}
 use Rattle.record.specs.Codec.{Reading}
-use Rattle.record.specs.Record.{Side, Record, Numbers, Ids, Uris, Tail, StateByte, bitOf, isFilled, isGiven, isSips, routesField}
+use Rattle.record.specs.Record.{Side, Record, Numbers, Ids, Uris, Tail, StateByte, bitOf, isFilled, isGiven, isSips}
 use Rattle.record.specs.NumbersForm.{stateFrom, numberFrom, sideFrom, numbersFrom}
-use Rattle.record.specs.declared.numbers.Optional.{Optional}
 use Rattle.image.specs.declared.parts.Text.{Text}
 use Rattle.image.specs.declared.parts.Text.the-variants as text
 use Rattle.image.specs.declared.parts.UriText.{UriText}
@@ -62,6 +60,11 @@ routesSize ts = bitOf (isFilled ts) + textsSize ts
 
 -- ---- one field
 
+-- what a reader answers: that it is broken, or what it tells of the value
+abbrev pub answered : {A R : Type 0} → R → (A → R) → Option (Reading A) → R
+answered broken tell none = broken
+answered broken tell (some x) = tell (x .value)
+
 abbrev pub idSpan : ℕ → List ℕ → Span
 idSpan at t = record { start = at + lead t; length = length t }
 
@@ -75,39 +78,31 @@ abbrev pub textEnd : ℕ → List ℕ → ℕ
 textEnd at t = at + 2 + length t
 
 abbrev pub textFrom : ℕ → Option (Reading (List ℕ)) → Text
-textFrom at none = text.Broken
-textFrom at (some x) = text.At (textSpan at (x .value))
+textFrom at o = answered text.Broken (λ v. text.At (textSpan at v)) o
 
 abbrev pub idFrom : ℕ → Option (Reading (List ℕ)) → Text
-idFrom at none = text.Broken
-idFrom at (some x) = text.At (idSpan at (x .value))
+idFrom at o = answered text.Broken (λ v. text.At (idSpan at v)) o
 
 -- with whether it is `sips`
 abbrev pub uriFrom : ℕ → Option (Reading (List ℕ)) → UriText
-uriFrom at none = uriText.Broken
-uriFrom at (some x) = uriText.At (textSpan at (x .value)) (isSips (x .value))
+uriFrom at o = answered uriText.Broken (λ v. uriText.At (textSpan at v) (isSips v)) o
 
 -- a number and the place after it
 abbrev pub numberAt : ℕ → Option (Reading ℕ) → Number
-numberAt at none = number.Broken
-numberAt at (some x) = number.Of (x .value) (at + numberSize (x .value))
+numberAt at o = answered number.Broken (λ v. number.Of v (at + numberSize v)) o
 
 abbrev pub optionalAt : ℕ → Option (Reading (Option ℕ)) → OptionalNumber
-optionalAt at none = optionalNumber.Broken
-optionalAt at (some x) = optionalNumber.Of (numberFrom (x .value)) (at + optionSize (x .value))
+optionalAt at o = answered optionalNumber.Broken (λ v. optionalNumber.Of (numberFrom v) (at + optionSize v)) o
 
 abbrev pub refresherAt : ℕ → Option (Reading (Option Side)) → RefresherNumber
-refresherAt at none = refresherNumber.Broken
-refresherAt at (some x) = refresherNumber.Of (sideFrom (x .value)) (at + optionSize (x .value))
+refresherAt at o = answered refresherNumber.Broken (λ v. refresherNumber.Of (sideFrom v) (at + optionSize v)) o
 
 -- how many routes, and the place after them
 abbrev pub routesAt : ℕ → Option (Reading (List (List ℕ))) → Routes
-routesAt at none = routes.Broken
-routesAt at (some x) = routes.Of (length (x .value)) (at + routesSize (x .value))
+routesAt at o = answered routes.Broken (λ v. routes.Of (length v) (at + routesSize v)) o
 
 abbrev pub stateFieldOf : Option (Reading StateByte) → StateField
-stateFieldOf none = stateField.Broken
-stateFieldOf (some x) = stateField.Of (stateFrom (x .value .state)) (x .value .weAreUac) (x .value .secure)
+stateFieldOf o = answered stateField.Broken (λ v. stateField.Of (stateFrom (v .state)) (v .weAreUac) (v .secure)) o
 
 -- ---- the sections of an image
 
@@ -118,8 +113,7 @@ idsPlaces at i =
     record { «call_id» = idSpan at (i .first); «local_tag» = idSpan local (i .second .first); «remote_tag» = idSpan remote (i .second .second); end = idEnd remote (i .second .second) }
 
 abbrev pub idsFrom : ℕ → Option (Reading Ids) → IdsSection
-idsFrom at none = idsSection.Broken
-idsFrom at (some x) = idsSection.At (idsPlaces at (x .value))
+idsFrom at o = answered idsSection.Broken (λ v. idsSection.At (idsPlaces at v)) o
 
 abbrev pub urisPlaces : ℕ → Uris → UrisAt
 urisPlaces at u =
@@ -135,8 +129,7 @@ urisPlaces at u =
     }
 
 abbrev pub urisFrom : ℕ → Option (Reading Uris) → UrisSection
-urisFrom at none = urisSection.Broken
-urisFrom at (some x) = urisSection.At (urisPlaces at (x .value))
+urisFrom at o = answered urisSection.Broken (λ v. urisSection.At (urisPlaces at v)) o
 
 abbrev pub tailPlaces : ℕ → Tail → TailAt
 tailPlaces at t =
@@ -157,8 +150,7 @@ tailPlaces at t =
     }
 
 abbrev pub tailFrom : ℕ → Option (Reading Tail) → TailSection
-tailFrom at none = tailSection.Broken
-tailFrom at (some x) = tailSection.At (tailPlaces at (x .value))
+tailFrom at o = answered tailSection.Broken (λ v. tailSection.At (tailPlaces at v)) o
 
 -- ---- the record
 
@@ -188,5 +180,4 @@ recordPlaces at r =
     }
 
 abbrev pub recordFrom : ℕ → Option (Reading Record) → RecordReading
-recordFrom at none = reading.Broken
-recordFrom at (some x) = reading.Whole (recordPlaces at (x .value))
+recordFrom at o = answered reading.Broken (λ v. reading.Whole (recordPlaces at v)) o

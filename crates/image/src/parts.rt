@@ -202,7 +202,7 @@ pub fn read_state(bytes: &[u8], at: usize) -> StateField
 }
 
 // Two length bytes, then as many bytes.
-fn read_text(bytes: &[u8], at: usize) -> Text
+pub fn read_text(bytes: &[u8], at: usize) -> Text
     requires { ⌜ at ≤ length (now bytes) ⌝ }
     ensures { λ r. ⌜ r ≡ textFrom at (text .read (drop at (now (bytes .entry)))) ⌝ }
 {

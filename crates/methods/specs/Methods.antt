@@ -1,5 +1,5 @@
 -- The methods that the Rust's `parse_method` knows, in its order: document 01 numbers them from 1 (refusal 28).
--- RFC 3261 section 7.1 tells method names apart by letter case; the Rust, and so this reading, doesn't.
+-- RFC 3261 tells method names apart by letter case (sections 20.16 and 25.1); the Rust, and so this reading, doesn't.
 use Prim.Native.Nat.{ℕ, suc, _-_}
 use mathlib.Core.Bool.{Bool, cond, not}
 use mathlib.Core.List.{List, [], _∷_}

@@ -10,9 +10,9 @@ use lib.Seq.{take-append-seam, drop-append-seam, drop-append-add}
 use Rattle.edit.specs.Edit.{spliced}
 use Rattle.record.specs.Codec.{Codec, writeAll}
 use Rattle.record.proofs.CodecLaws.{GoodAll}
-use Rattle.ordered_store.specs.Entries.{Key, seated, encodeEntries, ascendingFrom, ascending, entryOf, setEntry, withoutEntry}
+use Rattle.ordered_store.specs.Entries.{Key, setBy, encodeEntries, ascendingFrom, ascending, entryOf, setEntry, withoutEntry}
 use Rattle.ordered_store.specs.Order.{keyOrder, isBefore, isSame}
-use Rattle.ordered_store.specs.Seat.{Seat, held, free, seatBy, seatIn}
+use Rattle.ordered_store.specs.Slot.{Slot, held, free, slotBy, slotIn}
 use Rattle.ordered_store.specs.declared.Order.{Order}
 use Rattle.ordered_store.specs.declared.Order.the-variants.{Before, Same, After}
 use Rattle.ordered_store.proofs.OrderLaws.{flip, key-itself, key-equal, key-mirror, key-transitive}
@@ -46,15 +46,15 @@ module _ {A : Type 0} (keyOf : A → Key) where
   module _ (a e : A) (es : List A) where
     pub set-past : keyOrder (keyOf e) (keyOf a) ≡ Before → setEntry keyOf a (e ∷ es) ≡ e ∷ setEntry keyOf a es
     unfolding setEntry
-    set-past h = ap (λ o. seated o a e es (setEntry keyOf a es)) h
+    set-past h = ap (λ o. setBy o a e es (setEntry keyOf a es)) h
 
     pub set-here : keyOrder (keyOf e) (keyOf a) ≡ Same → setEntry keyOf a (e ∷ es) ≡ a ∷ es
     unfolding setEntry
-    set-here h = ap (λ o. seated o a e es (setEntry keyOf a es)) h
+    set-here h = ap (λ o. setBy o a e es (setEntry keyOf a es)) h
 
     pub set-ahead : keyOrder (keyOf e) (keyOf a) ≡ After → setEntry keyOf a (e ∷ es) ≡ a ∷ e ∷ es
     unfolding setEntry
-    set-ahead h = ap (λ o. seated o a e es (setEntry keyOf a es)) h
+    set-ahead h = ap (λ o. setBy o a e es (setEntry keyOf a es)) h
 
   module _ (k : Key) (e : A) (es : List A) where
     pub of-here : keyOrder (keyOf e) k ≡ Same → entryOf keyOf k (e ∷ es) ≡ some e
@@ -127,7 +127,7 @@ module _ {A : Type 0} (keyOf : A → Key) where
   set-ascends a [] k = refl
   set-ascends a (e ∷ es) k = by (keyOrder (keyOf e) (keyOf a)) refl
     where
-      by : (o : Order) → keyOrder (keyOf e) (keyOf a) ≡ o → ascending keyOf (seated o a e es (setEntry keyOf a es)) ≡ true
+      by : (o : Order) → keyOrder (keyOf e) (keyOf a) ≡ o → ascending keyOf (setBy o a e es (setEntry keyOf a es)) ≡ true
       by Before p = set-from a e es p k
       by Same p = sym (key-alone e a es (key-equal (keyOf e) (keyOf a) p)) ∙ k
       by After p = ascends a e es (turned (keyOf e) (keyOf a) After p) k
@@ -169,7 +169,7 @@ module _ {A : Type 0} (keyOf : A → Key) where
     set-good a [] g h = (g, tt)
     set-good a (e ∷ es) g h = by (keyOrder (keyOf e) (keyOf a)) (set-good a es g (h .1))
       where
-        by : (o : Order) → GoodAll Good (setEntry keyOf a es) → GoodAll Good (seated o a e es (setEntry keyOf a es))
+        by : (o : Order) → GoodAll Good (setEntry keyOf a es) → GoodAll Good (setBy o a e es (setEntry keyOf a es))
         by Before more = (h .0, more)
         by Same more = (g, h .1)
         by After more = (g, (h .0, h .1))
@@ -199,7 +199,7 @@ module _ {A : Type 0} (keyOf : A → Key) where
   set-found a [] = of-here (keyOf a) a [] (key-itself (keyOf a))
   set-found a (e ∷ es) = by (keyOrder (keyOf e) (keyOf a)) refl (set-found a es)
     where
-      by : (o : Order) → keyOrder (keyOf e) (keyOf a) ≡ o → entryOf keyOf (keyOf a) (setEntry keyOf a es) ≡ some a → entryOf keyOf (keyOf a) (seated o a e es (setEntry keyOf a es)) ≡ some a
+      by : (o : Order) → keyOrder (keyOf e) (keyOf a) ≡ o → entryOf keyOf (keyOf a) (setEntry keyOf a es) ≡ some a → entryOf keyOf (keyOf a) (setBy o a e es (setEntry keyOf a es)) ≡ some a
       by Before p more = of-past (keyOf a) e (setEntry keyOf a es) (ap isSame p) ∙ more
       by Same p more = of-here (keyOf a) a es (key-itself (keyOf a))
       by After p more = of-here (keyOf a) a (e ∷ es) (key-itself (keyOf a))
@@ -316,11 +316,11 @@ module _ {A : Type 0} (form : Codec A) (keyOf : A → Key) where
     pub later : Later keyOf k back
     pub place-is : place ≡ at + length (encodeEntries form front)
 
-  abbrev Sits : Key → ℕ → List A → Seat A → Type 0
+  abbrev Sits : Key → ℕ → List A → Slot A → Type 0
   Sits k at es (held place e) = Held k at place e es
   Sits k at es (free place) = Free k at place es
 
-  sits-past : (k : Key) (at : ℕ) (e : A) (es : List A) → keyOrder (keyOf e) k ≡ Before → (s : Seat A) → Sits k (at + length (form .write e)) es s → Sits k at (e ∷ es) s
+  sits-past : (k : Key) (at : ℕ) (e : A) (es : List A) → keyOrder (keyOf e) k ≡ Before → (s : Slot A) → Sits k (at + length (form .write e)) es s → Sits k at (e ∷ es) s
   unfolding writeAll
   sits-past k at e es p (held place f) s = record {
     front = e ∷ s .front;
@@ -339,22 +339,22 @@ module _ {A : Type 0} (form : Codec A) (keyOf : A → Key) where
     place-is = omega (arith, s .place-is, length-append (form .write e) (writeAll form (s .front)));
   }
 
-  sits : (k : Key) (at : ℕ) (es : List A) → Sits k at es (seatIn form keyOf k at es)
-  unfolding seatIn writeAll
+  sits : (k : Key) (at : ℕ) (es : List A) → Sits k at es (slotIn form keyOf k at es)
+  unfolding slotIn writeAll
   sits k at [] = record { front = []; back = []; split = refl; before = tt; later = tt; place-is = omega arith }
   sits k at (e ∷ es) = by (keyOrder (keyOf e) k) refl (sits k (at + length (form .write e)) es)
     where
-      by : (o : Order) → keyOrder (keyOf e) k ≡ o → Sits k (at + length (form .write e)) es (seatIn form keyOf k (at + length (form .write e)) es)
-          → Sits k at (e ∷ es) (seatBy o at e (seatIn form keyOf k (at + length (form .write e)) es))
-      by Before p more = sits-past k at e es p (seatIn form keyOf k (at + length (form .write e)) es) more
+      by : (o : Order) → keyOrder (keyOf e) k ≡ o → Sits k (at + length (form .write e)) es (slotIn form keyOf k (at + length (form .write e)) es)
+          → Sits k at (e ∷ es) (slotBy o at e (slotIn form keyOf k (at + length (form .write e)) es))
+      by Before p more = sits-past k at e es p (slotIn form keyOf k (at + length (form .write e)) es) more
       by Same p more = record { front = []; back = es; split = refl; before = tt; same = p; place-is = omega arith }
       by After p more = record { front = []; back = e ∷ es; split = refl; before = tt; later = p; place-is = omega arith }
 
   -- a forward search that stops at the first later key says where the entry stands
-  pub held-at : (k : Key) (es : List A) {place : ℕ} {e : A} → seatIn form keyOf k 0 es ≡ held place e → Held k 0 place e es
+  pub held-at : (k : Key) (es : List A) {place : ℕ} {e : A} → slotIn form keyOf k 0 es ≡ held place e → Held k 0 place e es
   held-at k es q = subst (Sits k 0 es) q (sits k 0 es)
 
-  pub free-at : (k : Key) (es : List A) {place : ℕ} → seatIn form keyOf k 0 es ≡ free place → Free k 0 place es
+  pub free-at : (k : Key) (es : List A) {place : ℕ} → slotIn form keyOf k 0 es ≡ free place → Free k 0 place es
   free-at k es q = subst (Sits k 0 es) q (sits k 0 es)
 
   module _ (k : Key) (es : List A) (place : ℕ) (e : A) (h : Held k 0 place e es) where

@@ -1,6 +1,11 @@
 pub mod BytesLaws
 pub mod CompareLaws
+pub mod CountLaws
 pub mod EntryLaws
 pub mod HistoryLaws
+pub mod KeyLaws
 pub mod OrderLaws
+pub mod PlaceLaws
 pub mod RunLaws
+pub mod SearchLaws
+pub mod SlotLaws

@@ -109,6 +109,23 @@ order-transitive (x ∷ s) (y ∷ t) (v ∷ u) d e =
     (λ p. ap (λ z. byteOrder x z) (sym (same-byte y v p)))
     (order-transitive s t u) d e
 
+-- ---- a text's first byte
+
+module _ (x y : ℕ) (s t : List ℕ) where
+  -- where the first bytes differ, they decide
+  pub byte-less : x < y → order (x ∷ s) (y ∷ t) ≡ Before
+  unfolding order
+  byte-less h = ap (λ o. orNext o (order s t)) (byte-before x y h)
+
+  pub byte-more : y < x → order (x ∷ s) (y ∷ t) ≡ After
+  unfolding order
+  byte-more h = ap (λ o. orNext o (order s t)) (byte-mirror y x ∙ ap flip (byte-before y x h))
+
+  -- where they are the same, the others decide
+  pub byte-same : x ≡ y → order (x ∷ s) (y ∷ t) ≡ order s t
+  unfolding order
+  byte-same e = ap (λ z. orNext (byteOrder x z) (order s t)) (sym e) ∙ ap (λ o. orNext o (order s t)) (byte-itself x)
+
 -- ---- keys
 
 pub key-itself : (k : List (List ℕ)) → keyOrder k k ≡ Same

@@ -28,10 +28,10 @@ unlessEnded [] more = some []
 unlessEnded (b ∷ s) more = more
 
 -- an entry set among those before it, in its place, or after it
-abbrev pub seated : {A : Type 0} → Order → A → A → List A → List A → List A
-seated Before a e rest later = e ∷ later
-seated Same a e rest later = a ∷ rest
-seated After a e rest later = a ∷ e ∷ rest
+abbrev pub setBy : {A : Type 0} → Order → A → A → List A → List A → List A
+setBy Before a e rest later = e ∷ later
+setBy Same a e rest later = a ∷ rest
+setBy After a e rest later = a ∷ e ∷ rest
 
 module _ {A : Type 0} (form : Codec A) where
   abbrev pub encodeEntries : List A → List ℕ
@@ -62,7 +62,7 @@ module _ {A : Type 0} (keyOf : A → Key) where
   -- an entry set: in the place of the one of its key, or before the first whose key comes after its own
   unfoldable pub setEntry : A → List A → List A
   setEntry a [] = a ∷ []
-  setEntry a (e ∷ es) = seated (keyOrder (keyOf e) (keyOf a)) a e es (setEntry a es)
+  setEntry a (e ∷ es) = setBy (keyOrder (keyOf e) (keyOf a)) a e es (setEntry a es)
 
   -- all but the entry of a key
   unfoldable pub withoutEntry : Key → List A → List A

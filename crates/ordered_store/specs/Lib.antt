@@ -1,5 +1,7 @@
+pub mod Answers
 pub mod Entries
 pub mod History
 pub mod Order
+pub mod Places
 pub mod Run
-pub mod Seat
+pub mod Slot

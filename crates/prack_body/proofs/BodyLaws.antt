@@ -16,7 +16,7 @@ use Rattle.record.proofs.CodecLaws.{Bytes, bytes-drop, four-exact}
 use Rattle.prack_body.specs.Lists.{Pending, Tracked, staying, cleaned}
 use Rattle.prack_body.specs.Layout.{eight, toBit, pendingForm, PendingFormed, AllFormed, ListFormed, listForm, trackedForm, TrackedFormed}
 use Rattle.prack_body.specs.Places.{listPlaces, trackedPlaces}
-use Rattle.prack_body.specs.Body.{bodyOf, Holds, Stands}
+use Rattle.prack_body.specs.Body.{bodyRoom, bodyOf, Holds, Stands}
 use Rattle.prack_body.specs.declared.TrackedAt.{TrackedAt}
 use Rattle.prack_body.proofs.LayoutLaws.{eight-exact, tracked-exact, entries-size}
 
@@ -98,11 +98,11 @@ module _ {bytes : List ℕ} {n : ℕ} {t : Tracked} (h : Holds bytes n t) where
   pub list-good : (ps : List Pending) → t .list ≡ some ps → AllFormed ps
   list-good ps e = formed-by (some ps) e .0
 
-  -- a body has 9 bytes at least, and 210 at most
-  pub holds-size : (9 ≤ n) × (n ≤ 210)
+  -- a body has 9 bytes at least, and its room at most
+  pub holds-size : (9 ≤ n) × (n ≤ bodyRoom)
   holds-size = by (t .list) refl
     where
-      by : (o : Option (List Pending)) → t .list ≡ o → (9 ≤ n) × (n ≤ 210)
+      by : (o : Option (List Pending)) → t .list ≡ o → (9 ≤ n) × (n ≤ bodyRoom)
       by none e = (omega (arith, none-size e), omega (arith, none-size e))
       by (some ps) e = (omega (arith, list-size ps e), omega (arith, list-size ps e, list-few ps e))
 
@@ -186,8 +186,8 @@ unfolding body-size
 end-is k none = omega arith
 end-is k (some ps) = omega arith
 
--- a body has a byte for the list at least, and 210 bytes at most
-body-few : (time : ℕ) (o : Option (List Pending)) → ListFormed rustLimits o → (1 ≤ length (eight .write time ++ listForm rustLimits .write o)) × (length (eight .write time ++ listForm rustLimits .write o) ≤ 210)
+-- a body has a byte for the list at least, and its room at most
+body-few : (time : ℕ) (o : Option (List Pending)) → ListFormed rustLimits o → (1 ≤ length (eight .write time ++ listForm rustLimits .write o)) × (length (eight .write time ++ listForm rustLimits .write o) ≤ bodyRoom)
 body-few time none f = (omega arith, omega arith)
 body-few time (some ps) f = let k : length ps ≤ 10 = leb-true _ _ (f .1) in (omega (arith, entries-size ps), omega (arith, entries-size ps))
 
@@ -223,7 +223,7 @@ module _ (s : List ℕ) (h : Bytes s) {p : TrackedAt} {t : Tracked} (g : Stands 
   lies = ap (λ (i : ℕ). drop i s) starts ∙ body-lies s (g .at) t (g .rest) (stood .0)
 
   -- the room that a body takes where it lies
-  pub stands-inside : (p .id .start + p .id .length ≤ p .end) × ((p .end ≤ length s) × (p .end - (p .id .start + p .id .length) ≤ 210))
+  pub stands-inside : (p .id .start + p .id .length ≤ p .end) × ((p .end ≤ length s) × (p .end - (p .id .start + p .id .length) ≤ bodyRoom))
   stands-inside =
       let k : length (drop (p .id .start + p .id .length) s) ≡ length (bodyOf t) + length (g .rest) = ap length lies ∙ length-append (bodyOf t) (g .rest) in
       let l = length-drop (p .id .start + p .id .length) s in

@@ -1,19 +1,20 @@
 -- What is held, at a place of bytes: the tests that the code makes pick what is answered. Assumes nothing.
 use Prim.Native.Nat.{ℕ, suc, _+_, _-_, _*_, _≤_, _<_}
-use native.Mathlib.Numerals.{add-one}
 use native.Mathlib.Omega.{arith}
-use mathlib.Core.Path.{_≡_, refl, sym, ap, _∙_}
+use mathlib.Core.Path.{_≡_, refl, sym, ap, ap₂, _∙_}
 use mathlib.Core.Bool.{Bool, true, false, true≢false}
-use mathlib.Core.List.{List, [], _∷_, _++_}
+use mathlib.Core.List.{List, _∷_, _++_}
 use mathlib.Core.Option.{Option, none, some}
-use lib.ListN.{length, take, drop, getD, length-drop, length-append, drop-of-length-le}
-use lib.Seq.{drop-cons, length-take-le, drop-drop}
+use lib.ListN.{length, drop, getD, length-drop, length-append}
 use lib.Dec.{leb, eqb}
 use borrow.Author.Tests.{le-leb, lt-leb, leb-true, leb-false}
 use Rattle.limits.specs.Limits.{rustLimits}
-use Rattle.record.specs.Codec.{Reading, byte, two, readTwo, four, readFour, text, inFront, passing, renamed, readAll, writeAll}
+use Rattle.text.specs.declared.Span.{Span}
+use Rattle.record.specs.Codec.{Reading, four, text, inFront, passing, renamed, readAll, writeAll}
 use Rattle.record.proofs.CodecLaws.{Bytes, counted-exact}
 use Rattle.methods.specs.Methods.{isMethod}
+use Rattle.image.proofs.AnswerLaws.{TextGot}
+use Rattle.image.proofs.PartLaws.{byte-at, byte-none, two-at, four-at, four-none}
 use Rattle.prack_body.specs.Lists.{Pending}
 use Rattle.prack_body.specs.Layout.{eight, isBit, pendingForm, isShort, listForm, trackedForm}
 use Rattle.prack_body.specs.Places.{isRead, listPlaces, listFrom, trackedFrom}
@@ -22,69 +23,13 @@ use Rattle.prack_body.specs.declared.ListReading.the-variants as L
 use Rattle.prack_body.specs.declared.TrackedReading.the-variants as T
 use Rattle.prack_body.proofs.LayoutLaws.{pending-exact, entries-size}
 
--- ---- one, two, four and eight bytes
-
-short-two : (t : List ℕ) → length t < 2 → readTwo t ≡ none
-short-two [] h = refl
-short-two (a ∷ []) h = refl
-short-two (a ∷ b ∷ t) h = absurd (omega arith)
-
-short-four : (t : List ℕ) → length t < 4 → readFour t ≡ none
-short-four [] h = refl
-short-four (a ∷ []) h = refl
-short-four (a ∷ b ∷ []) h = refl
-short-four (a ∷ b ∷ c ∷ []) h = refl
-short-four (a ∷ b ∷ c ∷ d ∷ t) h = absurd (omega arith)
+-- ---- eight bytes
 
 -- the four bytes at a place as a number
 abbrev pub fourAt : List ℕ → ℕ → ℕ
 fourAt s at = ((getD s at 0 * 256 + getD s (at + 1) 0) * 256 + getD s (at + 2) 0) * 256 + getD s (at + 3) 0
 
 module _ (s : List ℕ) (at : ℕ) where
-  -- a byte at a place, and none at the end
-  pub byte-at : at < length s → byte .read (drop at s) ≡ some (record { value = getD s at 0; rest = drop (at + 1) s })
-  byte-at h = rw (drop-cons s at 0 h, add-one at)
-
-  pub byte-none : length s ≡ at → byte .read (drop at s) ≡ none
-  byte-none e = rw (drop-of-length-le s {i = at} (omega arith))
-
-  -- two bytes, by their values
-  pub two-at : at + 2 ≤ length s → two .read (drop at s) ≡ some (record { value = getD s at 0 * 256 + getD s (at + 1) 0; rest = drop (at + 2) s })
-  two-at h =
-      let a : at < length s = omega arith in
-      let b : suc at < length s = omega arith in
-      let e : suc (suc at) ≡ at + 2 = omega arith in
-      rw (drop-cons s at 0 a, drop-cons s (suc at) 0 b, add-one at, e)
-
-  -- by what was read
-  pub two-told : at + 2 ≤ length s → {a b : ℕ} → a ≡ getD s at 0 → b ≡ getD s (at + 1) 0 → two .read (drop at s) ≡ some (record { value = a * 256 + b; rest = drop (at + 2) s })
-  two-told h p q = rw (p, q) (two-at h)
-
-  -- too few
-  pub two-none : length s - at < 2 → two .read (drop at s) ≡ none
-  two-none h = short-two (drop at s) (omega (arith, length-drop at s))
-
-  -- four bytes
-  pub four-at : at + 4 ≤ length s → four .read (drop at s) ≡ some (record { value = fourAt s at; rest = drop (at + 4) s })
-  four-at h =
-      let a : at < length s = omega arith in
-      let b : suc at < length s = omega arith in
-      let c : suc (suc at) < length s = omega arith in
-      let d : suc (suc (suc at)) < length s = omega arith in
-      let e : at + 2 ≡ suc (suc at) = omega arith in
-      let f : at + 3 ≡ suc (suc (suc at)) = omega arith in
-      let g : at + 4 ≡ suc (suc (suc (suc at))) = omega arith in
-      rw (drop-cons s at 0 a, drop-cons s (suc at) 0 b, drop-cons s (suc (suc at)) 0 c, drop-cons s (suc (suc (suc at))) 0 d, add-one at, e, f, g)
-
-  -- by what was read
-  pub four-told : at + 4 ≤ length s → {a b c d : ℕ} → a ≡ getD s at 0 → b ≡ getD s (at + 1) 0 → c ≡ getD s (at + 2) 0 → d ≡ getD s (at + 3) 0
-      → four .read (drop at s) ≡ some (record { value = ((a * 256 + b) * 256 + c) * 256 + d; rest = drop (at + 4) s })
-  four-told h p q r t = rw (p, q, r, t) (four-at h)
-
-  -- too few
-  pub four-none : length s - at < 4 → four .read (drop at s) ≡ none
-  four-none h = short-four (drop at s) (omega (arith, length-drop at s))
-
   -- eight bytes by two readings of four
   pub eight-told : {a b c d : ℕ} → four .read (drop at s) ≡ some (record { value = a; rest = drop (at + 4) s }) → four .read (drop (at + 4) s) ≡ some (record { value = b; rest = drop (at + 4 + 4) s }) → c ≡ a → d ≡ b
       → eight .read (drop at s) ≡ some (record { value = c * 4294967296 + d; rest = drop (at + 8) s })
@@ -261,32 +206,28 @@ list-not s at e = by (listForm rustLimits .read (drop at s)) e
     by (some x) q = absurd (let z : _≡_ {A = ℕ} 0 1 = cc in omega arith)
 
 module _ (s : List ℕ) (at : ℕ) where
-  -- no length bytes
-  pub held-short : length s - at < 2 → T.Broken ≡ trackedFrom at (trackedForm rustLimits .read (drop at s))
-  held-short h = rw (two-none s at h)
+  -- a text that can't be read
+  pub held-text : text .read (drop at s) ≡ none → T.Broken ≡ trackedFrom at (trackedForm rustLimits .read (drop at s))
+  held-text e = rw e
 
-  module _ {n : ℕ} (e : two .read (drop at s) ≡ some (record { value = n; rest = drop (at + 2) s })) where
-    -- a text that is cut
-    pub held-text : length s - at - 2 < n → T.Broken ≡ trackedFrom at (trackedForm rustLimits .read (drop at s))
-    held-text h = rw (e, lt-leb n (length (drop (at + 2) s)) (omega (arith, length-drop (at + 2) s)))
+  module _ {i : Span} (g : TextGot s at i) where
+    abbrev timeAt : ℕ
+    timeAt = i .start + i .length
 
-    module _ (k : at + 2 + n ≤ length s) where
-      text-is : text .read (drop at s) ≡ some (record { value = take n (drop (at + 2) s); rest = drop (at + 2 + n) s })
-      text-is = rw (e, le-leb n (length (drop (at + 2) s)) (omega (arith, length-drop (at + 2) s)), drop-drop n (at + 2) s)
+    -- a time that is cut
+    pub held-time : length s - timeAt < 8 → T.Broken ≡ trackedFrom at (trackedForm rustLimits .read (drop at s))
+    held-time h = rw (g .got .reads, eight-none s timeAt h)
 
-      -- a time that is cut
-      pub held-time : length s - (at + 2 + n) < 8 → T.Broken ≡ trackedFrom at (trackedForm rustLimits .read (drop at s))
-      held-time h = rw (text-is, eight-none s (at + 2 + n) h)
+    module _ {time : ℕ} (f : eight .read (drop timeAt s) ≡ some (record { value = time; rest = drop (timeAt + 8) s })) where
+      -- a list that can't be read
+      pub held-broken : L.Broken ≡ listFrom (timeAt + 8) (listForm rustLimits .read (drop (timeAt + 8) s)) → T.Broken ≡ trackedFrom at (trackedForm rustLimits .read (drop at s))
+      held-broken q = rw (g .got .reads, f, list-not s (timeAt + 8) q)
 
-      module _ {time : ℕ} (f : eight .read (drop (at + 2 + n) s) ≡ some (record { value = time; rest = drop (at + 2 + n + 8) s })) where
-        -- a list that can't be read
-        pub held-broken : L.Broken ≡ listFrom (at + 2 + n + 8) (listForm rustLimits .read (drop (at + 2 + n + 8) s)) → T.Broken ≡ trackedFrom at (trackedForm rustLimits .read (drop at s))
-        held-broken q = rw (text-is, f, list-not s (at + 2 + n + 8) q)
-
-        -- all of it
-        pub held-whole : {p : ListAt} → L.At p ≡ listFrom (at + 2 + n + 8) (listForm rustLimits .read (drop (at + 2 + n + 8) s))
-            → T.Whole (record { id = record { start = at + 2; length = n }; «cleaned_at» = time; «has_list» = p .«has_list»; count = p .count; first = p .first; end = p .end }) ≡ trackedFrom at (trackedForm rustLimits .read (drop at s))
-        held-whole {p} q =
-            let g = list-got s (at + 2 + n + 8) p q in
-            let l : length (take n (drop (at + 2) s)) ≡ n = length-take-le n (drop (at + 2) s) (omega (arith, length-drop (at + 2) s)) in
-            rw (text-is, f, g .reads, l) (ap (λ (x : ListAt). T.Whole (record { id = record { start = at + 2; length = n }; «cleaned_at» = time; «has_list» = x .«has_list»; count = x .count; first = x .first; end = x .end })) (g .placed))
+      -- all of it
+      pub held-whole : {p : ListAt} → L.At p ≡ listFrom (timeAt + 8) (listForm rustLimits .read (drop (timeAt + 8) s))
+          → T.Whole (record { id = i; «cleaned_at» = time; «has_list» = p .«has_list»; count = p .count; first = p .first; end = p .end }) ≡ trackedFrom at (trackedForm rustLimits .read (drop at s))
+      held-whole {p} q =
+          let l = list-got s (timeAt + 8) p q in
+          let k : p ≡ listPlaces (at + 2 + length (g .value) + 8) (l .reading .value) = l .placed ∙ ap (λ (x : Span). listPlaces (x .start + x .length + 8) (l .reading .value)) (g .placed) in
+          rw (g .got .reads, f, l .reads)
+          (ap₂ (λ (x : Span) (y : ListAt). T.Whole (record { id = x; «cleaned_at» = time; «has_list» = y .«has_list»; count = y .count; first = y .first; end = y .end })) (g .placed) k)

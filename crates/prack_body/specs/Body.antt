@@ -12,6 +12,10 @@ use Rattle.prack_body.specs.Layout.{eight, pendingForm, listForm, tracke
 use Rattle.prack_body.specs.Places.{trackedPlaces}
 use Rattle.prack_body.specs.declared.TrackedAt.{TrackedAt}
 
+-- its bytes with as many entries as a list can have
+abbrev pub bodyRoom : ℕ
+bodyRoom = 10 + rustLimits .pending * 20
+
 abbrev pub bodyOf : Tracked → List ℕ
 bodyOf t = eight .write (t .cleanedAt) ++ listForm rustLimits .write (t .list)
 

@@ -1,8 +1,9 @@
--- Lists of reliable provisional responses that wait for their PRACK (RFC 3262 sections 3 and 4), one list for each identifier text, beside the last cleanup's
+-- Lists of reliable provisional responses that wait for their PRACK (RFC 3262 section 3), one list for each identifier text, beside the last cleanup's
 -- time. Document 01, "Intervals, PRACK, RSeq": the caller gives the time, whole nanoseconds; if it goes back, elapsed is 0. "Cleanup (first call, then 300 s
 -- after the last) drops acknowledged entries and those older than 300 s". "The eleventh entry drops the oldest; the first equal RSeq decides." By RFC 3262 a
--- response is sent again for 64*T1 and then given up, any number may wait, and RSeq, CSeq and method together name the response; the list departs from it here
--- as the Rust does: 300 s to nearly 600 s, at most ten, and the first of an RSeq alone is looked at (docs/DIFFERENCES.md, "RFC 3262, PRACK lists").
+-- response is sent again for 64*T1 and then its request is refused, any number may wait once the first is acknowledged, an acknowledged one is removed, and RSeq,
+-- CSeq and method together name the response; the list departs from it here as the Rust does: 300 s to nearly 600 s, at most ten, and the first of an RSeq
+-- alone is looked at (docs/DIFFERENCES.md, "RFC 3262, PRACK lists").
 use Prim.Native.Nat.{ℕ, _+_, _-_, _*_}
 use mathlib.Core.Bool.{Bool, true, false, cond, not, _&&_, _||_}
 use mathlib.Core.List.{List, [], _∷_, _++_}

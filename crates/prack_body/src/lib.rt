@@ -1,4 +1,5 @@
 // What is held for one identifier text in a PRACK store: read at a place, and taken into a small array.
+use image::Text;
 use limits::Limits;
 use text::Span;
 ghost use mathlib.Core.Path.{_≡_};
@@ -18,6 +19,13 @@ pub use numbers::read_eight;
 pub use numbers::write_eight;
 pub use numbers::write_four;
 pub use numbers::write_two;
+
+// What lies behind a text (specs/Body.antt): where its entries begin, the bytes of one, and of all with as many entries as a list can have.
+pub const ENTRIES_AT: usize = 10;
+
+pub const ENTRY_SIZE: usize = 20;
+
+pub const BODY_ROOM: usize = ENTRIES_AT + Limits::MAX_PENDING_PRACK_PER_DIALOG * ENTRY_SIZE;
 
 // Where a list lies: how many entries it has, where they begin and where they end.
 pub struct ListAt {
@@ -52,14 +60,10 @@ pub fn read_tracked(bytes: &[u8], at: usize) -> TrackedReading
     requires { ⌜ at ≤ length (now bytes) ⌝ }
     ensures { λ r. ⌜ r ≡ trackedFrom at (trackedForm rustLimits .read (drop at (now (bytes .entry)))) ⌝ }
 {
-    if bytes.len() - at < 2 {
+    let Text::At(id) = image::read_text(bytes, at) else {
         return TrackedReading::Broken;
-    }
-    let n = image::read_two(bytes, at);
-    if bytes.len() - at - 2 < n {
-        return TrackedReading::Broken;
-    }
-    let time = at + 2 + n;
+    };
+    let time = id.start + id.length;
     if bytes.len() - time < 8 {
         return TrackedReading::Broken;
     }
@@ -68,10 +72,7 @@ pub fn read_tracked(bytes: &[u8], at: usize) -> TrackedReading
         return TrackedReading::Broken;
     };
     TrackedReading::Whole(TrackedAt {
-        id: Span {
-            start: at + 2,
-            length: n,
-        },
+        id,
         cleaned_at,
         has_list: l.has_list,
         count: l.count,
@@ -123,7 +124,7 @@ fn read_list(bytes: &[u8], at: usize) -> ListReading
 
 // Whether so many entries of 20 bytes have a method's number and a flag where these lie.
 fn are_entries(bytes: &[u8], first: usize, count: usize) -> bool
-    requires { ⌜ (count ≤ 10) × (first + count * 20 ≤ length (now bytes)) ⌝ }
+    requires { ⌜ (count ≤ rustLimits .pending) × (first + count * 20 ≤ length (now bytes)) ⌝ }
     ensures { λ r. ⌜ r ≡ isRead (readAll pendingForm count (drop first (now (bytes .entry)))) ⌝ }
 {
     let mut at = first;

@@ -15,13 +15,13 @@ ghost use Rattle.limits.specs.Limits.{rustLimits};
 ghost use Rattle.record.specs.Codec.{writeAll};
 ghost use Rattle.prack_body.specs.Lists.{Pending, Tracked, staying, cleaned, withList, withoutPracked};
 ghost use Rattle.prack_body.specs.Layout.{pendingForm, AllFormed};
-ghost use Rattle.prack_body.specs.Body.{Holds, Kept};
+ghost use Rattle.prack_body.specs.Body.{bodyRoom, Holds, Kept};
 ghost use Rattle.prack_staying.specs.Test.{testOf};
 ghost use Rattle.prack_cleaning.specs.KeptList.{keptList};
 
 // The cleanup of a call at a time, where it is due: the time stored, and the entries that stay. The new length.
 pub fn clean(body: &mut [u8], n: usize, time: u64) -> usize
-    requires { ⌜ (9 ≤ n) × ((n ≤ 210) × (210 ≤ length (now body))) ⌝ }
+    requires { ⌜ (9 ≤ n) × ((n ≤ bodyRoom) × (bodyRoom ≤ length (now body))) ⌝ }
     ensures { λ r. ⌜ ((t : Tracked) → Holds (now (body .entry)) n t → Holds (now (body .exit)) r (cleaned rustLimits time (t .id) (some t))) ⌝ }
 {
     let since = read_eight(body, 0);
@@ -34,7 +34,7 @@ pub fn clean(body: &mut [u8], n: usize, time: u64) -> usize
 
 // All but the acknowledged entries of an RSeq. The new length.
 pub fn prune(body: &mut [u8], n: usize, rseq: u32) -> usize
-    requires { ⌜ (9 ≤ n) × ((n ≤ 210) × (210 ≤ length (now body))) ⌝ }
+    requires { ⌜ (9 ≤ n) × ((n ≤ bodyRoom) × (bodyRoom ≤ length (now body))) ⌝ }
     ensures { λ r. ⌜ ((t : Tracked) → Holds (now (body .entry)) n t → Holds (now (body .exit)) r (withList (withoutPracked rseq (t .list)) t)) ⌝ }
 {
     keep_list(body, n, Test::Other(rseq))
@@ -42,7 +42,7 @@ pub fn prune(body: &mut [u8], n: usize, rseq: u32) -> usize
 
 // The entries that stay. The new length.
 fn keep_list(body: &mut [u8], n: usize, which: Test) -> usize
-    requires { ⌜ (9 ≤ n) × ((n ≤ 210) × (210 ≤ length (now body))) ⌝ }
+    requires { ⌜ (9 ≤ n) × ((n ≤ bodyRoom) × (bodyRoom ≤ length (now body))) ⌝ }
     ensures { λ r. ⌜ ((t : Tracked) → Holds (now (body .entry)) n t → Holds (now (body .exit)) r (withList (keptList which (t .list)) t)) ⌝ }
 {
     if n < 10 {
@@ -55,7 +55,7 @@ fn keep_list(body: &mut [u8], n: usize, which: Test) -> usize
 
 // The entries that stay, moved together behind the count byte. How many.
 fn keep(body: &mut [u8], count: usize, which: Test) -> usize
-    requires { ⌜ (count ≤ 10) × (10 + count * 20 ≤ length (now body)) ⌝ }
+    requires { ⌜ (count ≤ rustLimits .pending) × (10 + count * 20 ≤ length (now body)) ⌝ }
     ensures { λ r. ⌜ r ≤ count ⌝ }
     ensures { λ r. ⌜ ((ps : List Pending) (rest : List ℕ) → AllFormed ps → count ≡ length ps → drop 10 (now (body .entry)) ≡ writeAll pendingForm ps ++ rest → Kept (now (body .entry)) (staying (testOf which) ps) (now (body .exit)) r) ⌝ }
 {

@@ -1,6 +1,4 @@
-pub mod CountLaws
 pub mod HoldLaws
 pub mod PlaceLaws
-pub mod SearchLaws
-pub mod SeatLaws
+pub mod SlotLaws
 pub mod WriteLaws

@@ -1,38 +1,35 @@
 // What the used bytes of a store hold: how many texts there are, and where the one that is asked for stands or would go.
+use ordered_store::Count;
 use ordered_store::Order;
 use prack_body::TrackedAt;
 use prack_body::TrackedReading;
 use prack_body::read_tracked;
-use text::Span;
 ghost use mathlib.Core.Path.{_≡_};
-ghost use mathlib.Core.List.{_∷_, []};
 ghost use Rattle.limits.specs.Limits.{rustLimits};
 ghost use Rattle.ordered_store.specs.Order.{keyOrder, isBefore};
-ghost use Rattle.prack_entries.specs.Entries.{keyOfText, decodeTracked};
-ghost use Rattle.prack_entries.specs.Places.{partIn, PartWithin, countOf, Stored, seatIn, seatUsed};
-
-// How many texts there are.
-pub enum Count {
-    Entries(usize),
-    Broken,
-}
+ghost use Rattle.text.specs.Spans.{partIn, PartWithin};
+ghost use Rattle.ordered_store.specs.Places.{Stored, countOf};
+ghost use Rattle.ordered_store.specs.Slot.{slotRead};
+ghost use Rattle.prack_body.specs.Layout.{trackedForm};
+ghost use Rattle.prack_entries.specs.Entries.{keyOfText, keyOf, decodeTracked};
+ghost use Rattle.prack_entries.specs.Places.{slotOf, slotFor};
 
 // Where what is held for a text lies, or the place where it would go.
-pub enum Seat {
+pub enum Slot {
     Held(TrackedAt),
     Free(usize),
     Broken,
 }
 
-// Of lent bytes of which so many are used: the seat of a text. Broken where they aren't a store.
-pub fn find(id: &[u8], bytes: &[u8], used: usize) -> Seat
-    ensures { λ r. ⌜ r ≡ seatUsed (now (id .entry)) (now (bytes .entry)) used ⌝ }
+// Of lent bytes of which so many are used: the slot of a text. Broken where they aren't a store.
+pub fn find(id: &[u8], bytes: &[u8], used: usize) -> Slot
+    ensures { λ r. ⌜ r ≡ slotFor (now (id .entry)) (now (bytes .entry)) used ⌝ }
 {
     if bytes.len() < used {
-        return Seat::Broken;
+        return Slot::Broken;
     }
     let Count::Entries(_) = count_entries(&bytes[..used]) else {
-        return Seat::Broken;
+        return Slot::Broken;
     };
     search(id, &bytes[..used])
 }
@@ -63,28 +60,28 @@ fn count_entries(bytes: &[u8]) -> Count
 }
 
 // The first text that isn't before the one that is asked for. The bytes are those of a store that was read.
-fn search(id: &[u8], bytes: &[u8]) -> Seat
-    requires { ⌜ Stored (now bytes) ⌝ }
-    ensures { λ r. ⌜ r ≡ seatIn (now (id .entry)) (decodeTracked rustLimits (now (bytes .entry))) ⌝ }
+fn search(id: &[u8], bytes: &[u8]) -> Slot
+    requires { ⌜ Stored (trackedForm rustLimits) keyOf (now bytes) ⌝ }
+    ensures { λ r. ⌜ r ≡ slotOf (slotRead (trackedForm rustLimits) keyOf (keyOfText (now (id .entry))) (decodeTracked rustLimits (now (bytes .entry)))) ⌝ }
 {
     let mut at = 0;
     while at < bytes.len() {
         let TrackedReading::Whole(t) = read_tracked(bytes, at) else {
-            return Seat::Broken;
+            return Slot::Broken;
         };
-        match ordered_store::compare(part(bytes, t.id), id) {
+        match ordered_store::compare(text::part(bytes, t.id), id) {
             Order::Before => {
                 at = t.end;
             }
             Order::Same => {
-                return Seat::Held(t);
+                return Slot::Held(t);
             }
             Order::After => {
-                return Seat::Free(at);
+                return Slot::Free(at);
             }
         }
     }
-    Seat::Free(at)
+    Slot::Free(at)
 }
 
 // Whether the text of one comes before that of another.
@@ -93,18 +90,9 @@ fn ascends(bytes: &[u8], t: TrackedAt, u: TrackedAt) -> bool
     requires { ⌜ PartWithin (now bytes) (u .id) ⌝ }
     ensures { λ r. ⌜ r ≡ isBefore (keyOrder (keyOfText (partIn (now (bytes .entry)) (t .id))) (keyOfText (partIn (now (bytes .entry)) (u .id)))) ⌝ }
 {
-    match ordered_store::compare(part(bytes, t.id), part(bytes, u.id)) {
+    match ordered_store::compare(text::part(bytes, t.id), text::part(bytes, u.id)) {
         Order::Before => true,
         Order::Same => false,
         Order::After => false,
     }
-}
-
-// The bytes that a span names.
-fn part(bytes: &[u8], p: Span) -> &[u8]
-    requires { ⌜ PartWithin (now bytes) p ⌝ }
-    ensures { λ r. ⌜ now r ≡ partIn (now (bytes .entry)) p ⌝ }
-{
-    let at = p.start;
-    &bytes[at..at + p.length]
 }

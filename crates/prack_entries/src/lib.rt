@@ -2,7 +2,7 @@
 mod finding;
 mod holding;
 
-pub use finding::Seat;
+pub use finding::Slot;
 pub use finding::find;
 pub use holding::clean_copy;
 pub use holding::set;

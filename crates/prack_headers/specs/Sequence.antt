@@ -1,6 +1,6 @@
 -- CSeq (RFC 3261 section 20.16) and RSeq (RFC 3262 section 7.1) of a block.
 -- Document 01, "CSeq": "First token, read as Rust reads u32"; RSeq is the whole value. The RFCs' numbers are digits alone; here, as in the
--- Rust, one `+` may stand first, and 0 is read. The method is the second token, read by itself: a bad number doesn't spoil it.
+-- Rust, one `+` may stand first, and an RSeq of 0 is read. The method is the second token, read by itself: a bad number doesn't spoil it.
 use Prim.Native.Nat.{ℕ}
 use mathlib.Core.Bool.{Bool, true, false, _&&_}
 use mathlib.Core.List.{List, [], _∷_}

@@ -13,7 +13,7 @@ use Rattle.edit.proofs.EditLaws.{Wrote, wrote-then}
 use Rattle.record.specs.Codec.{two, four, writeAll}
 use Rattle.prack_body.specs.Lists.{Pending, Tracked, entriesOf, pushed, registered, pendingOf}
 use Rattle.prack_body.specs.Layout.{eight, pendingForm, listForm, PendingFormed, AllFormed}
-use Rattle.prack_body.specs.Body.{bodyOf, Holds, Kept}
+use Rattle.prack_body.specs.Body.{bodyRoom, bodyOf, Holds, Kept}
 use Rattle.prack_list.specs.Steps.{lastOf}
 use Rattle.prack_body.proofs.LayoutLaws.{entries-size}
 use Rattle.prack_body.proofs.BodyLaws.{whole, count-is, none-size, list-size, list-few, list-good, entries-lie, hold, formed-from}
@@ -59,7 +59,7 @@ module _ {s : List ℕ} {n : ℕ} {t : Tracked} (h : Holds s n t) where
           (subst (λ (i : ℕ). Kept s (drop i ps) s k) (sym z) (record { counts = m; are = v }))
 
   -- ten: all but the first
-  pub room-full : {k : ℕ} → k ≡ (n - 10) / 20 → 10 ≤ k → {o : List ℕ} → 210 ≤ length s → o ≡ putAt 10 (take 180 (drop 30 s)) s → Kept s (lastOf (entriesOf (t .list))) o 9
+  pub room-full : {k : ℕ} → k ≡ (n - 10) / 20 → 10 ≤ k → {o : List ℕ} → bodyRoom ≤ length s → o ≡ putAt 10 (take 180 (drop 30 s)) s → Kept s (lastOf (entriesOf (t .list))) o 9
   unfolding writeAll
   room-full {k} c f {o} r u = by (t .list) refl
     where

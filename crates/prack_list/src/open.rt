@@ -8,11 +8,11 @@ ghost use Rattle.edit.specs.Edit.{putAt, over};
 ghost use Rattle.record.specs.Codec.{two, four};
 ghost use Rattle.prack_body.specs.Lists.{Pending, Tracked, openIn};
 ghost use Rattle.prack_body.specs.Layout.{pendingForm, openBytes};
-ghost use Rattle.prack_body.specs.Body.{Holds};
+ghost use Rattle.prack_body.specs.Body.{bodyRoom, Holds};
 
 // How many bytes they take.
 pub fn open_size(body: &[u8], n: usize) -> usize
-    requires { ⌜ (n ≤ 210) × (n ≤ length (now body)) ⌝ }
+    requires { ⌜ (n ≤ bodyRoom) × (n ≤ length (now body)) ⌝ }
     ensures { λ r. ⌜ ((t : Tracked) → Holds (now (body .entry)) n t → r ≡ length (openBytes (openIn (t .list)))) ⌝ }
 {
     let count = count_in(n);

@@ -2,6 +2,9 @@
 use edit::move_left;
 use edit::put;
 use limits::Limits;
+use prack_body::BODY_ROOM;
+use prack_body::ENTRIES_AT;
+use prack_body::ENTRY_SIZE;
 use prack_body::write_eight;
 use prack_body::write_four;
 use prack_body::write_two;
@@ -14,8 +17,13 @@ ghost use Rattle.edit.specs.Edit.{putAt};
 ghost use Rattle.methods.specs.Methods.{isMethod};
 ghost use Rattle.prack_body.specs.Lists.{Tracked, entriesOf, pendingOf, registered};
 ghost use Rattle.prack_body.specs.Layout.{pendingForm};
-ghost use Rattle.prack_body.specs.Body.{Holds, Kept};
+ghost use Rattle.prack_body.specs.Body.{bodyRoom, Holds, Kept};
 ghost use Rattle.prack_list.specs.Steps.{lastOf};
+
+// Where the second entry begins, and the bytes of all but the first in a list of as many as it can have.
+const SECOND_AT: usize = ENTRIES_AT + ENTRY_SIZE;
+
+const OTHERS_SIZE: usize = BODY_ROOM - SECOND_AT;
 
 // One response more: a list of one where none stood, without the first entry where ten are held. The new length.
 pub fn push(
@@ -27,7 +35,7 @@ pub fn push(
     code: u16,
     time: u64,
 ) -> usize
-    requires { ⌜ (isMethod method ≡ true) × ((n ≤ 210) × (210 ≤ length (now body))) ⌝ }
+    requires { ⌜ (isMethod method ≡ true) × ((n ≤ bodyRoom) × (bodyRoom ≤ length (now body))) ⌝ }
     ensures { λ r. ⌜ ((t : Tracked) → Holds (now (body .entry)) n t → Holds (now (body .exit)) r (registered rustLimits (pendingOf rseq cseq method code time) t)) ⌝ }
 {
     let count = make_room(body, n);
@@ -39,7 +47,7 @@ pub fn push(
 
 // Room for one entry more behind the others: where ten are held, the first goes. How many are left.
 fn make_room(body: &mut [u8], n: usize) -> usize
-    requires { ⌜ (n ≤ 210) × (210 ≤ length (now body)) ⌝ }
+    requires { ⌜ (n ≤ bodyRoom) × (bodyRoom ≤ length (now body)) ⌝ }
     ensures { λ r. ⌜ r ≤ 9 ⌝ }
     ensures { λ r. ⌜ ((t : Tracked) → Holds (now (body .entry)) n t → Kept (now (body .entry)) (lastOf (entriesOf (t .list))) (now (body .exit)) r) ⌝ }
 {
@@ -50,7 +58,7 @@ fn make_room(body: &mut [u8], n: usize) -> usize
     if count < Limits::MAX_PENDING_PRACK_PER_DIALOG {
         return count;
     }
-    move_left(body, 30, 10, 180);
+    move_left(body, SECOND_AT, ENTRIES_AT, OTHERS_SIZE);
     Limits::MAX_PENDING_PRACK_PER_DIALOG - 1
 }
 

@@ -1,13 +1,13 @@
 // PrackValidator: the calls that remove, on a lent store of which so many bytes are used. Neither cleans.
 use limits::Refusal;
 use output::Written;
-use prack_entries::Seat;
+use prack_entries::Slot;
 use prack_entries::find;
 use prack_entries::set;
 ghost use mathlib.Core.Path.{_≡_};
 ghost use Rattle.limits.specs.Limits.{rustLimits};
+ghost use Rattle.ordered_store.specs.Answers.{writtenIn, usedWritten};
 ghost use Rattle.prack_validator.specs.Validator.{removeDialog, removePracked, ran};
-ghost use Rattle.prack_validator.specs.Answers.{writtenIn, usedWritten};
 
 // PrackValidator::remove_dialog: 1, 3. Nothing held: nothing changes. The new used length.
 pub fn remove_dialog(id: &[u8], bytes: &mut [u8], used: usize) -> Written
@@ -19,12 +19,12 @@ pub fn remove_dialog(id: &[u8], bytes: &mut [u8], used: usize) -> Written
         return Written::Refused(Refusal::TextTooLong);
     }
     match find(id, bytes, used) {
-        Seat::Held(t) => {
+        Slot::Held(t) => {
             let at = t.id.start - 2;
             Written::Length(edit::replace(bytes, used, at, t.end - at, b""))
         }
-        Seat::Free(_) => Written::Length(used),
-        Seat::Broken => Written::Refused(Refusal::BadStore),
+        Slot::Free(_) => Written::Length(used),
+        Slot::Broken => Written::Refused(Refusal::BadStore),
     }
 }
 
@@ -37,15 +37,15 @@ pub fn remove_pracked(id: &[u8], rseq: u32, bytes: &mut [u8], used: usize) -> Wr
     if text::too_long(id) {
         return Written::Refused(Refusal::TextTooLong);
     }
-    let seat = find(id, bytes, used);
-    match seat {
-        Seat::Held(t) => {
-            let mut body = [0u8; 210];
+    let slot = find(id, bytes, used);
+    match slot {
+        Slot::Held(t) => {
+            let mut body = [0u8; prack_body::BODY_ROOM];
             let n = prack_body::load(&bytes[..used], t, &mut body);
             let m = prack_cleaning::prune(&mut body, n, rseq);
-            set(id, seat, &body[..m], bytes, used)
+            set(id, slot, &body[..m], bytes, used)
         }
-        Seat::Free(_) => Written::Length(used),
-        Seat::Broken => Written::Refused(Refusal::BadStore),
+        Slot::Free(_) => Written::Length(used),
+        Slot::Broken => Written::Refused(Refusal::BadStore),
     }
 }

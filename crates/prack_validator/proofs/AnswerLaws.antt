@@ -12,11 +12,12 @@ use Rattle.output.specs.Output.{leaves, writtenFrom}
 use Rattle.output.specs.declared.Written.{Written}
 use Rattle.output.specs.declared.Written.the-variants as writing
 use Rattle.rack.specs.declared.RAck.{RAck}
+use Rattle.ordered_store.specs.Answers.{writtenIn, usedWritten}
 use Rattle.ordered_store.specs.Run.{Left}
 use Rattle.ordered_store.proofs.RunLaws.{keptWith}
 use Rattle.prack_validator.specs.Validator.{Value, flag, written, rackValue}
 use Rattle.prack_verdict.specs.Verdict.{verdictOf}
-use Rattle.prack_validator.specs.Answers.{writtenIn, usedWritten, validatedBy, validatedIn, prackedOf, listedIn, usedListed, outputAfter, validatedOf}
+use Rattle.prack_validator.specs.Answers.{validatedBy, validatedIn, prackedOf, listedIn, usedListed, outputAfter, validatedOf}
 use Rattle.prack_validator.specs.declared.Validated.{Validated}
 use Rattle.prack_validator.specs.declared.Validated.the-variants as validated
 use Rattle.prack_validator.specs.declared.Pracked.{Pracked}

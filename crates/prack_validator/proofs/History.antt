@@ -7,7 +7,7 @@ use mathlib.Core.Bool.{Bool, true, false, cond, not, _&&_}
 use mathlib.Core.List.{List, [], _∷_, _++_}
 use mathlib.Core.Option.{Option, none, some}
 use lib.ListN.{length, drop, length-append, length-drop}
-use lib.Dec.{ltb, leb, eqb}
+use lib.Dec.{ltb, eqb}
 use borrow.Author.Tests.{le-leb, leb-true, ltb-false, le-ltb, eq-eqb}
 use Rattle.limits.specs.Limits.{rustLimits}
 use Rattle.limits.specs.Outcome.{Outcome, refused, given, orElse, causeIf, refuseIf, andThen, orRefuse}
@@ -21,19 +21,20 @@ use Rattle.rack.specs.declared.RAck.{RAck}
 use Rattle.record.proofs.CodecLaws.{GoodAll}
 use Rattle.ordered_store.specs.Entries.{Key, ascending, entryOf, setEntry}
 use Rattle.ordered_store.specs.Run.{Decided}
-use Rattle.ordered_store.specs.History.{EachSent, EachTyped, content, Follows, lending}
+use Rattle.ordered_store.specs.History.{Call, EachSent, EachTyped, content, Follows, lending}
 use Rattle.ordered_store.proofs.EntryLaws.{set-ascends, without-ascends, set-good, without-good, found-good, found-key, set-again}
 use Rattle.ordered_store.proofs.HistoryLaws.{each-typed, Sound, Keeps, Stands, same-answer, settled, sound, stands, follows}
-use Rattle.prack_body.specs.Lists.{Pending, Tracked, stays, staying, cleanedList, isDue, cleaned, entriesOf, pushed, registered, firstOf, marked, isOther, withoutPracked, openIn, withList}
+use Rattle.prack_body.specs.Lists.{Pending, Tracked, stays, staying, cleanedList, isDue, cleaned, entriesOf, pushed, pendingOf, registered, firstOf, marked, isOther, withoutPracked, openIn, withList}
 use Rattle.prack_body.specs.Layout.{trackedForm, PendingFormed, AllFormed, isShort, ListFormed, TrackedFormed, openBytes}
 use Rattle.prack_body.proofs.BodyLaws.{formed-from, staying-formed, staying-short}
 use Rattle.prack_list.proofs.PushLaws.{more-formed}
 use Rattle.prack_list.proofs.FindLaws.{marked-formed, marked-many}
 use Rattle.prack_entries.specs.Entries.{keyOfText, keyOf, heldFor, cleanFor}
 use Rattle.prack_entries.proofs.PlaceLaws.{exact, filled}
-use Rattle.prack_verdict.specs.Verdict.{rackIn, matched, judged, markedBy}
-use Rattle.prack_validator.specs.Validator.{Action, register, validate, isPracked, getPending, removeDialog, removePracked, Call, Value, written, actionCause, rackValue, deciding, judgedFor, markedFor, pruned, judge, Typed, calls}
+use Rattle.prack_verdict.specs.Verdict.{matched, judged, markedBy}
+use Rattle.prack_validator.specs.Validator.{Action, register, validate, isPracked, getPending, removeDialog, removePracked, Value, written, actionCause, rackValue, deciding, judgedFor, markedFor, pruned, judge, Typed, calls}
 use Rattle.prack_validator.specs.History.{held, store, Repeats, Sendable, PrackHistory}
+use Rattle.prack_validator.proofs.RepeatLaws.{repeats-later}
 
 abbrev Good : Tracked → Type 0
 Good = TrackedFormed rustLimits
@@ -117,11 +118,12 @@ first-none (some x) b e = absurd (let z : _≡_ {A = ℕ} 0 1 = cc in omega arit
 
 action-keeps : (a : Action) (ts : List Tracked) (d : Decided Tracked Value) → Typed a → actionCause rustLimits a ≡ none → judge rustLimits a ts ≡ given d → Sound keyOf Good ts → Sound keyOf Good (d .entries)
 unfolding actionCause judge
-action-keeps (register id p) ts d n c j s =
-    let k = first-none (lengthCause rustLimits id) (methodCause (p .method)) c in
-    let t : Tracked = cleanFor rustLimits (p .registeredAt) id ts in
-    let g : Good t = cleaned-good (p .registeredAt) id ts (n .1 .1 .1) (short id (k .0)) (s .0) in
-    let f : PendingFormed p = record { rseq-fits = n .0; cseq-fits = n .1 .0; method-known = known (p .method) (k .1); code-fits = n .1 .1 .0; time-fits = n .1 .1 .1 } in
+action-keeps (register id rseq cseq method code time) ts d n c j s =
+    let p : Pending = pendingOf rseq cseq method code time in
+    let k = first-none (lengthCause rustLimits id) (methodCause method) c in
+    let t : Tracked = cleanFor rustLimits time id ts in
+    let g : Good t = cleaned-good time id ts (n .1 .1 .1) (short id (k .0)) (s .0) in
+    let f : PendingFormed p = record { rseq-fits = n .0; cseq-fits = n .1 .0; method-known = known method (k .1); code-fits = n .1 .1 .0; time-fits = n .1 .1 .1 } in
     subst (Sound keyOf Good) (decided j)
     (set-sound (registered rustLimits p t) ts (with-list t (some (pushed rustLimits p (entriesOf (t .list)))) g (pushed-list p (t .list) f (g .list-formed))) s)
 action-keeps (validate id block time) ts d n c j s =
@@ -149,21 +151,21 @@ action-keeps (removePracked id r) ts d n c j s = subst (Sound keyOf Good) (decid
         set-sound (withList (withoutPracked r (t .list)) t) ts (with-list t (withoutPracked r (t .list)) g (pruned-list r (t .list) (g .list-formed))) s
 
 pub keeps : Keeps keyOf Good (calls rustLimits)
-keeps c ts d n e j s = action-keeps (c .action) ts d n e j s
+keeps = action-keeps
 
 -- ---- every list of calls
 
 -- the store follows the lists, for every list of calls each lent at most the memory
-pub prack-follows : (m : List ℕ) (cs : List Call) → EachSent (calls rustLimits) m cs → Follows (trackedForm rustLimits) keyOf (calls rustLimits) m cs
+pub prack-follows : (m : List ℕ) (cs : List (Call Action)) → EachSent (calls rustLimits) m cs → Follows (trackedForm rustLimits) keyOf (calls rustLimits) m cs
 prack-follows m cs s = follows (trackedForm rustLimits) keyOf (calls rustLimits) Good exact filled keeps m cs s
 
 -- after every list of calls, what is held is well formed and in ascending order of its texts
-pub held-sound : (cs : List Call) → EachTyped (calls rustLimits) cs → Sound keyOf Good (content (trackedForm rustLimits) keyOf (calls rustLimits) cs)
+pub held-sound : (cs : List (Call Action)) → EachTyped (calls rustLimits) cs → Sound keyOf Good (content (trackedForm rustLimits) keyOf (calls rustLimits) cs)
 held-sound cs s = sound (trackedForm rustLimits) keyOf (calls rustLimits) Good exact filled keeps cs s
 
 -- ---- each list has at most ten entries
 
-module _ (cs : List Call) (s : EachTyped (calls rustLimits) cs) where
+module _ (cs : List (Call Action)) (s : EachTyped (calls rustLimits) cs) where
   at-most-ten : (id : List ℕ) (t : Tracked) (ps : List Pending) → heldFor id (held rustLimits cs) ≡ some t → t .list ≡ some ps → length ps ≤ 10
   at-most-ten id t ps e l =
       let g : Good t = found-good keyOf Good (keyOfText id) (held rustLimits cs) t (held-sound cs s .0) e in
@@ -253,11 +255,12 @@ taken id block time a b f =
 
 -- ---- the claim
 
-pub prack-history : (m : List ℕ) (cs : List Call) → EachSent (calls rustLimits) m cs → PrackHistory rustLimits m cs
+pub prack-history : (m : List ℕ) (cs : List (Call Action)) → EachSent (calls rustLimits) m cs → PrackHistory rustLimits m cs
 prack-history m cs s = record {
   follows = prack-follows m cs s;
   few = at-most-ten cs typed;
   repeated = λ lent id block time ok w. by lent id block time ok w;
+  repeats = λ lent id block time later k t e h u. repeats-later rustLimits cs lent id block time later k t e h u;
 }
   where
     typed : EachTyped (calls rustLimits) cs

@@ -1,3 +1,4 @@
 pub mod AnswerLaws
 pub mod History
 pub mod OperationLaws
+pub mod RepeatLaws

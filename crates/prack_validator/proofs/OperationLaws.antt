@@ -1,4 +1,4 @@
--- What each call leaves, by the seat of its text: the ways out that all calls share, and what each call decides over the entries. Assumes nothing.
+-- What each call leaves, by the slot of its text: the ways out that all calls share, and what each call decides over the entries. Assumes nothing.
 use Prim.Native.Nat.{ℕ, _+_, _-_, _≤_, _<_}
 use native.Mathlib.Omega.{arith}
 use mathlib.Core.Path.{_≡_, refl, sym, ap, ap₂, _∙_}
@@ -23,7 +23,7 @@ use Rattle.record.proofs.CodecLaws.{Bytes, bytes-take}
 use Rattle.ordered_store.specs.Entries.{setEntry, withoutEntry}
 use Rattle.ordered_store.specs.Run.{Left}
 use Rattle.ordered_store.proofs.RunLaws.{keptWith, way-arguments, way-over, way-unread, way-judged, way-full, way-taken}
-use Rattle.prack_body.specs.Lists.{Pending, Tracked, cleaned, cleanedList, isDue, entriesOf, firstOf, isAcknowledged, registered, openIn}
+use Rattle.prack_body.specs.Lists.{Pending, Tracked, cleaned, cleanedList, isDue, entriesOf, firstOf, isAcknowledged, pendingOf, registered, openIn}
 use Rattle.prack_body.specs.Layout.{trackedForm, openBytes}
 use Rattle.prack_body.specs.Body.{Holds}
 use Rattle.prack_list.specs.Steps.{positionIn}
@@ -32,16 +32,16 @@ use Rattle.prack_list.specs.declared.finding.Position.the-variants as position
 use Rattle.prack_body.proofs.BodyLaws.{loaded}
 use Rattle.prack_list.proofs.FindLaws.{position-found, position-no-list, position-unknown}
 use Rattle.prack_entries.specs.Entries.{keyOfText, keyOf, encodeTracked, heldFor, cleanFor}
-use Rattle.prack_entries.specs.Places.{seatUsed, Sought}
-use Rattle.prack_entries.specs.declared.finding.Seat.{Seat as SeatAt}
-use Rattle.prack_entries.specs.declared.finding.Seat.the-variants as seats
-use Rattle.prack_entries.proofs.SeatLaws.{unreadable, was, broken-not, Found, found, lacking}
+use Rattle.prack_entries.specs.Places.{slotFor, Sought}
+use Rattle.prack_entries.specs.declared.finding.Slot.{Slot as SlotAt}
+use Rattle.prack_entries.specs.declared.finding.Slot.the-variants as slots
+use Rattle.prack_entries.proofs.SlotLaws.{unreadable, was, broken-not, Found, found, lacking}
 use Rattle.prack_validator.specs.Validator.{Action, register, validate, isPracked, getPending, removeDialog, removePracked, Value, noValue, flag, written, actionCause, listOf, markedFor, judgedFor, rackValue, deciding, pruned, judge, ran}
 
 -- ---- the arguments
 
 abbrev idOf : Action → List ℕ
-idOf (register id p) = id
+idOf (register id rseq cseq method code time) = id
 idOf (validate id block time) = id
 idOf (isPracked id r) = id
 idOf (getPending id time room) = id
@@ -50,7 +50,7 @@ idOf (removePracked id r) = id
 
 -- the causes after 1 of the text
 abbrev restOf : Action → Option Refusal
-restOf (register id p) = methodCause (p .method)
+restOf (register id rseq cseq method code time) = methodCause method
 restOf (validate id block time) = blockCause rustLimits block
 restOf (isPracked id r) = none
 restOf (getPending id time room) = none
@@ -63,7 +63,7 @@ or-none (some cause) = refl
 
 causes : (a : Action) → actionCause rustLimits a ≡ orElse (lengthCause rustLimits (idOf a)) (restOf a)
 unfolding actionCause
-causes (register id p) = refl
+causes (register id rseq cseq method code time) = refl
 causes (validate id block time) = refl
 causes (isPracked id r) = or-none (lengthCause rustLimits id)
 causes (getPending id time room) = or-none (lengthCause rustLimits id)
@@ -109,12 +109,12 @@ module _ (bytes : List ℕ) (used : ℕ) (a : Action) where
 
   module _ (clear : actionCause rustLimits a ≡ none) where
     -- 3
-    pub by-store : (id : List ℕ) → seatUsed id bytes used ≡ seats.Broken → left ≡ keptWith bytes used BadStore
+    pub by-store : (id : List ℕ) → slotFor id bytes used ≡ slots.Broken → left ≡ keptWith bytes used BadStore
     by-store id e =
         ⊎-elim (λ h. way-over (trackedForm rustLimits) keyOf (actionCause rustLimits a) (judge rustLimits a) bytes used clear h)
         (λ h. way-unread (trackedForm rustLimits) keyOf (actionCause rustLimits a) (judge rustLimits a) bytes used clear (h .0) (h .1)) (unreadable id bytes used e)
 
-    module _ {id : List ℕ} {seat : SeatAt} (s : Sought id bytes used seat) where
+    module _ {id : List ℕ} {slot : SlotAt} (s : Sought id bytes used slot) where
       -- the call's own cause over what is held
       pub by-cause : {cause : Refusal} → judge rustLimits a (s .list) ≡ refused cause → left ≡ keptWith bytes used cause
       by-cause {cause} j = way-judged (trackedForm rustLimits) keyOf (actionCause rustLimits a) (judge rustLimits a) bytes used clear (s .within) (s .list) (s .are) cause j
@@ -146,9 +146,10 @@ module _ (bytes : List ℕ) (used : ℕ) (a : Action) where
 -- ---- what each call decides
 
 module _ (id : List ℕ) (ts : List Tracked) where
-  pub register-decides : (p : Pending) → judge rustLimits (register id p) ts ≡ deciding (setEntry keyOf (registered rustLimits p (cleanFor rustLimits (p .registeredAt) id ts)) ts) (given noValue)
+  pub register-decides : (rseq cseq method code time : ℕ)
+      → judge rustLimits (register id rseq cseq method code time) ts ≡ deciding (setEntry keyOf (registered rustLimits (pendingOf rseq cseq method code time) (cleanFor rustLimits time id ts)) ts) (given noValue)
   unfolding judge
-  register-decides p = refl
+  register-decides rseq cseq method code time = refl
 
   pub validate-decides : (block : List ℕ) (time : ℕ)
       → judge rustLimits (validate id block time) ts ≡ deciding (setEntry keyOf (markedFor rustLimits id block time ts) ts) (rackValue (judgedFor rustLimits id block time ts))
@@ -202,17 +203,17 @@ cleaned-id time id (some t) f = by (isDue rustLimits time t)
     by true = f t refl
     by false = f t refl
 
-held-id : {id bytes : List ℕ} {used : ℕ} → Bytes bytes → (seat : SeatAt) (s : Sought id bytes used seat) (t : Tracked) → heldFor id (s .list) ≡ some t → t .id ≡ id
-held-id {id} {bytes} {used} b (seats.Held p) s t e = let w = found id bytes used p b s in let q : w .t ≡ t = same-held (w .is) e in ap (λ (x : Tracked). x .id) (sym q) ∙ w .same
+held-id : {id bytes : List ℕ} {used : ℕ} → Bytes bytes → (slot : SlotAt) (s : Sought id bytes used slot) (t : Tracked) → heldFor id (s .list) ≡ some t → t .id ≡ id
+held-id {id} {bytes} {used} b (slots.Held p) s t e = let w = found id bytes used p b s in let q : w .t ≡ t = same-held (w .is) e in ap (λ (x : Tracked). x .id) (sym q) ∙ w .same
   where
     same-held : {x y : Tracked} → heldFor id (s .list) ≡ some x → heldFor id (s .list) ≡ some y → x ≡ y
     same-held f g = let z = sym f ∙ g in cc
-held-id {id} {bytes} {used} b (seats.Free at) s t e = absurd (let z = sym (lacking id bytes used at b s .0) ∙ e in let y : _≡_ {A = ℕ} 0 1 = cc in omega arith)
-held-id {id} {bytes} {used} b seats.Broken s t e = absurd (broken-not id bytes used s)
+held-id {id} {bytes} {used} b (slots.Free at) s t e = absurd (let z = sym (lacking id bytes used at b s .0) ∙ e in let y : _≡_ {A = ℕ} 0 1 = cc in omega arith)
+held-id {id} {bytes} {used} b slots.Broken s t e = absurd (broken-not id bytes used s)
 
 -- the text of what is held after a cleanup is the one that was asked for
-pub clean-id : {id bytes : List ℕ} {used : ℕ} {seat : SeatAt} → Bytes bytes → (s : Sought id bytes used seat) (time : ℕ) → cleanFor rustLimits time id (s .list) .id ≡ id
-clean-id {id} {bytes} {used} {seat} b s time = cleaned-id time id (heldFor id (s .list)) (held-id b seat s)
+pub clean-id : {id bytes : List ℕ} {used : ℕ} {slot : SlotAt} → Bytes bytes → (s : Sought id bytes used slot) (time : ℕ) → cleanFor rustLimits time id (s .list) .id ≡ id
+clean-id {id} {bytes} {used} {slot} b s time = cleaned-id time id (heldFor id (s .list)) (held-id b slot s)
 
 -- ---- a dialog removed
 

@@ -6,8 +6,6 @@ use mathlib.Core.List.{List}
 use lib.ListN.{length}
 use Rattle.limits.specs.Outcome.{Outcome, refused, given}
 use Rattle.edit.specs.Edit.{over}
-use Rattle.output.specs.declared.Written.{Written}
-use Rattle.output.specs.declared.Written.the-variants as writing
 use Rattle.rack.specs.declared.RAck.{RAck}
 use Rattle.ordered_store.specs.Run.{Left}
 use Rattle.prack_validator.specs.Validator.{Value, noValue, rack, flag, written}
@@ -53,20 +51,7 @@ outputAfter (given (rack k)) old = old
 outputAfter (given (flag f)) old = old
 outputAfter (given (written bytes)) old = over bytes old
 
--- ---- the answers of the functions, case by case
-
--- the new used length, or the cause
-abbrev pub writtenBy : Outcome Value → ℕ → Written
-writtenBy (refused cause) used = writing.Refused cause
-writtenBy (given v) used = writing.Length used
-
-abbrev pub writtenIn : Left Value → Written
-writtenIn l = writtenBy (l .answer) (l .used)
-
--- the used length after it
-abbrev pub usedWritten : Written → ℕ → ℕ
-usedWritten (writing.Refused cause) used = used
-usedWritten (writing.Length after) used = after
+-- ---- the answers of the functions, case by case; those that answer the new used length alone: `writtenIn`, ordered_store/specs/Answers.antt
 
 -- `validate_prack`: the RAck, or the cause; the new used length beside both
 abbrev pub noRack : RAck

@@ -18,7 +18,7 @@ use Rattle.rack.specs.declared.RAck.{RAck}
 use Rattle.ordered_store.specs.Entries.{setEntry, withoutEntry}
 use Rattle.ordered_store.specs.Run.{Decided, Left, run}
 use Rattle.ordered_store.specs.History.{Calls}
-use Rattle.prack_body.specs.Lists.{Pending, Tracked, registered, entriesOf, firstOf, isAcknowledged, withoutPracked, openIn, withList}
+use Rattle.prack_body.specs.Lists.{Pending, Tracked, pendingOf, registered, entriesOf, firstOf, isAcknowledged, withoutPracked, openIn, withList}
 use Rattle.prack_body.specs.Layout.{trackedForm, openBytes}
 use Rattle.prack_entries.specs.Entries.{keyOfText, keyOf, heldFor, cleanFor}
 use Rattle.prack_verdict.specs.Verdict.{rackIn, judged, markedBy}
@@ -26,17 +26,12 @@ use Rattle.prack_verdict.specs.Verdict.{rackIn, judged, markedBy}
 -- ---- the calls
 
 pub data Action : Type 0 where
-  register : (id : List ℕ) (p : Pending) → Action
+  register : (id : List ℕ) (rseq cseq method code time : ℕ) → Action
   validate : (id block : List ℕ) (time : ℕ) → Action
   isPracked : (id : List ℕ) (rseq : ℕ) → Action
   getPending : (id : List ℕ) (time room : ℕ) → Action
   removeDialog : (id : List ℕ) → Action
   removePracked : (id : List ℕ) (rseq : ℕ) → Action
-
--- a call, and how many bytes it is lent for the store
-pub record Call : Type 0 where
-  pub lent : ℕ
-  pub action : Action
 
 -- what an accepted call answers: nothing; the RAck that was accepted; yes or no; bytes written to the front of the lent output
 pub data Value : Type 0 where
@@ -47,7 +42,7 @@ pub data Value : Type 0 where
 
 -- 1, 28, 2
 unfoldable pub actionCause : LimitSet → Action → Option Refusal
-actionCause L (register id p) = orElse (lengthCause L id) (methodCause (p .method))
+actionCause L (register id rseq cseq method code time) = orElse (lengthCause L id) (methodCause method)
 actionCause L (validate id block time) = orElse (lengthCause L id) (blockCause L block)
 actionCause L (isPracked id r) = lengthCause L id
 actionCause L (getPending id time room) = lengthCause L id
@@ -80,7 +75,7 @@ pruned r none ts = ts
 pruned r (some t) ts = setEntry keyOf (withList (withoutPracked r (t .list)) t) ts
 
 unfoldable pub judge : LimitSet → Action → List Tracked → Outcome (Decided Tracked Value)
-judge L (register id p) ts = deciding (setEntry keyOf (registered L p (cleanFor L (p .registeredAt) id ts)) ts) (given noValue)
+judge L (register id rseq cseq method code time) ts = deciding (setEntry keyOf (registered L (pendingOf rseq cseq method code time) (cleanFor L time id ts)) ts) (given noValue)
 judge L (validate id block time) ts = deciding (setEntry keyOf (markedFor L id block time ts) ts) (rackValue (judgedFor L id block time ts))
 judge L (isPracked id r) ts = deciding ts (given (flag (isAcknowledged (firstOf r (entriesOf (listOf (heldFor id ts)))))))
 judge L (getPending id time room) ts =
@@ -97,7 +92,7 @@ ran L a bytes used = run (trackedForm L) keyOf (actionCause L a) (judge L a) byt
 
 -- the numbers are of their types: RSeq and CSeq of 32 bits, a code of 16, a time of 64
 abbrev pub Typed : Action → Type 0
-Typed (register id p) = (p .rseq < 4294967296) × ((p .cseq < 4294967296) × ((p .code < 65536) × (p .registeredAt < 18446744073709551616)))
+Typed (register id rseq cseq method code time) = (rseq < 4294967296) × ((cseq < 4294967296) × ((code < 65536) × (time < 18446744073709551616)))
 Typed (validate id block time) = time < 18446744073709551616
 Typed (isPracked id r) = Unit {0}
 Typed (getPending id time room) = time < 18446744073709551616
@@ -106,4 +101,4 @@ Typed (removePracked id r) = Unit {0}
 
 -- the calls of a list
 abbrev pub calls : LimitSet → Calls Tracked Value
-calls L = record { Call = Call; lent = λ c. c .lent; Typed = λ c. Typed (c .action); cause = λ c. actionCause L (c .action); judge = λ c. judge L (c .action) }
+calls L = record { Action = Action; Typed = Typed; cause = actionCause L; judge = judge L }

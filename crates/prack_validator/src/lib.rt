@@ -3,7 +3,7 @@
 use limits::Check;
 use limits::Refusal;
 use output::Written;
-use prack_entries::Seat;
+use prack_entries::Slot;
 use prack_entries::clean_copy;
 use prack_entries::find;
 use prack_entries::set;
@@ -14,9 +14,9 @@ use rack::RAck;
 ghost use mathlib.Core.Path.{_≡_};
 ghost use lib.ListN.{length};
 ghost use Rattle.limits.specs.Limits.{rustLimits};
-ghost use Rattle.prack_body.specs.Lists.{pendingOf};
+ghost use Rattle.ordered_store.specs.Answers.{writtenIn, usedWritten};
 ghost use Rattle.prack_validator.specs.Validator.{register, validate, isPracked, getPending, ran};
-ghost use Rattle.prack_validator.specs.Answers.{writtenIn, usedWritten, validatedIn, prackedOf, listedIn, usedListed, outputAfter, validatedOf};
+ghost use Rattle.prack_validator.specs.Answers.{validatedIn, prackedOf, listedIn, usedListed, outputAfter, validatedOf};
 
 // The RAck that was accepted, or the cause; and the new used length, since a refused PRACK keeps the cleaned list.
 pub enum Validated {
@@ -46,9 +46,9 @@ pub fn register(
     bytes: &mut [u8],
     used: usize,
 ) -> Written
-    ensures { λ r. ⌜ r ≡ writtenIn (ran rustLimits (register (now (id .entry)) (pendingOf rseq cseq method code time)) (now (bytes .entry)) used) ⌝ }
-    ensures { λ _. ⌜ now (bytes .exit) ≡ ran rustLimits (register (now (id .entry)) (pendingOf rseq cseq method code time)) (now (bytes .entry)) used .bytes ⌝ }
-    ensures { λ r. ⌜ usedWritten r used ≡ ran rustLimits (register (now (id .entry)) (pendingOf rseq cseq method code time)) (now (bytes .entry)) used .used ⌝ }
+    ensures { λ r. ⌜ r ≡ writtenIn (ran rustLimits (register (now (id .entry)) rseq cseq method code time) (now (bytes .entry)) used) ⌝ }
+    ensures { λ _. ⌜ now (bytes .exit) ≡ ran rustLimits (register (now (id .entry)) rseq cseq method code time) (now (bytes .entry)) used .bytes ⌝ }
+    ensures { λ r. ⌜ usedWritten r used ≡ ran rustLimits (register (now (id .entry)) rseq cseq method code time) (now (bytes .entry)) used .used ⌝ }
 {
     if text::too_long(id) {
         return Written::Refused(Refusal::TextTooLong);
@@ -56,14 +56,14 @@ pub fn register(
     if !methods::is_method(method) {
         return Written::Refused(Refusal::InvalidMethod);
     }
-    let seat = find(id, bytes, used);
-    if let Seat::Broken = seat {
+    let slot = find(id, bytes, used);
+    if let Slot::Broken = slot {
         return Written::Refused(Refusal::BadStore);
     }
-    let mut body = [0u8; 210];
-    let n = clean_copy(seat, bytes, used, time, &mut body);
+    let mut body = [0u8; prack_body::BODY_ROOM];
+    let n = clean_copy(slot, bytes, used, time, &mut body);
     let m = prack_list::push(&mut body, n, rseq, cseq, method, code, time);
-    set(id, seat, &body[..m], bytes, used)
+    set(id, slot, &body[..m], bytes, used)
 }
 
 // PrackValidator::validate_prack: 1, 2, 3, 18, 19 to 24. Cleaned first; the response that is acknowledged is marked.
@@ -77,14 +77,14 @@ pub fn validate(id: &[u8], block: &[u8], time: u64, bytes: &mut [u8], used: usiz
     if let Check::Refused(x) = msg::check_block(block) {
         return Validated::Refused(x, used);
     }
-    let seat = find(id, bytes, used);
-    if let Seat::Broken = seat {
+    let slot = find(id, bytes, used);
+    if let Slot::Broken = slot {
         return Validated::Refused(Refusal::BadStore, used);
     }
-    let mut body = [0u8; 210];
-    let n = clean_copy(seat, bytes, used, time, &mut body);
+    let mut body = [0u8; prack_body::BODY_ROOM];
+    let n = clean_copy(slot, bytes, used, time, &mut body);
     let verdict = hold_against(block, &mut body, n);
-    match set(id, seat, &body[..n], bytes, used) {
+    match set(id, slot, &body[..n], bytes, used) {
         Written::Length(after) => judged(verdict, after),
         Written::Refused(x) => Validated::Refused(x, used),
     }
@@ -100,7 +100,7 @@ pub fn is_pracked(id: &[u8], rseq: u32, bytes: &[u8], used: usize) -> Pracked
         return Pracked::Refused(Refusal::TextTooLong);
     }
     match find(id, bytes, used) {
-        Seat::Held(t) => {
+        Slot::Held(t) => {
             let from = t.id.start + t.id.length;
             let to = t.end;
             match prack_list::first_of(&bytes[from..to], to - from, rseq) {
@@ -109,8 +109,8 @@ pub fn is_pracked(id: &[u8], rseq: u32, bytes: &[u8], used: usize) -> Pracked
                 Position::Unknown => Pracked::Is(false),
             }
         }
-        Seat::Free(_) => Pracked::Is(false),
-        Seat::Broken => Pracked::Refused(Refusal::BadStore),
+        Slot::Free(_) => Pracked::Is(false),
+        Slot::Broken => Pracked::Refused(Refusal::BadStore),
     }
 }
 
@@ -124,16 +124,16 @@ pub fn get_pending(id: &[u8], time: u64, bytes: &mut [u8], used: usize, out: &mu
     if text::too_long(id) {
         return Listed::Refused(Refusal::TextTooLong);
     }
-    let seat = find(id, bytes, used);
-    if let Seat::Broken = seat {
+    let slot = find(id, bytes, used);
+    if let Slot::Broken = slot {
         return Listed::Refused(Refusal::BadStore);
     }
-    let mut body = [0u8; 210];
-    let n = clean_copy(seat, bytes, used, time, &mut body);
+    let mut body = [0u8; prack_body::BODY_ROOM];
+    let n = clean_copy(slot, bytes, used, time, &mut body);
     if out.len() < prack_list::open_size(&body, n) {
         return Listed::Refused(Refusal::NoRoom);
     }
-    match set(id, seat, &body[..n], bytes, used) {
+    match set(id, slot, &body[..n], bytes, used) {
         Written::Length(after) => Listed::Is(prack_list::open_bytes(&body, n, out), after),
         Written::Refused(x) => Listed::Refused(x),
     }

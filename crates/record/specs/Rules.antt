@@ -7,8 +7,9 @@ use mathlib.Core.Bool.{Bool, true, false, cond, not, _&&_, _||_}
 use mathlib.Core.Option.{Option, none, some}
 use lib.Dec.{leb, ltb, eqb}
 use Rattle.limits.specs.Limits.{LimitSet}
-use Rattle.limits.specs.Outcome.{Outcome, given, refuseIf}
-use Rattle.limits.specs.declared.Refusal.the-variants.{CSeqZero, CSeqTooLarge, InvalidCSeq, CSeqJumpTooLarge, SessionExpiresTooSmall, SessionExpiresTooLarge}
+use Rattle.limits.specs.Outcome.{Outcome, given, refuseBy, refuseIf}
+use Rattle.limits.specs.declared.Refusal.the-variants.{CSeqZero, CSeqTooLarge, InvalidCSeq, CSeqJumpTooLarge}
+use Rattle.session_timer_manager.specs.Intervals.{secondsCause}
 use Rattle.record.specs.Record.{State, early, confirmed, terminated, Numbers}
 
 -- ---- requests
@@ -71,4 +72,4 @@ withSeconds n x = record { state = x .state; local = x .local; remote = x .remot
 
 -- 13 with the least, then 14
 unfoldable pub intervalStep : LimitSet → ℕ → Numbers → Outcome Numbers
-intervalStep L n x = refuseIf (ltb n (L .minExpires)) (SessionExpiresTooSmall (L .minExpires)) (refuseIf (ltb (L .maxExpires) n) SessionExpiresTooLarge (given (withSeconds n x)))
+intervalStep L n x = refuseBy (secondsCause L n) (given (withSeconds n x))

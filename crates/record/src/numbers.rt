@@ -1,9 +1,11 @@
 // The state and the numbers of a record, by value, and what requests and other calls make of them.
 use limits::Limits;
 use limits::Refusal;
+use session_timer_manager::CheckedSeconds;
+use session_timer_manager::check_expires_seconds;
 ghost use mathlib.Core.Path.{_≡_};
 ghost use Rattle.limits.specs.Limits.{rustLimits};
-ghost use Rattle.record.specs.Rules.{requestStep, ackStep, otherStep, confirmStep, terminateStep, localStep, intervalStep};
+ghost use Rattle.record.specs.Rules.{requestStep, ackStep, otherStep, confirmStep, terminateStep, localStep, withSeconds, intervalStep};
 ghost use Rattle.record.specs.NumbersForm.{meaning, kindIn, outcomeIn};
 
 pub enum State {
@@ -138,25 +140,26 @@ impl Numbers {
     pub fn set_session_expires(self, seconds: u64) -> Step
         ensures { λ r. ⌜ outcomeIn r ≡ intervalStep rustLimits seconds (meaning self) ⌝ }
     {
-        if seconds < Limits::MIN_SESSION_EXPIRES as u64 {
-            return Step::Refused(Refusal::SessionExpiresTooSmall(
-                Limits::MIN_SESSION_EXPIRES as u64,
-            ));
+        match check_expires_seconds(seconds) {
+            CheckedSeconds::Accepted(n) => Step::Taken(self.with_seconds(n)),
+            CheckedSeconds::Refused(cause) => Step::Refused(cause),
         }
-        if (Limits::MAX_SESSION_EXPIRES as u64) < seconds {
-            return Step::Refused(Refusal::SessionExpiresTooLarge);
-        }
+    }
+
+    fn with_seconds(self, n: u32) -> Numbers
+        ensures { λ r. ⌜ meaning r ≡ withSeconds n (meaning self) ⌝ }
+    {
         let state = self.state;
         let last_ack = self.last_ack;
         let refresher = self.refresher;
-        Step::Taken(Numbers {
+        Numbers {
             state,
             local: self.local,
             remote: self.remote,
             last_ack,
-            seconds: Optional::Number(seconds as u32),
+            seconds: Optional::Number(n),
             refresher,
-        })
+        }
     }
 
     fn in_state(self, state: State) -> Numbers

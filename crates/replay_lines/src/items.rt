@@ -74,14 +74,19 @@ pub fn read_items(
     count
 }
 
-fn bad() -> Item {
+// An item that has no bytes.
+fn without_bytes(kind: u8, value: u64, at: usize, to: usize) -> Item {
     Item {
-        kind: 0,
-        value: 0,
+        kind: kind,
+        value: value,
         start: 0,
-        at: 0,
-        to: 0,
+        at: at,
+        to: to,
     }
+}
+
+fn bad() -> Item {
+    without_bytes(0, 0, 0, 0)
 }
 
 // The item behind the blank at a place.
@@ -98,27 +103,38 @@ fn read_item(line: &[u8], blank: usize, bytes: &mut [u8], to: usize) -> Item {
     }
     let b = byte(line, at);
     if b == 61 {
-        return Item {
-            kind: 61,
-            value: 0,
-            start: 0,
-            at: at + 1,
-            to: to,
-        };
+        return without_bytes(61, 0, at + 1, to);
     }
     if b == 91 {
         return lent(line, at + 1, to);
     }
+    number_or_text(line, at, bytes, to)
+}
+
+// The rest of `[n]`.
+fn lent(line: &[u8], at: usize, to: usize) -> Item {
+    let n = read_number(line, at);
+    let end = n.at;
+    if end >= line.len() {
+        return bad();
+    }
+    if !n.good || byte(line, end) != 93 {
+        return bad();
+    }
+    without_bytes(115, n.value, end + 1, to)
+}
+
+// A number, or a text: one that begins with a number has `*` behind it.
+fn number_or_text(line: &[u8], at: usize, bytes: &mut [u8], to: usize) -> Item {
     let n = read_number(line, at);
     if n.good && byte(line, n.at) != 42 {
-        return Item {
-            kind: 110,
-            value: n.value,
-            start: 0,
-            at: n.at,
-            to: to,
-        };
+        return without_bytes(110, n.value, n.at, to);
     }
+    read_text(line, at, bytes, to)
+}
+
+// A text, its bytes written from `to` on.
+fn read_text(line: &[u8], at: usize, bytes: &mut [u8], to: usize) -> Item {
     let p = joined(line, at, bytes, to);
     let end = p.to;
     if !p.good {
@@ -134,24 +150,5 @@ fn read_item(line: &[u8], blank: usize, bytes: &mut [u8], to: usize) -> Item {
         start: to,
         at: p.at,
         to: end,
-    }
-}
-
-// The rest of `[n]`.
-fn lent(line: &[u8], at: usize, to: usize) -> Item {
-    let n = read_number(line, at);
-    let end = n.at;
-    if end >= line.len() {
-        return bad();
-    }
-    if !n.good || byte(line, end) != 93 {
-        return bad();
-    }
-    Item {
-        kind: 115,
-        value: n.value,
-        start: 0,
-        at: end + 1,
-        to: to,
     }
 }

@@ -1,21 +1,13 @@
--- The RSeq store's entries: the RSeq number of each dialog (RFC 3262 section 3), by its identifier. The layout: docs/LAYOUTS.md, "The RSeq store". What the calls
--- make of them is in rseq_manager/specs/RSeq.antt.
+-- The RSeq store's entries: the RSeq number of each dialog, by its identifier. (By RFC 3262 section 3 RSeq numbers are counted within one request.) The layout:
+-- docs/LAYOUTS.md, "The RSeq store". What the calls make of them is in rseq_manager/specs/RSeq.antt.
 use Prim.Native.Nat.{ℕ, _<_}
 use mathlib.Core.Bool.{Bool}
 use mathlib.Core.List.{List, [], _∷_}
 use lib.ListN.{length}
 use lib.Dec.{ltb}
+use Rattle.dialog_id.specs.Ident.{Ident, ident}
 use Rattle.record.specs.Codec.{Codec, Pair, then, such, mapped, four, text}
 use Rattle.ordered_store.specs.Entries.{Key}
-
--- an identifier: three texts, any bytes
-pub record Ident : Type 0 where
-  pub callId : List ℕ
-  pub localTag : List ℕ
-  pub remoteTag : List ℕ
-
-abbrev pub ident : List ℕ → List ℕ → List ℕ → Ident
-ident callId localTag remoteTag = record { callId = callId; localTag = localTag; remoteTag = remoteTag }
 
 -- Call-ID first, then the local tag, then the remote one
 abbrev pub keyOfIdent : Ident → Key

@@ -1,11 +1,11 @@
 // One entry of the RSeq store, read at a place: three texts with two length bytes each, then a number that isn't 0.
+use image::Text;
 use text::Span;
 ghost use mathlib.Core.Path.{_≡_};
 ghost use Prim.Native.Nat.{_≤_};
 ghost use lib.ListN.{length, drop};
-ghost use Rattle.record.specs.Codec.{text};
 ghost use Rattle.rseq_entries.specs.Entries.{entryForm};
-ghost use Rattle.rseq_entries.specs.Places.{textFrom, readingOf};
+ghost use Rattle.rseq_entries.specs.Places.{readingOf};
 
 // Where its texts lie, its number, and the place after it.
 pub struct EntryAt {
@@ -21,24 +21,18 @@ pub enum EntryReading {
     Broken,
 }
 
-// Where a text lies; what follows begins at its end.
-pub enum Text {
-    At(Span),
-    Broken,
-}
-
 // The entry that begins at a place.
 pub fn read_entry(bytes: &[u8], at: usize) -> EntryReading
     requires { ⌜ at ≤ length (now bytes) ⌝ }
     ensures { λ r. ⌜ r ≡ readingOf at (entryForm .read (drop at (now (bytes .entry)))) ⌝ }
 {
-    let Text::At(call_id) = read_text(bytes, at) else {
+    let Text::At(call_id) = image::read_text(bytes, at) else {
         return EntryReading::Broken;
     };
-    let Text::At(local_tag) = read_text(bytes, call_id.start + call_id.length) else {
+    let Text::At(local_tag) = image::read_text(bytes, call_id.start + call_id.length) else {
         return EntryReading::Broken;
     };
-    let Text::At(remote_tag) = read_text(bytes, local_tag.start + local_tag.length) else {
+    let Text::At(remote_tag) = image::read_text(bytes, local_tag.start + local_tag.length) else {
         return EntryReading::Broken;
     };
     let place = remote_tag.start + remote_tag.length;
@@ -55,23 +49,5 @@ pub fn read_entry(bytes: &[u8], at: usize) -> EntryReading
         remote_tag,
         number,
         end: place + 4,
-    })
-}
-
-// Two length bytes, then as many bytes.
-fn read_text(bytes: &[u8], at: usize) -> Text
-    requires { ⌜ at ≤ length (now bytes) ⌝ }
-    ensures { λ r. ⌜ r ≡ textFrom at (text .read (drop at (now (bytes .entry)))) ⌝ }
-{
-    if bytes.len() - at < 2 {
-        return Text::Broken;
-    }
-    let n = image::read_two(bytes, at);
-    if bytes.len() - at - 2 < n {
-        return Text::Broken;
-    }
-    Text::At(Span {
-        start: at + 2,
-        length: n,
     })
 }

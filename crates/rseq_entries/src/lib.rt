@@ -2,7 +2,6 @@
 mod entries;
 mod finding;
 
-pub use finding::Count;
-pub use finding::Seat;
+pub use finding::Slot;
 pub use finding::count_entries;
 pub use finding::find;

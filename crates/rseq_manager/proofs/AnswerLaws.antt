@@ -21,21 +21,25 @@ use Rattle.output.specs.declared.Written.{Written}
 use Rattle.output.specs.declared.Written.the-variants as written
 use Rattle.record.specs.Codec.{four}
 use Rattle.record.proofs.CodecLaws.{Bytes}
+use Rattle.ordered_store.specs.Answers.{writtenIn, usedWritten}
 use Rattle.ordered_store.specs.Entries.{decodeEntries}
+use Rattle.ordered_store.specs.Places.{countOf}
 use Rattle.ordered_store.specs.Run.{Left}
-use Rattle.rseq_entries.specs.Entries.{Ident, keyOfIdent, Entry, keyOf, entryForm}
-use Rattle.rseq_manager.specs.RSeq.{firstNumber, nextNumber, next, current, remove, len, identCause, actionCause, numbered, judge, ran}
-use Rattle.rseq_manager.specs.Answers.{numberedIn, usedAfter, numberedFrom, writtenIn, usedWritten, currentOf, countedOf, emptiness}
-use Rattle.rseq_entries.specs.Places.{countOf, seatUsed}
+use Rattle.ordered_store.specs.declared.Count.the-variants as counts
+use Rattle.ordered_store.proofs.SlotLaws.{not-read}
+use Rattle.dialog_id.specs.Ident.{Ident, identCause}
+use Rattle.rseq_entries.specs.Entries.{keyOfIdent, Entry, keyOf, entryForm}
+use Rattle.rseq_manager.specs.RSeq.{firstNumber, nextNumber, next, current, remove, len, actionCause, numbered, judge, ran}
+use Rattle.rseq_manager.specs.Answers.{numberedIn, usedAfter, numberedFrom, currentOf, countedOf, emptiness}
+use Rattle.rseq_entries.specs.Places.{slotFor}
 use Rattle.rseq_manager.specs.declared.Numbered.{Numbered}
 use Rattle.rseq_manager.specs.declared.Numbered.the-variants as numbers
 use Rattle.rseq_manager.specs.declared.Current.{Current}
 use Rattle.rseq_manager.specs.declared.Current.the-variants as currents
 use Rattle.rseq_manager.specs.declared.Counted.{Counted}
 use Rattle.rseq_manager.specs.declared.Counted.the-variants as counteds
-use Rattle.rseq_entries.specs.declared.finding.Count.the-variants as counts
-use Rattle.rseq_entries.specs.declared.finding.Seat.the-variants as seats
-use Rattle.rseq_entries.proofs.SeatLaws.{holds, lacks, unreadable, not-read}
+use Rattle.rseq_entries.specs.declared.finding.Slot.the-variants as slots
+use Rattle.rseq_entries.proofs.SlotLaws.{holds, lacks, unreadable}
 use Rattle.rseq_manager.proofs.OperationLaws.{accepted, by-arguments, by-store, by-keeping, current-held, current-free, remove-held, remove-free, next-held, next-free, leftBy}
 
 -- ---- the arguments
@@ -113,13 +117,13 @@ module _ (i : Ident) (bytes : List ℕ) (used : ℕ) (b : Bytes bytes) where
       next-clear : actionCause rustLimits (next i n) ≡ none
       next-clear = next-cause i n (passed (identCause rustLimits i) p)
 
-      pub next-broken : seatUsed (keyOfIdent i) bytes used ≡ seats.Broken → DoneNext used nextLeft (numbers.Refused BadStore) bytes
+      pub next-broken : slotFor (keyOfIdent i) bytes used ≡ slots.Broken → DoneNext used nextLeft (numbers.Refused BadStore) bytes
       next-broken s =
           subst (λ (l : Left ℕ). DoneNext used l (numbers.Refused BadStore) bytes)
           (sym (by-store rustLimits bytes used (next i n) next-clear (keyOfIdent i) (unreadable (keyOfIdent i) bytes used s))) (refl, (refl, refl))
 
       -- a held number: its four bytes
-      pub next-raised : {at number end m : ℕ} {after : List ℕ} → seatUsed (keyOfIdent i) bytes used ≡ seats.Held at number end → m ≡ nextNumber number
+      pub next-raised : {at number end m : ℕ} {after : List ℕ} → slotFor (keyOfIdent i) bytes used ≡ slots.Held at number end → m ≡ nextNumber number
           → after ≡ putAt (end - 4) (four .write m) bytes → DoneNext used nextLeft (numbers.Is m used) after
       next-raised {at} {number} {end} {m} {after} s q w =
           let e : nextLeft ≡ accepted after used m =
@@ -128,7 +132,7 @@ module _ (i : Ident) (bytes : List ℕ) (used : ℕ) (b : Bytes bytes) where
           subst (λ (l : Left ℕ). DoneNext used l (numbers.Is m used) after) (sym e) (refl, (refl, refl))
 
       -- a new one
-      pub next-new : {at m : ℕ} {r : Numbered} {after : List ℕ} → seatUsed (keyOfIdent i) bytes used ≡ seats.Free at → m ≡ firstNumber n
+      pub next-new : {at m : ℕ} {r : Numbered} {after : List ℕ} → slotFor (keyOfIdent i) bytes used ≡ slots.Free at → m ≡ firstNumber n
           → (r ≡ numberedFrom m (fitted (length bytes) (spliced at 0 (entryForm .write (numbered i m)) (take used bytes))))
           × (after ≡ leaves (fitted (length bytes) (spliced at 0 (entryForm .write (numbered i m)) (take used bytes))) bytes)
           → DoneNext used nextLeft r after
@@ -156,17 +160,17 @@ module _ (i : Ident) (bytes : List ℕ) (used : ℕ) (b : Bytes bytes) where
     current-clear : actionCause rustLimits (current i) ≡ none
     current-clear = current-cause i 0 (passed (identCause rustLimits i) p)
 
-    pub current-broken : seatUsed (keyOfIdent i) bytes used ≡ seats.Broken → DoneCurrent bytes used currentLeft (currents.Refused BadStore)
+    pub current-broken : slotFor (keyOfIdent i) bytes used ≡ slots.Broken → DoneCurrent bytes used currentLeft (currents.Refused BadStore)
     current-broken s =
         subst (λ (l : Left ℕ). DoneCurrent bytes used l (currents.Refused BadStore))
         (sym (by-store rustLimits bytes used (current i) current-clear (keyOfIdent i) (unreadable (keyOfIdent i) bytes used s))) (refl, (refl, refl))
 
-    pub current-is : {at number end : ℕ} → seatUsed (keyOfIdent i) bytes used ≡ seats.Held at number end → DoneCurrent bytes used currentLeft (currents.Is number)
+    pub current-is : {at number end : ℕ} → slotFor (keyOfIdent i) bytes used ≡ slots.Held at number end → DoneCurrent bytes used currentLeft (currents.Is number)
     current-is {at} {number} {end} s =
         subst (λ (l : Left ℕ). DoneCurrent bytes used l (currents.Is number)) (sym (current-held bytes used b i (holds (keyOfIdent i) bytes used s) rustLimits current-clear)) (refl, (refl, refl))
 
     -- 15
-    pub current-none : {at : ℕ} → seatUsed (keyOfIdent i) bytes used ≡ seats.Free at → DoneCurrent bytes used currentLeft (currents.Refused NotFound)
+    pub current-none : {at : ℕ} → slotFor (keyOfIdent i) bytes used ≡ slots.Free at → DoneCurrent bytes used currentLeft (currents.Refused NotFound)
     current-none s =
         subst (λ (l : Left ℕ). DoneCurrent bytes used l (currents.Refused NotFound)) (sym (current-free bytes used b i (lacks (keyOfIdent i) bytes used s) rustLimits current-clear)) (refl, (refl, refl))
 
@@ -183,13 +187,13 @@ module _ (i : Ident) (bytes : List ℕ) (used : ℕ) (b : Bytes bytes) where
     remove-clear : actionCause rustLimits (remove i) ≡ none
     remove-clear = remove-cause i 0 (passed (identCause rustLimits i) p)
 
-    pub remove-broken : seatUsed (keyOfIdent i) bytes used ≡ seats.Broken → DoneRemove used removeLeft (written.Refused BadStore) bytes
+    pub remove-broken : slotFor (keyOfIdent i) bytes used ≡ slots.Broken → DoneRemove used removeLeft (written.Refused BadStore) bytes
     remove-broken s =
         subst (λ (l : Left ℕ). DoneRemove used l (written.Refused BadStore) bytes)
         (sym (by-store rustLimits bytes used (remove i) remove-clear (keyOfIdent i) (unreadable (keyOfIdent i) bytes used s))) (refl, (refl, refl))
 
     -- its bytes cut out
-    pub remove-cut : {at number end n : ℕ} {after : List ℕ} → seatUsed (keyOfIdent i) bytes used ≡ seats.Held at number end → n ≡ used - (end - at) + 0
+    pub remove-cut : {at number end n : ℕ} {after : List ℕ} → slotFor (keyOfIdent i) bytes used ≡ slots.Held at number end → n ≡ used - (end - at) + 0
         → after ≡ over (spliced at (end - at) [] (take used bytes)) bytes → DoneRemove used removeLeft (written.Length n) after
     remove-cut {at} {number} {end} {n} {after} s q w =
         let e : removeLeft ≡ accepted after n 0 =
@@ -197,7 +201,7 @@ module _ (i : Ident) (bytes : List ℕ) (used : ℕ) (b : Bytes bytes) where
         subst (λ (l : Left ℕ). DoneRemove used l (written.Length n) after) (sym e) (refl, (refl, refl))
 
     -- nothing to remove
-    pub remove-nothing : {at : ℕ} → seatUsed (keyOfIdent i) bytes used ≡ seats.Free at → DoneRemove used removeLeft (written.Length used) bytes
+    pub remove-nothing : {at : ℕ} → slotFor (keyOfIdent i) bytes used ≡ slots.Free at → DoneRemove used removeLeft (written.Length used) bytes
     remove-nothing s =
         subst (λ (l : Left ℕ). DoneRemove used l (written.Length used) bytes) (sym (remove-free bytes used b i (lacks (keyOfIdent i) bytes used s) rustLimits remove-clear)) (refl, (refl, refl))
 
@@ -213,7 +217,7 @@ module _ (bytes : List ℕ) (used : ℕ) where
   module _ (h : used ≤ length bytes) where
     pub len-broken : countOf (decodeEntries entryForm keyOf (take used bytes)) ≡ counts.Broken → DoneLen bytes used lenLeft (counteds.Refused BadStore)
     len-broken e =
-        subst (λ (l : Left ℕ). DoneLen bytes used l (counteds.Refused BadStore)) (sym (by-store rustLimits bytes used len len-cause [] (inr (h, not-read bytes used e)))) (refl, (refl, refl))
+        subst (λ (l : Left ℕ). DoneLen bytes used l (counteds.Refused BadStore)) (sym (by-store rustLimits bytes used len len-cause [] (inr (h, not-read entryForm keyOf (take used bytes) e)))) (refl, (refl, refl))
 
     pub len-is : Bytes bytes → {n : ℕ} → countOf (decodeEntries entryForm keyOf (take used bytes)) ≡ counts.Entries n → DoneLen bytes used lenLeft (counteds.Is n)
     unfolding judge

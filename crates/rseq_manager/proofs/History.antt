@@ -10,11 +10,12 @@ use Rattle.limits.specs.Outcome.{given, andThen, orRefuse}
 use Rattle.limits.specs.declared.Refusal.the-variants.{NotFound}
 use Rattle.ordered_store.specs.Entries.{entryOf}
 use Rattle.ordered_store.specs.Run.{Decided}
-use Rattle.ordered_store.specs.History.{EachSent, EachTyped, content, Follows}
+use Rattle.ordered_store.specs.History.{Call, EachSent, EachTyped, content, Follows}
 use Rattle.ordered_store.proofs.EntryLaws.{set-ascends, without-ascends, set-good, without-good, found-good}
 use Rattle.ordered_store.proofs.HistoryLaws.{Sound, Keeps, sound, follows}
-use Rattle.rseq_entries.specs.Entries.{Ident, keyOfIdent, Entry, keyOf, entryForm, WellFormed}
-use Rattle.rseq_manager.specs.RSeq.{numberAfter, Action, next, current, remove, len, Call, identCause, actionCause, deciding, numbered, judge, calls}
+use Rattle.dialog_id.specs.Ident.{Ident, identCause}
+use Rattle.rseq_entries.specs.Entries.{keyOfIdent, Entry, keyOf, entryForm, WellFormed}
+use Rattle.rseq_manager.specs.RSeq.{numberAfter, Action, next, current, remove, len, actionCause, deciding, numbered, judge, calls}
 use Rattle.rseq_entries.proofs.FormLaws.{form-exact, filled}
 use Rattle.rseq_manager.proofs.AnswerLaws.{shorts}
 
@@ -50,22 +51,22 @@ action-keeps (remove id) es d c j s =
 action-keeps len es d c j s = subst (Sound keyOf WellFormed) (decided j) s
 
 pub keeps : Keeps keyOf WellFormed (calls rustLimits)
-keeps c es d t e j s = action-keeps (c .action) es d e j s
+keeps a es d t e j s = action-keeps a es d e j s
 
 -- ---- every list of calls
 
 -- the store follows the numbers, for every list of calls each lent at most the memory
-pub rseq-follows : (m : List ℕ) (cs : List Call) → EachSent (calls rustLimits) m cs → Follows entryForm keyOf (calls rustLimits) m cs
+pub rseq-follows : (m : List ℕ) (cs : List (Call Action)) → EachSent (calls rustLimits) m cs → Follows entryForm keyOf (calls rustLimits) m cs
 rseq-follows m cs s = follows entryForm keyOf (calls rustLimits) WellFormed form-exact filled keeps m cs s
 
 -- after every list of calls, the numbers held are well-formed entries in ascending order
-pub held-sound : (cs : List Call) → Sound keyOf WellFormed (content entryForm keyOf (calls rustLimits) cs)
+pub held-sound : (cs : List (Call Action)) → Sound keyOf WellFormed (content entryForm keyOf (calls rustLimits) cs)
 held-sound cs = sound entryForm keyOf (calls rustLimits) WellFormed form-exact filled keeps cs (typed cs)
   where
-    typed : (cs : List Call) → EachTyped (calls rustLimits) cs
+    typed : (cs : List (Call Action)) → EachTyped (calls rustLimits) cs
     typed [] = tt
     typed (c ∷ cs) = (tt, typed cs)
 
 -- no number held is 0
-pub never-zero : (cs : List Call) (id : Ident) (e : Entry) → entryOf keyOf (keyOfIdent id) (content entryForm keyOf (calls rustLimits) cs) ≡ some e → 0 < e .number
+pub never-zero : (cs : List (Call Action)) (id : Ident) (e : Entry) → entryOf keyOf (keyOfIdent id) (content entryForm keyOf (calls rustLimits) cs) ≡ some e → 0 < e .number
 never-zero cs id e q = found-good keyOf WellFormed (keyOfIdent id) (content entryForm keyOf (calls rustLimits) cs) e (held-sound cs .0) q .positive

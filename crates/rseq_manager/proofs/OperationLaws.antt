@@ -1,4 +1,4 @@
--- What each call leaves, by the seat of its identifier: the entries changed, and the bytes that change with them. Assumes nothing.
+-- What each call leaves, by the slot of its identifier: the entries changed, and the bytes that change with them. Assumes nothing.
 use Prim.Native.Nat.{ℕ, _+_, _-_, _≤_}
 use native.Mathlib.Omega.{arith}
 use mathlib.Core.Path.{_≡_, refl, sym, ap, ap₂, subst, _∙_}
@@ -23,11 +23,13 @@ use Rattle.ordered_store.specs.Entries.{Key, encodeEntries, decodeEntries, asce
 use Rattle.ordered_store.specs.Run.{Left}
 use Rattle.ordered_store.proofs.BytesLaws.{decoded}
 use Rattle.ordered_store.proofs.EntryLaws.{instead, Held, Free, held-at, free-at, held-entry, held-key, whole, at-front, held-parts, held-without, held-within, free-entry, free-without, free-set, free-within}
+use Rattle.ordered_store.proofs.SlotLaws.{Unreadable}
 use Rattle.ordered_store.proofs.RunLaws.{keptWith, way-arguments, way-over, way-unread, way-judged, way-full, way-taken}
-use Rattle.rseq_entries.specs.Entries.{Ident, keyOfIdent, Entry, keyOf, entryForm, WellFormed}
+use Rattle.dialog_id.specs.Ident.{Ident}
+use Rattle.rseq_entries.specs.Entries.{keyOfIdent, Entry, keyOf, entryForm, WellFormed}
 use Rattle.rseq_manager.specs.RSeq.{firstNumber, nextNumber, numberAfter, Action, next, current, remove, actionCause, deciding, numbered, judge, ran}
 use Rattle.rseq_entries.proofs.FormLaws.{form-exact, entry-size}
-use Rattle.rseq_entries.proofs.SeatLaws.{Holds, Lacks, Unreadable}
+use Rattle.rseq_entries.proofs.SlotLaws.{Holds, Lacks}
 
 -- ---- bytes
 
@@ -88,7 +90,7 @@ module _ (L : LimitSet) (bytes : List ℕ) (used : ℕ) (a : Action) where
 
   module _ (clear : actionCause L a ≡ none) where
     -- 3
-    pub by-store : (k : Key) → Unreadable k bytes used → ran L a bytes used ≡ keptWith bytes used BadStore
+    pub by-store : (k : Key) → Unreadable entryForm keyOf k bytes used → ran L a bytes used ≡ keptWith bytes used BadStore
     by-store k u =
         ⊎-elim (λ h. way-over entryForm keyOf (actionCause L a) (judge a) bytes used clear h)
         (λ h. way-unread entryForm keyOf (actionCause L a) (judge a) bytes used clear (h .0) (h .1)) u
@@ -110,21 +112,21 @@ module _ (bytes : List ℕ) (used : ℕ) (b : Bytes bytes) (id : Ident) where
   k = keyOfIdent id
 
   module _ {at number end : ℕ} (w : Holds k bytes used at number end) where
-    h : Held entryForm keyOf k 0 at (w .entry) (w .list)
-    h = held-at entryForm keyOf k (w .list) (w .seat)
+    h : Held entryForm keyOf k 0 at (w .entry) (w .among .list)
+    h = held-at entryForm keyOf k (w .among .list) (w .among .slot-is)
 
-    were : encodeEntries entryForm (w .list) ≡ take used bytes
-    were = sym (decoded entryForm keyOf WellFormed form-exact (take used bytes) (w .list) (bytes-take used bytes b) (w .are) .0)
+    were : encodeEntries entryForm (w .among .list) ≡ take used bytes
+    were = sym (decoded entryForm keyOf WellFormed form-exact (take used bytes) (w .among .list) (bytes-take used bytes b) (w .among .are) .0)
 
-    size : length (encodeEntries entryForm (w .list)) ≡ used
-    size = ap length were ∙ length-take-le used bytes (w .within)
+    size : length (encodeEntries entryForm (w .among .list)) ≡ used
+    size = ap length were ∙ length-take-le used bytes (w .among .within)
 
-    found : entryOf keyOf k (w .list) ≡ some (w .entry)
-    found = held-entry entryForm keyOf k (w .list) at (w .entry) h
+    found : entryOf keyOf k (w .among .list) ≡ some (w .entry)
+    found = held-entry entryForm keyOf k (w .among .list) at (w .entry) h
 
     -- the entry lies in the used bytes
     pub end-within : end ≤ used
-    end-within = omega (arith, w .end-is, held-within entryForm keyOf k (w .list) at (w .entry) h, size)
+    end-within = omega (arith, w .end-is, held-within entryForm keyOf k (w .among .list) at (w .entry) h, size)
 
     pub number-within : at + 10 ≤ end
     number-within = omega (arith, w .end-is, entry-size (w .entry))
@@ -133,23 +135,23 @@ module _ (bytes : List ℕ) (used : ℕ) (b : Bytes bytes) (id : Ident) where
       pub current-held : actionCause L (current id) ≡ none → ran L (current id) bytes used ≡ accepted bytes used number
       unfolding judge
       current-held clear =
-          by-keeping L bytes used (current id) clear b (w .within) (w .list) (w .are) number
-          (ap (λ o. andThen (orRefuse NotFound o) (λ e. deciding (w .list) (e .number))) found ∙ ap (deciding (w .list)) (sym (w .number-is)))
+          by-keeping L bytes used (current id) clear b (w .among .within) (w .among .list) (w .among .are) number
+          (ap (λ o. andThen (orRefuse NotFound o) (λ e. deciding (w .among .list) (e .number))) found ∙ ap (deciding (w .among .list)) (sym (w .number-is)))
 
       pub remove-held : actionCause L (remove id) ≡ none
           → ran L (remove id) bytes used ≡ accepted (over (spliced at (end - at) [] (take used bytes)) bytes) (used - (end - at) + 0) 0
       unfolding judge
       remove-held clear =
           let n : end - at ≡ length (entryForm .write (w .entry)) = omega (arith, w .end-is) in
-          let new : encodeEntries entryForm (withoutEntry keyOf k (w .list)) ≡ spliced at (end - at) [] (take used bytes) =
-          held-without entryForm keyOf k (w .list) at (w .entry) h ∙ ap₂ (λ (m : ℕ) (t : List ℕ). spliced at m [] t) (sym n) were in
-          let l : length (encodeEntries entryForm (withoutEntry keyOf k (w .list))) ≡ used - (end - at) + 0 = ap length new ∙ cut-length in
-          way-taken entryForm keyOf (actionCause L (remove id)) (judge (remove id)) bytes used clear (w .within) (w .list) (w .are) (record { entries = withoutEntry keyOf k (w .list); answer = given 0 }) refl (omega (arith, l, w .within))
+          let new : encodeEntries entryForm (withoutEntry keyOf k (w .among .list)) ≡ spliced at (end - at) [] (take used bytes) =
+          held-without entryForm keyOf k (w .among .list) at (w .entry) h ∙ ap₂ (λ (m : ℕ) (t : List ℕ). spliced at m [] t) (sym n) were in
+          let l : length (encodeEntries entryForm (withoutEntry keyOf k (w .among .list))) ≡ used - (end - at) + 0 = ap length new ∙ cut-length in
+          way-taken entryForm keyOf (actionCause L (remove id)) (judge (remove id)) bytes used clear (w .among .within) (w .among .list) (w .among .are) (record { entries = withoutEntry keyOf k (w .among .list); answer = given 0 }) refl (omega (arith, l, w .among .within))
           ∙ ap₂ (λ (x : List ℕ) (m : ℕ). accepted x m 0) (ap (λ (t : List ℕ). over t bytes) new) l
         where
           cut-length : length (spliced at (end - at) [] (take used bytes)) ≡ used - (end - at) + 0
           cut-length =
-              omega (arith, length-append (take at (take used bytes)) (drop (at + (end - at)) (take used bytes)), length-take-le used bytes (w .within), length-take-le at (take used bytes) (omega (arith, length-take-le used bytes (w .within), end-within, number-within)), length-drop (at + (end - at)) (take used bytes), end-within, number-within)
+              omega (arith, length-append (take at (take used bytes)) (drop (at + (end - at)) (take used bytes)), length-take-le used bytes (w .among .within), length-take-le at (take used bytes) (omega (arith, length-take-le used bytes (w .among .within), end-within, number-within)), length-drop (at + (end - at)) (take used bytes), end-within, number-within)
 
       pub next-held : (n : ℕ) → actionCause L (next id n) ≡ none → ran L (next id n) bytes used ≡ accepted (putAt (end - 4) (four .write (nextNumber number)) bytes) used (nextNumber number)
       unfolding judge
@@ -158,30 +160,30 @@ module _ (bytes : List ℕ) (used : ℕ) (b : Bytes bytes) (id : Ident) where
           let e : Entry = w .entry in
           let front : List ℕ = encodeEntries entryForm (h .front) in
           let back : List ℕ = encodeEntries entryForm (h .back) in
-          let j : judge (next id n) (w .list) ≡ deciding (setEntry keyOf (numbered id m) (w .list)) m =
-          ap (λ o. deciding (setEntry keyOf (numbered id (numberAfter n o)) (w .list)) (numberAfter n o)) found
-          ∙ ap (λ (q : ℕ). deciding (setEntry keyOf (numbered id (nextNumber q)) (w .list)) (nextNumber q)) (sym (w .number-is)) in
-          let same : texts id ≡ texts (e .id) = same-texts id (e .id) (sym (held-key entryForm keyOf k (w .list) at e h)) in
+          let j : judge (next id n) (w .among .list) ≡ deciding (setEntry keyOf (numbered id m) (w .among .list)) m =
+          ap (λ o. deciding (setEntry keyOf (numbered id (numberAfter n o)) (w .among .list)) (numberAfter n o)) found
+          ∙ ap (λ (q : ℕ). deciding (setEntry keyOf (numbered id (nextNumber q)) (w .among .list)) (nextNumber q)) (sym (w .number-is)) in
+          let same : texts id ≡ texts (e .id) = same-texts id (e .id) (sym (held-key entryForm keyOf k (w .among .list) at e h)) in
           let old : take used bytes ≡ front ++ ((texts (e .id) ++ four .write (e .number)) ++ back) =
-          sym were ∙ whole entryForm keyOf k (w .list) at e h ∙ ap (λ (t : List ℕ). front ++ (t ++ back)) (texts-then (e .id) (e .number)) in
+          sym were ∙ whole entryForm keyOf k (w .among .list) at e h ∙ ap (λ (t : List ℕ). front ++ (t ++ back)) (texts-then (e .id) (e .number)) in
           let place : length front + length (texts (e .id)) ≡ end - 4 =
-          omega (arith, at-front entryForm keyOf k (w .list) at e h, w .end-is, ap length (texts-then (e .id) (e .number)), length-append (texts (e .id)) (four .write (e .number))) in
-          let new : encodeEntries entryForm (setEntry keyOf (numbered id m) (w .list)) ≡ spliced (end - 4) 4 (four .write m) (take used bytes) =
-          held-parts entryForm keyOf k (w .list) at e h (numbered id m) refl
+          omega (arith, at-front entryForm keyOf k (w .among .list) at e h, w .end-is, ap length (texts-then (e .id) (e .number)), length-append (texts (e .id)) (four .write (e .number))) in
+          let new : encodeEntries entryForm (setEntry keyOf (numbered id m) (w .among .list)) ≡ spliced (end - 4) 4 (four .write m) (take used bytes) =
+          held-parts entryForm keyOf k (w .among .list) at e h (numbered id m) refl
           ∙ ap (λ (t : List ℕ). front ++ (t ++ back)) (texts-then id m ∙ ap (λ (t : List ℕ). t ++ four .write m) same)
           ∙ new-number front (texts (e .id)) back (e .number) m
           ∙ ap₂ (λ (i : ℕ) (t : List ℕ). spliced i 4 (four .write m) t) place (sym old) in
-          let l : length (encodeEntries entryForm (setEntry keyOf (numbered id m) (w .list))) ≡ used = ap length new ∙ stays-long m in
-          way-taken entryForm keyOf (actionCause L (next id n)) (judge (next id n)) bytes used clear (w .within) (w .list) (w .are) (record { entries = setEntry keyOf (numbered id m) (w .list); answer = given m }) j (omega (arith, l, w .within))
-          ∙ ap₂ (λ (x : List ℕ) (q : ℕ). accepted x q m) (ap (λ (t : List ℕ). over t bytes) new ∙ sym (put-within bytes (four .write m) used (end - 4) (omega (arith, end-within, number-within)) (w .within))) l
+          let l : length (encodeEntries entryForm (setEntry keyOf (numbered id m) (w .among .list))) ≡ used = ap length new ∙ stays-long m in
+          way-taken entryForm keyOf (actionCause L (next id n)) (judge (next id n)) bytes used clear (w .among .within) (w .among .list) (w .among .are) (record { entries = setEntry keyOf (numbered id m) (w .among .list); answer = given m }) j (omega (arith, l, w .among .within))
+          ∙ ap₂ (λ (x : List ℕ) (q : ℕ). accepted x q m) (ap (λ (t : List ℕ). over t bytes) new ∙ sym (put-within bytes (four .write m) used (end - 4) (omega (arith, end-within, number-within)) (w .among .within))) l
         where
           stays-long : (m : ℕ) → length (spliced (end - 4) 4 (four .write m) (take used bytes)) ≡ used
           stays-long m =
-              omega (arith, length-append (take (end - 4) (take used bytes)) (four .write m ++ drop (end - 4 + 4) (take used bytes)), length-append (four .write m) (drop (end - 4 + 4) (take used bytes)), length-take-le used bytes (w .within), length-take-le (end - 4) (take used bytes) (omega (arith, length-take-le used bytes (w .within), end-within, number-within)), length-drop (end - 4 + 4) (take used bytes), end-within, number-within)
+              omega (arith, length-append (take (end - 4) (take used bytes)) (four .write m ++ drop (end - 4 + 4) (take used bytes)), length-append (four .write m) (drop (end - 4 + 4) (take used bytes)), length-take-le used bytes (w .among .within), length-take-le (end - 4) (take used bytes) (omega (arith, length-take-le used bytes (w .among .within), end-within, number-within)), length-drop (end - 4 + 4) (take used bytes), end-within, number-within)
 
   module _ {at : ℕ} (w : Lacks k bytes used at) where
     f : Free entryForm keyOf k 0 at (w .list)
-    f = free-at entryForm keyOf k (w .list) (w .seat)
+    f = free-at entryForm keyOf k (w .list) (w .slot-is)
 
     read : (take used bytes ≡ encodeEntries entryForm (w .list)) × GoodAll WellFormed (w .list) × (ascending keyOf (w .list) ≡ true)
     read = decoded entryForm keyOf WellFormed form-exact (take used bytes) (w .list) (bytes-take used bytes b) (w .are)

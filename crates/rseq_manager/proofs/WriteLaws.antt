@@ -12,7 +12,8 @@ use Rattle.edit.specs.Edit.{putAt, spliced, tailMoved}
 use Rattle.edit.proofs.EditLaws.{Wrote, wrote-then, wrote-three, replace-law}
 use Rattle.output.specs.Output.{fitted, leaves}
 use Rattle.record.specs.Codec.{text, four}
-use Rattle.rseq_entries.specs.Entries.{Ident, entryForm}
+use Rattle.dialog_id.specs.Ident.{Ident}
+use Rattle.rseq_entries.specs.Entries.{entryForm}
 use Rattle.rseq_manager.specs.RSeq.{numbered}
 use Rattle.rseq_manager.specs.Answers.{numberedFrom}
 use Rattle.rseq_manager.specs.declared.Numbered.{Numbered}

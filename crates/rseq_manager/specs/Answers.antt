@@ -3,8 +3,6 @@ use Prim.Native.Nat.{ℕ}
 use mathlib.Core.List.{List}
 use lib.ListN.{length}
 use Rattle.limits.specs.Outcome.{Outcome, refused, given}
-use Rattle.output.specs.declared.Written.{Written}
-use Rattle.output.specs.declared.Written.the-variants as written
 use Rattle.ordered_store.specs.Run.{Left}
 use Rattle.rseq_manager.specs.RSeq.{emptyFlag}
 use Rattle.rseq_manager.specs.declared.Numbered.{Numbered}
@@ -26,18 +24,6 @@ numberedIn l = numberedBy (l .answer) (l .used)
 abbrev pub usedAfter : Numbered → ℕ → ℕ
 usedAfter (numbered.Refused cause) used = used
 usedAfter (numbered.Is n after) used = after
-
--- `remove`: the new used length
-abbrev pub writtenBy : Outcome ℕ → ℕ → Written
-writtenBy (refused cause) used = written.Refused cause
-writtenBy (given n) used = written.Length used
-
-abbrev pub writtenIn : Left ℕ → Written
-writtenIn l = writtenBy (l .answer) (l .used)
-
-abbrev pub usedWritten : Written → ℕ → ℕ
-usedWritten (written.Refused cause) used = used
-usedWritten (written.Length after) used = after
 
 -- `current_rseq`
 abbrev pub currentOf : Outcome ℕ → Current

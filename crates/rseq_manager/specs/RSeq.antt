@@ -1,5 +1,6 @@
--- RSeqManager: the RSeq number of each dialog (RFC 3262 section 3), in a lent store of their own. Document 01, "Intervals, PRACK, RSeq": "RSeq starts at (n's
--- low 31 bits, at least 1) for a caller's n, then rises by one and stops at 4,294,967,295". What the store holds is in rseq_entries/specs/Entries.antt.
+-- RSeqManager: the RSeq number of each dialog, in a lent store of their own. (By RFC 3262 section 3 RSeq numbers are counted within one request.) Document 01,
+-- "Intervals, PRACK, RSeq": "RSeq starts at (n's low 31 bits, at least 1) for a caller's n, then rises by one and stops at 4,294,967,295". What the store holds is in
+-- rseq_entries/specs/Entries.antt.
 use Prim.Native.Nat.{ℕ, _+_, _%_, min, max}
 use mathlib.Core.Bool.{cond}
 use mathlib.Core.List.{List}
@@ -7,14 +8,14 @@ use mathlib.Core.Option.{Option, none, some}
 use lib.ListN.{length}
 use lib.Dec.{eqb}
 use Rattle.limits.specs.Limits.{LimitSet}
-use Rattle.limits.specs.Outcome.{Outcome, given, orElse, andThen, orRefuse}
+use Rattle.limits.specs.Outcome.{Outcome, given, andThen, orRefuse}
 use Rattle.limits.specs.declared.Refusal.{Refusal}
 use Rattle.limits.specs.declared.Refusal.the-variants.{NotFound}
-use Rattle.text.specs.Answers.{lengthCause}
+use Rattle.dialog_id.specs.Ident.{identCause, Ident}
 use Rattle.ordered_store.specs.Entries.{entryOf, setEntry, withoutEntry}
 use Rattle.ordered_store.specs.Run.{Decided, Left, run}
 use Rattle.ordered_store.specs.History.{Calls}
-use Rattle.rseq_entries.specs.Entries.{Ident, keyOfIdent, Entry, keyOf, entryForm}
+use Rattle.rseq_entries.specs.Entries.{keyOfIdent, Entry, keyOf, entryForm}
 
 -- ---- the numbers
 
@@ -39,15 +40,7 @@ pub data Action : Type 0 where
   remove : (id : Ident) → Action
   len : Action
 
--- a call, and how many bytes it is lent for the store
-pub record Call : Type 0 where
-  pub lent : ℕ
-  pub action : Action
-
--- 1, of the three texts
-abbrev pub identCause : LimitSet → Ident → Option Refusal
-identCause L i = orElse (lengthCause L (i .callId)) (orElse (lengthCause L (i .localTag)) (lengthCause L (i .remoteTag)))
-
+-- 1
 unfoldable pub actionCause : LimitSet → Action → Option Refusal
 actionCause L (next id n) = identCause L id
 actionCause L (current id) = identCause L id
@@ -77,4 +70,4 @@ emptyFlag n = cond (eqb n 0) 1 0
 
 -- the calls of a list; a first number is taken from any n
 abbrev pub calls : LimitSet → Calls Entry ℕ
-calls L = record { Call = Call; lent = λ c. c .lent; Typed = λ c. Unit {0}; cause = λ c. actionCause L (c .action); judge = λ c. judge (c .action) }
+calls L = record { Action = Action; Typed = λ a. Unit {0}; cause = actionCause L; judge = judge }

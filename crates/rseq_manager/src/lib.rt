@@ -1,19 +1,20 @@
 // RSeqManager: the RSeq number of each dialog, in a lent store of which so many bytes are used.
 use crate::writing::insert;
 use crate::writing::write_number;
+use dialog_id::check_lengths;
 use limits::Check;
 use limits::Refusal;
+use ordered_store::Count;
 use output::Written;
-use rseq_entries::Count;
-use rseq_entries::Seat;
+use rseq_entries::Slot;
 use rseq_entries::count_entries;
 use rseq_entries::find;
 ghost use mathlib.Core.Path.{_≡_};
 ghost use Rattle.limits.specs.Limits.{rustLimits};
-ghost use Rattle.limits.specs.Outcome.{checkOf};
-ghost use Rattle.rseq_entries.specs.Entries.{ident};
-ghost use Rattle.rseq_manager.specs.RSeq.{identCause, firstNumber, nextNumber, next, current, remove, len, ran};
-ghost use Rattle.rseq_manager.specs.Answers.{numberedIn, usedAfter, writtenIn, usedWritten, currentOf, countedOf, emptiness};
+ghost use Rattle.ordered_store.specs.Answers.{writtenIn, usedWritten};
+ghost use Rattle.dialog_id.specs.Ident.{ident};
+ghost use Rattle.rseq_manager.specs.RSeq.{firstNumber, nextNumber, next, current, remove, len, ran};
+ghost use Rattle.rseq_manager.specs.Answers.{numberedIn, usedAfter, currentOf, countedOf, emptiness};
 
 mod writing;
 
@@ -46,16 +47,16 @@ pub fn next_rseq(
     ensures { λ _. ⌜ now (bytes .exit) ≡ ran rustLimits (next (ident (now («call_id» .entry)) (now («local_tag» .entry)) (now («remote_tag» .entry))) n) (now (bytes .entry)) used .bytes ⌝ }
     ensures { λ r. ⌜ usedAfter r used ≡ ran rustLimits (next (ident (now («call_id» .entry)) (now («local_tag» .entry)) (now («remote_tag» .entry))) n) (now (bytes .entry)) used .used ⌝ }
 {
-    if let Check::Refused(x) = check_identifier(call_id, local_tag, remote_tag) {
+    if let Check::Refused(x) = check_lengths(call_id, local_tag, remote_tag) {
         return Numbered::Refused(x);
     }
     match find(call_id, local_tag, remote_tag, bytes, used) {
-        Seat::Held(_, number, end) => {
+        Slot::Held(_, number, end) => {
             let m = raised(number);
             write_number(bytes, end - 4, m);
             Numbered::Is(m, used)
         }
-        Seat::Free(at) => insert(
+        Slot::Free(at) => insert(
             call_id,
             local_tag,
             remote_tag,
@@ -64,7 +65,7 @@ pub fn next_rseq(
             used,
             at,
         ),
-        Seat::Broken => Numbered::Refused(Refusal::BadStore),
+        Slot::Broken => Numbered::Refused(Refusal::BadStore),
     }
 }
 
@@ -80,13 +81,13 @@ pub fn current_rseq(
     ensures { λ _. ⌜ now (bytes .entry) ≡ ran rustLimits (current (ident (now («call_id» .entry)) (now («local_tag» .entry)) (now («remote_tag» .entry)))) (now (bytes .entry)) used .bytes ⌝ }
     ensures { λ _. ⌜ used ≡ ran rustLimits (current (ident (now («call_id» .entry)) (now («local_tag» .entry)) (now («remote_tag» .entry)))) (now (bytes .entry)) used .used ⌝ }
 {
-    if let Check::Refused(x) = check_identifier(call_id, local_tag, remote_tag) {
+    if let Check::Refused(x) = check_lengths(call_id, local_tag, remote_tag) {
         return Current::Refused(x);
     }
     match find(call_id, local_tag, remote_tag, bytes, used) {
-        Seat::Held(_, number, _) => Current::Is(number),
-        Seat::Free(_) => Current::Refused(Refusal::NotFound),
-        Seat::Broken => Current::Refused(Refusal::BadStore),
+        Slot::Held(_, number, _) => Current::Is(number),
+        Slot::Free(_) => Current::Refused(Refusal::NotFound),
+        Slot::Broken => Current::Refused(Refusal::BadStore),
     }
 }
 
@@ -102,13 +103,13 @@ pub fn remove(
     ensures { λ _. ⌜ now (bytes .exit) ≡ ran rustLimits (remove (ident (now («call_id» .entry)) (now («local_tag» .entry)) (now («remote_tag» .entry)))) (now (bytes .entry)) used .bytes ⌝ }
     ensures { λ r. ⌜ usedWritten r used ≡ ran rustLimits (remove (ident (now («call_id» .entry)) (now («local_tag» .entry)) (now («remote_tag» .entry)))) (now (bytes .entry)) used .used ⌝ }
 {
-    if let Check::Refused(x) = check_identifier(call_id, local_tag, remote_tag) {
+    if let Check::Refused(x) = check_lengths(call_id, local_tag, remote_tag) {
         return Written::Refused(x);
     }
     match find(call_id, local_tag, remote_tag, bytes, used) {
-        Seat::Held(at, _, end) => Written::Length(edit::replace(bytes, used, at, end - at, b"")),
-        Seat::Free(_) => Written::Length(used),
-        Seat::Broken => Written::Refused(Refusal::BadStore),
+        Slot::Held(at, _, end) => Written::Length(edit::replace(bytes, used, at, end - at, b"")),
+        Slot::Free(_) => Written::Length(used),
+        Slot::Broken => Written::Refused(Refusal::BadStore),
     }
 }
 
@@ -142,22 +143,6 @@ pub fn is_empty(bytes: &[u8], used: usize) -> Counted
         }
         Counted::Refused(cause) => Counted::Refused(cause),
     }
-}
-
-// 1, of the three texts of an identifier.
-fn check_identifier(call_id: &[u8], local_tag: &[u8], remote_tag: &[u8]) -> Check
-    ensures { λ r. ⌜ r ≡ checkOf (identCause rustLimits (ident (now («call_id» .entry)) (now («local_tag» .entry)) (now («remote_tag» .entry)))) ⌝ }
-{
-    if text::too_long(call_id) {
-        return Check::Refused(Refusal::TextTooLong);
-    }
-    if text::too_long(local_tag) {
-        return Check::Refused(Refusal::TextTooLong);
-    }
-    if text::too_long(remote_tag) {
-        return Check::Refused(Refusal::TextTooLong);
-    }
-    Check::Passed
 }
 
 // The number that a new identifier starts at: n's low 31 bits, at least 1.

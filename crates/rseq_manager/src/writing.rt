@@ -7,7 +7,8 @@ ghost use lib.ListN.{length, take};
 ghost use Rattle.edit.specs.Edit.{putAt, spliced};
 ghost use Rattle.output.specs.Output.{fitted, leaves};
 ghost use Rattle.record.specs.Codec.{four};
-ghost use Rattle.rseq_entries.specs.Entries.{ident, entryForm};
+ghost use Rattle.dialog_id.specs.Ident.{ident};
+ghost use Rattle.rseq_entries.specs.Entries.{entryForm};
 ghost use Rattle.rseq_manager.specs.RSeq.{numbered};
 ghost use Rattle.rseq_manager.specs.Answers.{numberedFrom};
 

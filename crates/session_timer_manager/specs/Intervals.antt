@@ -3,13 +3,14 @@
 --
 -- From the RFC:
 --   sections 4 and 5: an interval is at least the minimum (Min-SE), which is 90 s where none is given;
---   sections 6 and 9: a shorter one is refused with that minimum (422); one that is taken may be reduced by the side that
---   answers, but not below the minimum, and is never raised;
---   section 10: a refresh is due at the half, and the side that does not refresh gives the session up before it expires, by
---   32 s or by a third of the interval, whichever is less.
+--   sections 6 and 9: one that is below the answering side's own minimum may be refused with it (422); one that is taken may be
+--   reduced by that side, but not below the request's minimum (90 s where it gives none), and is never raised;
+--   sections 7.2 and 9: a refresh is recommended at the half; section 10: the side that does not refresh gives the session up
+--   before it expires, by 32 s or by a third of the interval, whichever is less.
 -- Departures of the Rust, kept:
 --   a given minimum stands for the 90 s even where it is smaller;
 --   the negotiation has no 90 s: where the peer gives no minimum, the local one alone counts;
+--   the negotiation refuses what is below the larger of both sides' minima, and with that one;
 --   `Dialog::needs_refresh` waits for two thirds of the interval, not for the half;
 --   an interval that is set, or that creation reads, is at most 86,400 s: the RFC has no such limit.
 use Prim.Native.Nat.{ℕ, _-_, _*_, _/_, min, max}
@@ -17,7 +18,8 @@ use mathlib.Core.Bool.{Bool, false}
 use mathlib.Core.Option.{Option, none, some}
 use lib.Dec.{leb, ltb}
 use Rattle.limits.specs.Limits.{LimitSet}
-use Rattle.limits.specs.Outcome.{Outcome, given, refuseIf}
+use Rattle.limits.specs.Outcome.{Outcome, given, causeIf, orElse, refuseBy, refuseIf}
+use Rattle.limits.specs.declared.Refusal.{Refusal}
 use Rattle.limits.specs.declared.Refusal.the-variants.{SessionExpiresTooSmall, SessionExpiresTooLarge}
 
 -- seconds as nanoseconds
@@ -74,8 +76,11 @@ refreshDue (some expires) elapsed = leb (seconds expires * 2 / 3) elapsed
 
 -- ---- lib.rs's own validate_session_expires, a step of creation and of set_session_expires
 
--- in seconds; the Rust cuts them to 32 bits first, here every number over the most is refused (document 01)
+-- 13 with the least, then 14; in seconds. The Rust cuts them to 32 bits first, here every number over the most is refused (document 01)
+abbrev pub secondsCause : LimitSet → ℕ → Option Refusal
+secondsCause limits expires =
+    orElse (causeIf (ltb expires (limits .minExpires)) (SessionExpiresTooSmall (limits .minExpires)))
+    (causeIf (ltb (limits .maxExpires) expires) SessionExpiresTooLarge)
+
 unfoldable pub checkedSeconds : LimitSet → ℕ → Outcome ℕ
-checkedSeconds limits expires =
-    refuseShort (limits .minExpires) expires
-    (refuseIf (ltb (limits .maxExpires) expires) SessionExpiresTooLarge (given expires))
+checkedSeconds limits expires = refuseBy (secondsCause limits expires) (given expires)

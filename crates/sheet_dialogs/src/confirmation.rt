@@ -55,7 +55,7 @@ fn early_routes<'a>(invite: &'a [u8], answer: &'a [u8], caller: &'a [u8], callee
 
 // The ACK has the INVITE's number.
 fn acknowledged<'a>(invite: &'a [u8], answer: &'a [u8], caller: &'a [u8], callee: &'a [u8]) {
-    let place: &[u8] = b"RFC 3261 after 13.3.1.4";
+    let place: &[u8] = b"RFC 3261 after 13.2.2.4";
     let mut bytes = [0u8; 512];
     let n = uas(
         b"RFC 3261 after 12.1.1",

@@ -52,7 +52,7 @@ fn sent(bytes: &mut [u8], used: usize) {
         n,
     );
     request(
-        b"RFC 3261 after 13.3.1.4",
+        b"RFC 3261 after 13.2.2.4",
         b"ACK",
         b"CSeq: 1 ACK\r\n",
         bytes,

@@ -24,7 +24,7 @@ pub fn flow() {
 fn trying<'a>(invite: &'a [u8], alice: &'a [u8], bob: &'a [u8]) {
     let mut bytes = [0u8; 512];
     uac(
-        b"RFC 3261 after 24.2 F3",
+        b"RFC 3261 after 24.2 F2",
         b"INVITE 314159 and 100",
         invite,
         100,

@@ -49,7 +49,7 @@ fn caller<'a>(invite: &'a [u8], answer: &'a [u8], alice: &'a [u8], bob: &'a [u8]
 
 // RFC 4028 refreshes at the half; the Rust at two thirds.
 fn due(bytes: &[u8], used: usize) {
-    let place: &[u8] = b"RFC 4028 after 10";
+    let place: &[u8] = b"RFC 4028 after 7.2";
     refresh(place, 2000000000000, bytes, used);
     refresh(place, 2666666666666, bytes, used);
 }
@@ -104,7 +104,7 @@ fn shortest() {
     let remote: &[u8] = b"sip:r@h";
     let mut bytes = [0u8; 512];
     uas(
-        b"RFC 4028 after 5",
+        b"RFC 4028 after 9",
         b"200 with 89 s",
         invite,
         200,

@@ -9,7 +9,7 @@ pub fn expires() {
     let after_4: &[u8] = b"RFC 4028 after 4";
     let after_13: &[u8] = b"RFC 4028 after 13";
     let rule: &[u8] = b"01 Response";
-    value(b"RFC 4028 4", b"4000;refresher=uac");
+    value(b"RFC 4028 13", b"4000;refresher=uac");
     value(after_4, b"1800;refresher=uas");
     value(after_4, b"1800 ; refresher=uas");
     value(after_4, b"1800;a=b;refresher=uas");

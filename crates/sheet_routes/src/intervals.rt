@@ -23,15 +23,15 @@ pub fn intervals() {
 fn refreshes() {
     let sheet: &[u8] = b"01 sheet P";
     let rule: &[u8] = b"01 Intervals";
-    let after_10: &[u8] = b"RFC 4028 after 10";
+    let after_7_2: &[u8] = b"RFC 4028 after 7.2";
     due(sheet, OptionalSeconds::Of(90), 60000000000);
     due(sheet, OptionalSeconds::Of(90), 59999999999);
     due(rule, OptionalSeconds::Of(1), 666666666);
     due(rule, OptionalSeconds::Of(1), 666666665);
     due(rule, OptionalSeconds::Absent, 60000000000);
-    half(after_10, 1800);
-    half(after_10, 4000);
-    half(after_10, 91);
+    half(after_7_2, 1800);
+    half(after_7_2, 4000);
+    half(after_7_2, 91);
 }
 
 fn expiries() {

@@ -24,7 +24,7 @@ pub fn racks() {
 fn methods() {
     let section_7_1: &[u8] = b"RFC 3261 7.1";
     let row: &[u8] = b"01 row 28";
-    let after_7_1: &[u8] = b"RFC 3261 after 7.1";
+    let after_25_1: &[u8] = b"RFC 3261 after 25.1";
     method(section_7_1, b"INVITE");
     method(section_7_1, b"ACK");
     method(section_7_1, b"BYE");
@@ -39,8 +39,8 @@ fn methods() {
     method(row, b"SUBSCRIBE");
     method(row, b"NOTIFY");
     method(row, b"PUBLISH");
-    method(after_7_1, b"invite");
-    method(after_7_1, b"EXAMPLE");
+    method(after_25_1, b"invite");
+    method(after_25_1, b"EXAMPLE");
 }
 
 fn method_names() {

@@ -12,7 +12,8 @@ use contract.Lifetimes.{Lfts}
 use denote.Ref.{RefT}
 use Rattle.limits.specs.Limits.{rustLimits}
 use Rattle.edit.specs.Edit.{over}
-use Rattle.book.specs.Calls.{ident, request, response, terminate, localNumber, interval, get, findByRequest, findByCallId, count, allIds, Call, put, update, remove, sweep, read, lent, imageIn}
+use Rattle.dialog_id.specs.Ident.{ident}
+use Rattle.book.specs.Calls.{request, response, terminate, localNumber, interval, get, findByRequest, findByCallId, count, allIds, Call, put, update, remove, sweep, read, lent, imageIn}
 use Rattle.book.specs.Book.{emptyStore}
 use Rattle.book.specs.Store.{run}
 use Rattle.book.specs.History.{All, World, world, bookLog, Demand3, Sent, Returned, EachShows, Ran, start, called}

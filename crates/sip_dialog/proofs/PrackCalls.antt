@@ -14,13 +14,12 @@ use Rattle.limits.specs.Outcome.{Outcome, numberIn}
 use Rattle.msg.specs.Block.{isBlock}
 use Rattle.rack.specs.declared.RAck.{RAck}
 use Rattle.ordered_store.specs.Run.{Returns}
-use Rattle.ordered_store.specs.History.{World, contentAnswers, Seen, EachShows, Made, one-more, KeepsContracts}
+use Rattle.ordered_store.specs.History.{Call, callOn, World, contentAnswers, Seen, EachShows, Made, one-more, KeepsContracts}
 use Rattle.ordered_store.proofs.HistoryLaws.{made-sent, made-follows}
 use Rattle.prack_body.specs.Layout.{trackedForm, TrackedFormed}
-use Rattle.prack_body.specs.Lists.{pendingOf}
 use Rattle.prack_entries.specs.Entries.{keyOf}
 use Rattle.prack_entries.proofs.PlaceLaws.{exact, filled}
-use Rattle.prack_validator.specs.Validator.{Action, register, validate, isPracked, getPending, removeDialog, removePracked, Call, Value, ran, Typed, calls}
+use Rattle.prack_validator.specs.Validator.{Action, register, validate, isPracked, getPending, removeDialog, removePracked, Value, ran, Typed, calls}
 use Rattle.prack_validator.specs.Answers.{rackAfter, lengthAfter, outputAfter}
 use Rattle.prack_validator.specs.History.{held, store, Repeats, Sendable, PrackHistory}
 use Rattle.prack_validator.proofs.History.{keeps, prack-history}
@@ -62,34 +61,30 @@ asked n = record { rack = none; pracked = some n; output = none; length = none }
 abbrev pub listed : List ℕ → ℕ → Lent
 listed output size = record { rack = none; pracked = none; output = some output; length = some size }
 
--- a call that is lent so many bytes
-abbrev pub lending : List ℕ → Action → Call
-lending bytes a = record { lent = length bytes; action = a }
-
 -- A C function was called: with these bytes lent for the store and this used length it was entered, with those it returned, and this number; beside the store it
 -- was lent this, and left that.
-pub data Served : Call → (bytes : List ℕ) (used : ℕ) (after : List ℕ) (left number : ℕ) (given kept : Lent) → Type 0 where
+pub data Served : Call Action → (bytes : List ℕ) (used : ℕ) (after : List ℕ) (left number : ℕ) (given kept : Lent) → Type 0 where
   by-register : (κs : Lfts 3) (id : RefT (List ℕ)) (rseq : ℕ) (cseq : ℕ) (method : ℕ) (code : ℕ) (time : ℕ) (store : RefT (List ℕ)) (used : RefT ℕ) (r : ℕ) (id′ : RefT (List ℕ)) (store′ : RefT (List ℕ)) (used′ : RefT ℕ)
       → register-reads.Post κs (id, (rseq, (cseq, (method, (code, (time, (store, (used, tt)))))))) r (id′, (rseq, (cseq, (method, (code, (time, (store′, (used′, tt))))))))
-      → Served (lending (store .now) (register (id .now) (pendingOf rseq cseq method code time))) (store .now) (used .now) (store′ .now) (used′ .now) r nothing nothing
+      → Served (callOn (store .now) (register (id .now) rseq cseq method code time)) (store .now) (used .now) (store′ .now) (used′ .now) r nothing nothing
   by-validate : (κs : Lfts 7) (id : RefT (List ℕ)) (block : RefT (List ℕ)) (time : ℕ) (store : RefT (List ℕ)) (used : RefT ℕ) (rseq : RefT ℕ) (cseq : RefT ℕ) (method : RefT ℕ) (r : ℕ) (id′ : RefT (List ℕ)) (block′ : RefT (List ℕ)) (store′ : RefT (List ℕ)) (used′ : RefT ℕ) (rseq′ : RefT ℕ) (cseq′ : RefT ℕ) (method′ : RefT ℕ)
       → validate-reads.Post κs (id, (block, (time, (store, (used, (rseq, (cseq, (method, tt)))))))) r (id′, (block′, (time, (store′, (used′, (rseq′, (cseq′, (method′, tt))))))))
-      → Served (lending (store .now) (validate (id .now) (block .now) time)) (store .now) (used .now) (store′ .now) (used′ .now) r (racked (rackOf (rseq .now) (cseq .now) (method .now))) (racked (rackOf (rseq′ .now) (cseq′ .now) (method′ .now)))
+      → Served (callOn (store .now) (validate (id .now) (block .now) time)) (store .now) (used .now) (store′ .now) (used′ .now) r (racked (rackOf (rseq .now) (cseq .now) (method .now))) (racked (rackOf (rseq′ .now) (cseq′ .now) (method′ .now)))
   by-is-pracked : (κs : Lfts 3) (id : RefT (List ℕ)) (rseq : ℕ) (store : RefT (List ℕ)) (used : ℕ) (pracked : RefT ℕ) (r : ℕ) (id′ : RefT (List ℕ)) (store′ : RefT (List ℕ)) (pracked′ : RefT ℕ)
       → is-pracked-reads.Post κs (id, (rseq, (store, (used, (pracked, tt))))) r (id′, (rseq, (store′, (used, (pracked′, tt)))))
-      → Served (lending (store .now) (isPracked (id .now) rseq)) (store .now) used (store .now) used r (asked (pracked .now)) (asked (pracked′ .now))
+      → Served (callOn (store .now) (isPracked (id .now) rseq)) (store .now) used (store .now) used r (asked (pracked .now)) (asked (pracked′ .now))
   by-get-pending : (κs : Lfts 5) (id : RefT (List ℕ)) (time : ℕ) (store : RefT (List ℕ)) (used : RefT ℕ) (out : RefT (List ℕ)) (size : RefT ℕ) (r : ℕ) (id′ : RefT (List ℕ)) (store′ : RefT (List ℕ)) (used′ : RefT ℕ) (out′ : RefT (List ℕ)) (size′ : RefT ℕ)
       → get-pending-reads.Post κs (id, (time, (store, (used, (out, (size, tt)))))) r (id′, (time, (store′, (used′, (out′, (size′, tt))))))
-      → Served (lending (store .now) (getPending (id .now) time (length (out .now)))) (store .now) (used .now) (store′ .now) (used′ .now) r (listed (out .now) (size .now)) (listed (out′ .now) (size′ .now))
+      → Served (callOn (store .now) (getPending (id .now) time (length (out .now)))) (store .now) (used .now) (store′ .now) (used′ .now) r (listed (out .now) (size .now)) (listed (out′ .now) (size′ .now))
   by-remove-dialog : (κs : Lfts 3) (id : RefT (List ℕ)) (store : RefT (List ℕ)) (used : RefT ℕ) (r : ℕ) (id′ : RefT (List ℕ)) (store′ : RefT (List ℕ)) (used′ : RefT ℕ)
       → remove-dialog-reads.Post κs (id, (store, (used, tt))) r (id′, (store′, (used′, tt)))
-      → Served (lending (store .now) (removeDialog (id .now))) (store .now) (used .now) (store′ .now) (used′ .now) r nothing nothing
+      → Served (callOn (store .now) (removeDialog (id .now))) (store .now) (used .now) (store′ .now) (used′ .now) r nothing nothing
   by-remove-pracked : (κs : Lfts 3) (id : RefT (List ℕ)) (rseq : ℕ) (store : RefT (List ℕ)) (used : RefT ℕ) (r : ℕ) (id′ : RefT (List ℕ)) (store′ : RefT (List ℕ)) (used′ : RefT ℕ)
       → remove-pracked-reads.Post κs (id, (rseq, (store, (used, tt)))) r (id′, (rseq, (store′, (used′, tt))))
-      → Served (lending (store .now) (removePracked (id .now) rseq)) (store .now) (used .now) (store′ .now) (used′ .now) r nothing nothing
+      → Served (callOn (store .now) (removePracked (id .now) rseq)) (store .now) (used .now) (store′ .now) (used′ .now) r nothing nothing
 
 -- each contract says what `ran` leaves of the call, lent all of the bytes
-returns : {c : Call} {bytes : List ℕ} {used : ℕ} {after : List ℕ} {left number : ℕ} {given kept : Lent} → Served c bytes used after left number given kept
+returns : {c : Call Action} {bytes : List ℕ} {used : ℕ} {after : List ℕ} {left number : ℕ} {given kept : Lent} → Served c bytes used after left number given kept
     → Returns (ran rustLimits (c .action) bytes used) after left number
 returns (by-register κs id rseq cseq method code time store used r id′ store′ used′ p) = p .0
 returns (by-validate κs id block time store used rseq cseq method r id′ block′ store′ used′ rseq′ cseq′ method′ p) = p .0
@@ -99,7 +94,7 @@ returns (by-remove-dialog κs id store used r id′ store′ used′ p) = p
 returns (by-remove-pracked κs id rseq store used r id′ store′ used′ p) = p
 
 -- and what its answer leaves of what was lent beside the store
-values : {c : Call} {bytes : List ℕ} {used : ℕ} {after : List ℕ} {left number : ℕ} {given kept : Lent} → Served c bytes used after left number given kept
+values : {c : Call Action} {bytes : List ℕ} {used : ℕ} {after : List ℕ} {left number : ℕ} {given kept : Lent} → Served c bytes used after left number given kept
     → kept ≡ lentAfter (ran rustLimits (c .action) bytes used .answer) given
 values (by-register κs id rseq cseq method code time store used r id′ store′ used′ p) = refl
 values (by-validate κs id block time store used rseq cseq method r id′ block′ store′ used′ rseq′ cseq′ method′ p) = ap racked (p .1 .0)
@@ -109,7 +104,7 @@ values (by-remove-dialog κs id store used r id′ store′ used′ p) = refl
 values (by-remove-pracked κs id rseq store used r id′ store′ used′ p) = refl
 
 -- a call is lent the bytes that it is entered with, all of them
-lends-all : {c : Call} {bytes : List ℕ} {used : ℕ} {after : List ℕ} {left number : ℕ} {given kept : Lent} → Served c bytes used after left number given kept
+lends-all : {c : Call Action} {bytes : List ℕ} {used : ℕ} {after : List ℕ} {left number : ℕ} {given kept : Lent} → Served c bytes used after left number given kept
     → c .lent ≡ length bytes
 lends-all (by-register κs id rseq cseq method code time store used r id′ store′ used′ p) = refl
 lends-all (by-validate κs id block time store used rseq cseq method r id′ block′ store′ used′ rseq′ cseq′ method′ p) = refl
@@ -119,7 +114,7 @@ lends-all (by-remove-dialog κs id store used r id′ store′ used′ p) = refl
 lends-all (by-remove-pracked κs id rseq store used r id′ store′ used′ p) = refl
 
 -- and given numbers of their types
-typed : {c : Call} {bytes : List ℕ} {used : ℕ} {after : List ℕ} {left number : ℕ} {given kept : Lent} → Served c bytes used after left number given kept
+typed : {c : Call Action} {bytes : List ℕ} {used : ℕ} {after : List ℕ} {left number : ℕ} {given kept : Lent} → Served c bytes used after left number given kept
     → Typed (c .action)
 typed (by-register κs id rseq cseq method code time store used r id′ store′ used′ p) = p .1
 typed (by-validate κs id block time store used rseq cseq method r id′ block′ store′ used′ rseq′ cseq′ method′ p) = p .1 .1
@@ -136,7 +131,7 @@ contracts = record { returns = returns; values = values; lends-all = lends-all; 
 -- After every list of calls of the C functions: `PrackHistory` (the store is the one that the definitions give, told only the calls' arguments; at most ten entries;
 -- 24 for a PRACK sent again), the memory and the used length are those that it speaks of, and every call returned the number, and left the values, of the answer over
 -- what is held.
-pub prack-of-calls : (m : List ℕ) {cs : List Call} {w : World} {ss : List (Seen Lent)} → Made (calls rustLimits) Served m cs w ss
+pub prack-of-calls : (m : List ℕ) {cs : List (Call Action)} {w : World} {ss : List (Seen Lent)} → Made (calls rustLimits) Served m cs w ss
     → PrackHistory rustLimits m cs × ((w ≡ store rustLimits m cs) × EachShows lentAfter (contentAnswers (trackedForm rustLimits) keyOf (calls rustLimits) cs) ss)
 prack-of-calls m {cs} {w} {ss} d =
     let k = made-follows (trackedForm rustLimits) keyOf (calls rustLimits) lentAfter (TrackedFormed rustLimits) exact filled keeps m Served contracts d in
@@ -144,12 +139,12 @@ prack-of-calls m {cs} {w} {ss} d =
 
 -- 24 of the C function: after every such list of calls, while an acknowledged entry stands (after the call's own cleanup) and is the first of its RSeq, a call of
 -- `sip_dialog_prack_validate` with a PRACK of its RSeq, CSeq and method, whose texts 1 and 2 take and which is lent at least the used bytes, returns 24.
-pub repeat-returns-24 : (m : List ℕ) {cs : List Call} {w : World} {ss : List (Seen Lent)} → Made (calls rustLimits) Served m cs w ss
+pub repeat-returns-24 : (m : List ℕ) {cs : List (Call Action)} {w : World} {ss : List (Seen Lent)} → Made (calls rustLimits) Served m cs w ss
     → (id block : List ℕ) (time lent : ℕ) (after : List ℕ) (left number : ℕ) (given kept : Lent)
     → Served (record { lent = lent; action = validate id block time }) (take lent (w .memory)) (w .used) after left number given kept
     → w .used ≤ lent → length id ≤ rustLimits .text → length block ≤ rustLimits .text → isBlock block ≡ true → Repeats rustLimits id block time (held rustLimits cs) → number ≡ 24
 repeat-returns-24 m {cs} {w} {ss} d id block time lent after left number given kept s u a b f r =
-    let c : Call = record { lent = lent; action = validate id block time } in
+    let c : Call Action = record { lent = lent; action = validate id block time } in
     let k = prack-of-calls m d in
     let same : w ≡ store rustLimits m cs = k .1 .0 in
     let sent = made-sent (trackedForm rustLimits) keyOf (calls rustLimits) lentAfter (TrackedFormed rustLimits) exact filled keeps m Served contracts (one-more d c after left number given kept s) in

@@ -12,10 +12,11 @@ use Rattle.limits.specs.Limits.{rustLimits}
 use Rattle.limits.specs.Outcome.{Outcome}
 use Rattle.ordered_store.specs.Entries.{entryOf}
 use Rattle.ordered_store.specs.Run.{Returns}
-use Rattle.ordered_store.specs.History.{World, content, contentAnswers, world, Follows, Seen, EachShows, Made, KeepsContracts}
+use Rattle.ordered_store.specs.History.{Call, callOn, World, content, contentAnswers, world, Follows, Seen, EachShows, Made, KeepsContracts}
 use Rattle.ordered_store.proofs.HistoryLaws.{made-follows}
-use Rattle.rseq_entries.specs.Entries.{Ident, ident, keyOfIdent, Entry, keyOf, entryForm, WellFormed}
-use Rattle.rseq_manager.specs.RSeq.{Action, next, current, remove, len, Call, ran, calls}
+use Rattle.dialog_id.specs.Ident.{Ident, ident}
+use Rattle.rseq_entries.specs.Entries.{keyOfIdent, Entry, keyOf, entryForm, WellFormed}
+use Rattle.rseq_manager.specs.RSeq.{Action, next, current, remove, len, ran, calls}
 use Rattle.rseq_manager.specs.Answers.{emptiness}
 use Rattle.rseq_entries.proofs.FormLaws.{form-exact, filled}
 use Rattle.rseq_manager.proofs.History.{keeps, never-zero}
@@ -46,31 +47,27 @@ numbered n = record { number = some n; empty = none }
 abbrev pub asked : ℕ → Lent
 asked n = record { number = none; empty = some n }
 
--- a call that is lent so many bytes
-abbrev pub lending : List ℕ → Action → Call
-lending bytes a = record { lent = length bytes; action = a }
-
 -- A C function was called: with these bytes lent for the store and this used length it was entered, with those it returned, and this number; beside the store it
 -- was lent this, and left that.
-pub data Served : Call → (bytes : List ℕ) (used : ℕ) (after : List ℕ) (left number : ℕ) (given kept : Lent) → Type 0 where
+pub data Served : Call Action → (bytes : List ℕ) (used : ℕ) (after : List ℕ) (left number : ℕ) (given kept : Lent) → Type 0 where
   by-next : (κs : Lfts 6) (callId localTag remoteTag : RefT (List ℕ)) (n : ℕ) (store : RefT (List ℕ)) (used rseq : RefT ℕ) (r : ℕ) (callId′ localTag′ remoteTag′ store′ : RefT (List ℕ)) (used′ rseq′ : RefT ℕ)
       → next-reads.Post κs (callId, (localTag, (remoteTag, (n, (store, (used, (rseq, tt))))))) r (callId′, (localTag′, (remoteTag′, (n, (store′, (used′, (rseq′, tt)))))))
-      → Served (lending (store .now) (next (ident (callId .now) (localTag .now) (remoteTag .now)) n)) (store .now) (used .now) (store′ .now) (used′ .now) r (numbered (rseq .now)) (numbered (rseq′ .now))
+      → Served (callOn (store .now) (next (ident (callId .now) (localTag .now) (remoteTag .now)) n)) (store .now) (used .now) (store′ .now) (used′ .now) r (numbered (rseq .now)) (numbered (rseq′ .now))
   by-current : (κs : Lfts 5) (callId localTag remoteTag store : RefT (List ℕ)) (used : ℕ) (rseq : RefT ℕ) (r : ℕ) (callId′ localTag′ remoteTag′ store′ : RefT (List ℕ)) (rseq′ : RefT ℕ)
       → current-reads.Post κs (callId, (localTag, (remoteTag, (store, (used, (rseq, tt)))))) r (callId′, (localTag′, (remoteTag′, (store′, (used, (rseq′, tt))))))
-      → Served (lending (store .now) (current (ident (callId .now) (localTag .now) (remoteTag .now)))) (store .now) used (store .now) used r (numbered (rseq .now)) (numbered (rseq′ .now))
+      → Served (callOn (store .now) (current (ident (callId .now) (localTag .now) (remoteTag .now)))) (store .now) used (store .now) used r (numbered (rseq .now)) (numbered (rseq′ .now))
   by-remove : (κs : Lfts 5) (callId localTag remoteTag store : RefT (List ℕ)) (used : RefT ℕ) (r : ℕ) (callId′ localTag′ remoteTag′ store′ : RefT (List ℕ)) (used′ : RefT ℕ)
       → remove-reads.Post κs (callId, (localTag, (remoteTag, (store, (used, tt))))) r (callId′, (localTag′, (remoteTag′, (store′, (used′, tt)))))
-      → Served (lending (store .now) (remove (ident (callId .now) (localTag .now) (remoteTag .now)))) (store .now) (used .now) (store′ .now) (used′ .now) r nothing nothing
+      → Served (callOn (store .now) (remove (ident (callId .now) (localTag .now) (remoteTag .now)))) (store .now) (used .now) (store′ .now) (used′ .now) r nothing nothing
   by-len : (κs : Lfts 2) (store : RefT (List ℕ)) (used : ℕ) (count : RefT ℕ) (r : ℕ) (store′ : RefT (List ℕ)) (count′ : RefT ℕ)
       → len-reads.Post κs (store, (used, (count, tt))) r (store′, (used, (count′, tt)))
-      → Served (lending (store .now) len) (store .now) used (store .now) used r (numbered (count .now)) (numbered (count′ .now))
+      → Served (callOn (store .now) len) (store .now) used (store .now) used r (numbered (count .now)) (numbered (count′ .now))
   by-is-empty : (κs : Lfts 2) (store : RefT (List ℕ)) (used : ℕ) (empty : RefT ℕ) (r : ℕ) (store′ : RefT (List ℕ)) (empty′ : RefT ℕ)
       → is-empty-reads.Post κs (store, (used, (empty, tt))) r (store′, (used, (empty′, tt)))
-      → Served (lending (store .now) len) (store .now) used (store .now) used r (asked (empty .now)) (asked (empty′ .now))
+      → Served (callOn (store .now) len) (store .now) used (store .now) used r (asked (empty .now)) (asked (empty′ .now))
 
 -- each contract says what `ran` leaves of the call, lent all of the bytes
-returns : {c : Call} {bytes : List ℕ} {used : ℕ} {after : List ℕ} {left number : ℕ} {given kept : Lent} → Served c bytes used after left number given kept
+returns : {c : Call Action} {bytes : List ℕ} {used : ℕ} {after : List ℕ} {left number : ℕ} {given kept : Lent} → Served c bytes used after left number given kept
     → Returns (ran rustLimits (c .action) bytes used) after left number
 returns (by-next κs callId localTag remoteTag n store used rseq r callId′ localTag′ remoteTag′ store′ used′ rseq′ p) = p .0
 returns (by-current κs callId localTag remoteTag store used rseq r callId′ localTag′ remoteTag′ store′ rseq′ p) = p .0
@@ -79,7 +76,7 @@ returns (by-len κs store used count r store′ count′ p) = p .0
 returns (by-is-empty κs store used empty r store′ empty′ p) = p .0
 
 -- and what its answer leaves of what was lent beside the store
-values : {c : Call} {bytes : List ℕ} {used : ℕ} {after : List ℕ} {left number : ℕ} {given kept : Lent} → Served c bytes used after left number given kept
+values : {c : Call Action} {bytes : List ℕ} {used : ℕ} {after : List ℕ} {left number : ℕ} {given kept : Lent} → Served c bytes used after left number given kept
     → kept ≡ lentAfter (ran rustLimits (c .action) bytes used .answer) given
 values (by-next κs callId localTag remoteTag n store used rseq r callId′ localTag′ remoteTag′ store′ used′ rseq′ p) = ap numbered (p .1)
 values (by-current κs callId localTag remoteTag store used rseq r callId′ localTag′ remoteTag′ store′ rseq′ p) = ap numbered (p .1)
@@ -88,7 +85,7 @@ values (by-len κs store used count r store′ count′ p) = ap numbered (p .1)
 values (by-is-empty κs store used empty r store′ empty′ p) = ap asked (p .1)
 
 -- a call is lent the bytes that it is entered with, all of them
-lends-all : {c : Call} {bytes : List ℕ} {used : ℕ} {after : List ℕ} {left number : ℕ} {given kept : Lent} → Served c bytes used after left number given kept
+lends-all : {c : Call Action} {bytes : List ℕ} {used : ℕ} {after : List ℕ} {left number : ℕ} {given kept : Lent} → Served c bytes used after left number given kept
     → c .lent ≡ length bytes
 lends-all (by-next κs callId localTag remoteTag n store used rseq r callId′ localTag′ remoteTag′ store′ used′ rseq′ p) = refl
 lends-all (by-current κs callId localTag remoteTag store used rseq r callId′ localTag′ remoteTag′ store′ rseq′ p) = refl
@@ -103,7 +100,7 @@ contracts = record { returns = returns; values = values; lends-all = lends-all; 
 
 -- After every list of calls of the C functions the store is the one that the definitions give, told only the calls' arguments (`Follows`), every call returned the
 -- number, and left the values, of the answer over that content, and no number held is 0.
-pub rseq-of-calls : (m : List ℕ) {cs : List Call} {w : World} {ss : List (Seen Lent)} → Made (calls rustLimits) Served m cs w ss
+pub rseq-of-calls : (m : List ℕ) {cs : List (Call Action)} {w : World} {ss : List (Seen Lent)} → Made (calls rustLimits) Served m cs w ss
     → Follows entryForm keyOf (calls rustLimits) m cs
     × ((w ≡ world entryForm keyOf (calls rustLimits) m cs)
     × (EachShows lentAfter (contentAnswers entryForm keyOf (calls rustLimits) cs) ss

@@ -8,7 +8,6 @@ ghost use mathlib.Core.Path.{_≡_};
 ghost use lib.ListN.{length};
 ghost use Rattle.limits.specs.Limits.{rustLimits};
 ghost use Rattle.ordered_store.specs.Run.{Returns};
-ghost use Rattle.prack_body.specs.Lists.{pendingOf};
 ghost use Rattle.prack_validator.specs.Validator.{register, validate, isPracked, getPending, removeDialog, removePracked, ran, Typed};
 ghost use Rattle.prack_validator.specs.Answers.{rackAfter, lengthAfter, outputAfter};
 ghost use Rattle.c_prack_answers.specs.Given.{rackOf, prackedAfter};
@@ -25,8 +24,8 @@ pub extern "C" fn sip_dialog_prack_register(
     store: &mut [u8],
     used: &mut usize,
 ) -> u8
-    ensures { λ r. ⌜ Returns (ran rustLimits (register (now (id .entry)) (pendingOf rseq cseq method code time)) (now (store .entry)) (now (used .entry))) (now (store .exit)) (now (used .exit)) r ⌝ }
-    ensures { λ _. ⌜ Typed (register (now (id .entry)) (pendingOf rseq cseq method code time)) ⌝ }
+    ensures { λ r. ⌜ Returns (ran rustLimits (register (now (id .entry)) rseq cseq method code time) (now (store .entry)) (now (used .entry))) (now (store .exit)) (now (used .exit)) r ⌝ }
+    ensures { λ _. ⌜ Typed (register (now (id .entry)) rseq cseq method code time) ⌝ }
 {
     give_written(
         prack_validator::register(id, rseq, cseq, method, code, time, store, *used),

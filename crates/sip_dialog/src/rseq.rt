@@ -7,7 +7,7 @@ use c_rseq_answers::give_numbered;
 ghost use mathlib.Core.Path.{_≡_};
 ghost use Rattle.limits.specs.Limits.{rustLimits};
 ghost use Rattle.ordered_store.specs.Run.{Returns};
-ghost use Rattle.rseq_entries.specs.Entries.{ident};
+ghost use Rattle.dialog_id.specs.Ident.{ident};
 ghost use Rattle.rseq_manager.specs.RSeq.{next, current, remove, len, ran};
 ghost use Rattle.rseq_manager.specs.Answers.{emptiness};
 ghost use Rattle.c_rseq_answers.specs.Given.{valueAfter};

@@ -24,8 +24,9 @@ use Rattle.record.proofs.StoreLaws.{EachFormed, decoded}
 use Rattle.store.specs.Counting.{recordsHeld, countAnswer}
 use Rattle.store.specs.declared.Held.{Held}
 use Rattle.store.specs.declared.Held.the-variants as held
-use Rattle.book.specs.Calls.{Ident, ident, sameIdent, Call, read, remove, Value, noValue, imageAt}
-use Rattle.book.specs.Book.{Book, storeImage, size, identOf, isOf, find, keep, others, only, Taken, firstPlace, placeOf, reply, identCause, argumentCause, judge}
+use Rattle.dialog_id.specs.Ident.{Ident, ident, sameIdent, identCause}
+use Rattle.book.specs.Calls.{Call, read, remove, Value, noValue, imageAt}
+use Rattle.book.specs.Book.{Book, storeImage, size, identOf, isOf, find, keep, others, only, Taken, firstPlace, placeOf, reply, argumentCause, judge}
 use Rattle.book.specs.Store.{Left, run}
 use Rattle.book.proofs.SentenceLaws.{kept-size}
 use Rattle.book.proofs.SpliceLaws.{Stands, images-append, removed-bytes}

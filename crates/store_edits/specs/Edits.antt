@@ -2,7 +2,8 @@
 use Prim.Native.Nat.{ℕ}
 use mathlib.Core.List.{List, []}
 use mathlib.Core.Option.{Option, none, some}
-use Rattle.book.specs.Calls.{ident, Call, remove, sweep}
+use Rattle.dialog_id.specs.Ident.{ident}
+use Rattle.book.specs.Calls.{Call, remove, sweep}
 use Rattle.book.specs.Book.{Book, storeImage, living, keep}
 
 -- the calls, of a store of n lent bytes

@@ -24,7 +24,8 @@ use Rattle.record.proofs.StoreLaws.{decoded}
 use Rattle.image.specs.Places.{recordPlaces}
 use Rattle.image.specs.declared.RecordAt.{RecordAt}
 use Rattle.dialog_updates.specs.AtPlace.{steppedBy, stepped}
-use Rattle.book.specs.Calls.{Ident, Update, update, Call, Value, noValue}
+use Rattle.dialog_id.specs.Ident.{Ident}
+use Rattle.book.specs.Calls.{Update, update, Call, Value, noValue}
 use Rattle.book.specs.Book.{Book, storeImage, storeRead, size, identOf, isOf, nameOf, find, findNamed, firstPlace, amend, alter, updateCause, argumentCause, revised, toldBy, judge}
 use Rattle.book.specs.Store.{Left}
 use Rattle.book.specs.History.{Permitted}

@@ -17,7 +17,7 @@ use Rattle.record.specs.Store.{decodeAll}
 use Rattle.image.specs.declared.RecordAt.{RecordAt}
 use Rattle.store.specs.Counting.{recordsHeld, countAnswer}
 use Rattle.store.specs.declared.Held.the-variants as held
-use Rattle.book.specs.Calls.{Ident}
+use Rattle.dialog_id.specs.Ident.{Ident}
 use Rattle.book.specs.Book.{Book, storeRead, isOf, firstPlace}
 use Rattle.dialog_manager.specs.Search.{Spot, first, foundOf, foundIn, Stands}
 use Rattle.dialog_manager.specs.declared.finding.Found.the-variants as found

@@ -16,7 +16,8 @@ use Rattle.image.specs.declared.RecordReading.the-variants.{Whole}
 use Rattle.image_edit.specs.Changes.{readAt}
 use Rattle.dialog_changes.specs.declared.Raised.{Raised}
 use Rattle.dialog_changes.specs.declared.Raised.the-variants as raised
-use Rattle.book.specs.Calls.{Ident, ident, Update, request, response, terminate, localNumber, interval, update}
+use Rattle.dialog_id.specs.Ident.{Ident, ident}
+use Rattle.book.specs.Calls.{Update, request, response, terminate, localNumber, interval, update}
 use Rattle.book.specs.Book.{storeRead, isOf, firstPlace}
 use Rattle.book.specs.Store.{Left, run}
 use Rattle.dialog_manager.specs.Search.{Spot, first}

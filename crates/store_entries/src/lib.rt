@@ -6,7 +6,7 @@ use image::RecordAt;
 use limits::Refusal;
 use store::Held;
 ghost use mathlib.Core.Path.{_≡_};
-ghost use Rattle.book.specs.Calls.{ident};
+ghost use Rattle.dialog_id.specs.Ident.{ident};
 ghost use Rattle.store_entries.specs.Entries.{spotIn, standingOf, Ready};
 
 // Where its image begins, and its parts.

@@ -28,7 +28,7 @@ use Rattle.image_writer.proofs.FieldLaws.{text-size}
 use Rattle.image_writer.proofs.LieLaws.{Lie, record-lies}
 use Rattle.store.specs.Counting.{recordsHeld, countAnswer}
 use Rattle.store.specs.declared.Held.the-variants as held
-use Rattle.dialog.specs.Matching.{partIn}
+use Rattle.text.specs.Spans.{partIn}
 use Rattle.book.specs.Calls.{allIds, read, written}
 use Rattle.book.specs.Book.{Book, storeImage, storeRead, identifiersOf, reply, readingCause}
 use Rattle.book.specs.Store.{run}

@@ -6,7 +6,7 @@ use mathlib.Core.List.{List, [], _++_}
 use mathlib.Core.Option.{Option, none, some}
 use Rattle.record.specs.Codec.{text}
 use Rattle.image.specs.declared.sections.IdsAt.{IdsAt}
-use Rattle.dialog.specs.Matching.{partIn}
+use Rattle.text.specs.Spans.{partIn}
 use Rattle.book.specs.Book.{Book, identifiersOf}
 
 -- ---- steps of the code

@@ -11,7 +11,7 @@ ghost use lib.ListN.{length};
 ghost use Rattle.limits.specs.Limits.{rustLimits};
 ghost use Rattle.edit.specs.Edit.{over, putAt};
 ghost use Rattle.record.specs.Codec.{text};
-ghost use Rattle.dialog.specs.Matching.{partIn};
+ghost use Rattle.text.specs.Spans.{partIn};
 ghost use Rattle.book.specs.Calls.{read, allIds};
 ghost use Rattle.book.specs.Book.{storeRead};
 ghost use Rattle.book.specs.Store.{run, outputAfter};

@@ -16,8 +16,8 @@ use Rattle.image.specs.Places.{recordPlaces, recordFrom}
 use Rattle.image.specs.declared.RecordAt.{RecordAt}
 use Rattle.image.specs.declared.RecordReading.the-variants.{Whole, Broken}
 use Rattle.image.specs.declared.sections.IdsAt.{IdsAt}
-use Rattle.dialog.specs.Matching.{partIn}
-use Rattle.book.specs.Calls.{Ident, ident}
+use Rattle.text.specs.Spans.{partIn}
+use Rattle.dialog_id.specs.Ident.{Ident, ident}
 use Rattle.book.specs.Book.{Book, storeRead, isOf, others, keep, isEarly, isEarlyOf, earlyOf}
 use Rattle.dialog_manager.specs.Search.{IdsWithin, Stored}
 use Rattle.dialog_manager.proofs.SearchLaws.{Turn, ids-within, compared}

@@ -29,7 +29,7 @@ use Rattle.image.specs.Places.{idsOf}
 use Rattle.image.specs.declared.RecordAt.{RecordAt}
 use Rattle.image.proofs.AnswerLaws.{record-got}
 use Rattle.image_writer.proofs.LieLaws.{Lie, record-lies}
-use Rattle.dialog.specs.Matching.{partIn}
+use Rattle.text.specs.Spans.{partIn}
 use Rattle.dialog.specs.OneImage.{onlyOne, oneRecord, imageAnswer}
 use Rattle.dialog.specs.declared.readings.ImageAnswer.the-variants as answer
 use Rattle.dialog.proofs.ImageRouteLaws.{image-read}
@@ -37,7 +37,8 @@ use Rattle.dialog.proofs.MatchLaws as one
 use Rattle.dialog.proofs.MatchLaws.{ids-within}
 use Rattle.store.specs.Counting.{recordsHeld, countAnswer}
 use Rattle.store.specs.declared.Held.the-variants as held
-use Rattle.book.specs.Calls.{Ident, ident, Value, noValue, imageAt}
+use Rattle.dialog_id.specs.Ident.{Ident, ident}
+use Rattle.book.specs.Calls.{Value, noValue, imageAt}
 use Rattle.book.specs.Book.{Book, storeImage, storeRead, size, identOf, isOf, place, set, Taken, firstPlace, placeOf, isFull, isCrowded, argumentCause, judge}
 use Rattle.book.specs.Store.{Left, run}
 use Rattle.book.proofs.SpliceLaws.{place-held, amend-bytes, new-bytes}

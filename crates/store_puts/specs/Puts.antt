@@ -13,7 +13,8 @@ use Rattle.record.specs.NumbersForm.{stateIn}
 use Rattle.record.specs.declared.numbers.State.{State as CodeState}
 use Rattle.image.specs.declared.sections.IdsAt.{IdsAt}
 use Rattle.dialog.specs.OneImage.{oneRecord}
-use Rattle.book.specs.Calls.{Ident, ident, Call, put}
+use Rattle.dialog_id.specs.Ident.{Ident, ident}
+use Rattle.book.specs.Calls.{Call, put}
 use Rattle.book.specs.Book.{Book, storeRead, identOf, others, keep, isEarly, earlyOf, isFull}
 use Rattle.dialog_manager.specs.Search.{namedAt}
 

@@ -7,7 +7,7 @@ use record::State;
 ghost use mathlib.Core.Path.{_≡_};
 ghost use Rattle.limits.specs.Limits.{rustLimits};
 ghost use Rattle.record.specs.NumbersForm.{stateIn};
-ghost use Rattle.book.specs.Calls.{ident};
+ghost use Rattle.dialog_id.specs.Ident.{ident};
 ghost use Rattle.book.specs.Book.{storeRead, isEarly};
 ghost use Rattle.dialog_manager.specs.Search.{IdsWithin, Stored};
 ghost use Rattle.store_puts.specs.Puts.{crowdedIn, earlyOthers, earlyAt};

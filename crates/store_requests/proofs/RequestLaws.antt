@@ -20,11 +20,12 @@ use Rattle.output.specs.declared.Written.{Written}
 use Rattle.output.specs.declared.Written.the-variants as written
 use Rattle.record.proofs.CodecLaws.{Bytes}
 use Rattle.image.specs.declared.RecordAt.{RecordAt}
-use Rattle.dialog.specs.Matching.{partIn}
+use Rattle.text.specs.Spans.{partIn}
 use Rattle.dialog.specs.Updates.{kindOf, requestUpdate}
 use Rattle.dialog.proofs.MatchLaws.{Asked}
 use Rattle.dialog_updates.specs.AtPlace.{stepped}
-use Rattle.book.specs.Calls.{Ident, ident, request}
+use Rattle.dialog_id.specs.Ident.{Ident, ident}
+use Rattle.book.specs.Calls.{request}
 use Rattle.book.specs.Book.{namedIn, updateCause, revised}
 use Rattle.store_entries.specs.Entries.{spotNamed, standingOf}
 use Rattle.store_entries.specs.declared.Standing.the-variants as standing

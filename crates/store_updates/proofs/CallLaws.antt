@@ -3,13 +3,13 @@ use Prim.Native.Nat.{ℕ}
 use native.Mathlib.Omega.{arith}
 use mathlib.Core.Path.{_≡_, refl, sym, ap, subst, _∙_}
 use mathlib.Core.List.{List}
-use mathlib.Core.Option.{Option, none}
+use mathlib.Core.Option.{Option, none, some}
 use lib.ListN.{length, take}
 use Rattle.limits.specs.Limits.{rustLimits}
-use Rattle.limits.specs.Outcome.{Outcome, refused, given, orElse, checkOf}
+use Rattle.limits.specs.Outcome.{Outcome, refused, given, orElse, refuseBy, checkOf}
+use Rattle.limits.specs.declared.Check.{Check}
 use Rattle.limits.specs.declared.Check.the-variants as check
 use Rattle.limits.specs.declared.Refusal.{Refusal}
-use Rattle.limits.proofs.Laws.{passed, stopped}
 use Rattle.msg.specs.Block.{blockCause}
 use Rattle.output.specs.Output.{leaves, writtenFrom}
 use Rattle.output.specs.declared.Written.{Written}
@@ -20,85 +20,88 @@ use Rattle.record.specs.Rules.{localStep}
 use Rattle.record.proofs.CodecLaws.{Bytes}
 use Rattle.record.proofs.NumberLaws.{meaning-same}
 use Rattle.image.specs.declared.RecordAt.{RecordAt}
-use Rattle.dialog.specs.Updates.{responseUpdate, terminateUpdate, localUpdate, intervalUpdate}
+use Rattle.dialog.specs.Updates.{localUpdate}
+use Rattle.dialog.proofs.RefusalLaws.{no-causes}
 use Rattle.dialog_changes.specs.declared.Raised.{Raised}
 use Rattle.dialog_changes.specs.declared.Raised.the-variants as raised
 use Rattle.dialog_updates.specs.AtPlace.{stepped}
-use Rattle.book.specs.Calls.{Ident, response, terminate, localNumber, interval, number, Answer}
-use Rattle.book.specs.Book.{identCause, updateCause, revised}
+use Rattle.dialog_id.specs.Ident.{Ident, identCause}
+use Rattle.book.specs.Calls.{Update, response, terminate, localNumber, interval, number, Answer}
+use Rattle.book.specs.Book.{nameOf, updateCause, revised}
 use Rattle.book.specs.Store.{Left}
 use Rattle.book.specs.Returned.{writtenBy, raisedBy, raisedIn}
 use Rattle.store_entries.specs.Entries.{updating, usedRaised, spotIn, standingOf, raisedWith}
+use Rattle.store_entries.specs.declared.Standing.{Standing}
 use Rattle.store_entries.specs.declared.Standing.the-variants as standing
 use Rattle.store_entries.proofs.EntryLaws.{permitted, Done, leftBy, arguments-done, turned, step-left, step-done, not-standing}
+use Rattle.store_updates.specs.Finding.{causeIn, foundIn}
 
-module _ (i : Ident) (bytes : List ℕ) (used : ℕ) where
-  abbrev pub Ended : Written → List ℕ → Type 0
-  Ended r after = Done rustLimits permitted (terminate i) bytes used r after
+-- an update that names its record by an identifier: its arguments are refused by the lengths of that, then by those of the others
+pub record ByIdent (u : Update) (i : Ident) (others : Option Refusal) : Type 0 where
+  pub named : nameOf u ≡ some i
+  pub causes : updateCause rustLimits u ≡ orElse (identCause rustLimits i) others
 
-  pub terminate-refused : {cause : Refusal} → checkOf (identCause rustLimits i) ≡ check.Refused cause → Ended (written.Refused cause) bytes
-  unfolding updateCause
-  terminate-refused {cause} e = arguments-done rustLimits permitted (terminate i) bytes used (stopped (identCause rustLimits i) e)
+or-none : (o : Option Refusal) → o ≡ orElse o none
+or-none none = refl
+or-none (some cause) = refl
 
-  module _ (c : checkOf (identCause rustLimits i) ≡ check.Passed) where
-    pub terminate-turned : {cause : Refusal} → standing.Refused cause ≡ standingOf (spotIn i bytes used) → Ended (written.Refused cause) bytes
-    unfolding updateCause
-    terminate-turned {cause} e = turned rustLimits permitted (terminate i) bytes used (passed (identCause rustLimits i) c) i refl (not-standing i bytes used e)
+pub terminates : (i : Ident) → ByIdent (terminate i) i none
+unfolding updateCause
+terminates i = record { named = refl; causes = or-none (identCause rustLimits i) }
 
-    pub terminate-done : Bytes bytes → (at : ℕ) (q : RecordAt) → standing.At at q ≡ standingOf (spotIn i bytes used) → (r : Written) (after : List ℕ)
-        → (r ≡ writtenFrom (stepped (λ v. given (terminateUpdate v)) (length bytes) at (take used bytes))) × (after ≡ leaves (stepped (λ v. given (terminateUpdate v)) (length bytes) at (take used bytes)) bytes)
-        → Ended r after
-    unfolding updateCause revised
-    terminate-done h at q e r after w = step-done rustLimits permitted (terminate i) bytes used (passed (identCause rustLimits i) c) i refl h at q e r after w
+cause-told : (o : Option Refusal) → o ≡ causeIn (checkOf o)
+cause-told none = refl
+cause-told (some cause) = refl
 
-module _ (i : Ident) (status : ℕ) (block bytes : List ℕ) (used : ℕ) where
-  abbrev pub Answered : Written → List ℕ → Type 0
-  Answered r after = Done rustLimits permitted (response i status block) bytes used r after
+pub check-passed : (v : Check) → causeIn v ≡ none → v ≡ check.Passed
+check-passed check.Passed e = refl
+check-passed (check.Refused cause) e = absurd (let z : _≡_ {A = ℕ} 0 1 = cc in omega arith)
 
-  pub response-refused : {cause : Refusal} → checkOf (identCause rustLimits i) ≡ check.Refused cause → Answered (written.Refused cause) bytes
-  unfolding updateCause
-  response-refused e = arguments-done rustLimits permitted (response i status block) bytes used (ap (λ (o : Option Refusal). orElse o (blockCause rustLimits block)) (stopped (identCause rustLimits i) e))
+pub responds : (i : Ident) (status : ℕ) (block : List ℕ) → ByIdent (response i status block) i (causeIn (checkOf (blockCause rustLimits block)))
+unfolding updateCause
+responds i status block = record { named = refl; causes = ap (orElse (identCause rustLimits i)) (cause-told (blockCause rustLimits block)) }
 
-  module _ (c : checkOf (identCause rustLimits i) ≡ check.Passed) where
-    pub response-bad : {cause : Refusal} → checkOf (blockCause rustLimits block) ≡ check.Refused cause → Answered (written.Refused cause) bytes
-    unfolding updateCause
-    response-bad e =
-        arguments-done rustLimits permitted (response i status block) bytes used
-        (ap (λ (o : Option Refusal). orElse o (blockCause rustLimits block)) (passed (identCause rustLimits i) c) ∙ stopped (blockCause rustLimits block) e)
+pub sets : (i : Ident) (seconds : ℕ) → ByIdent (interval i seconds) i none
+unfolding updateCause
+sets i seconds = record { named = refl; causes = or-none (identCause rustLimits i) }
 
-    module _ (d : checkOf (blockCause rustLimits block) ≡ check.Passed) where
-      response-clear : updateCause rustLimits (response i status block) ≡ none
-      unfolding updateCause
-      response-clear = ap (λ (o : Option Refusal). orElse o (blockCause rustLimits block)) (passed (identCause rustLimits i) c) ∙ passed (blockCause rustLimits block) d
+pub raises : (i : Ident) → ByIdent (localNumber i) i none
+unfolding updateCause
+raises i = record { named = refl; causes = or-none (identCause rustLimits i) }
 
-      pub response-turned : {cause : Refusal} → standing.Refused cause ≡ standingOf (spotIn i bytes used) → Answered (written.Refused cause) bytes
-      response-turned e = turned rustLimits permitted (response i status block) bytes used response-clear i refl (not-standing i bytes used e)
+-- t is where the record was found
+module _ {u : Update} {i : Ident} {others : Option Refusal} (n : ByIdent u i others) (bytes : List ℕ) (used : ℕ) {t : Standing} (told : t ≡ standingOf (foundIn i others bytes used)) where
+  abbrev Ends : Written → List ℕ → Type 0
+  Ends r after = Done rustLimits permitted u bytes used r after
 
-      pub response-done : Bytes bytes → (at : ℕ) (q : RecordAt) → standing.At at q ≡ standingOf (spotIn i bytes used) → (r : Written) (after : List ℕ)
-          → (r ≡ writtenFrom (stepped (λ v. given (responseUpdate rustLimits status block v)) (length bytes) at (take used bytes)))
-          × (after ≡ leaves (stepped (λ v. given (responseUpdate rustLimits status block v)) (length bytes) at (take used bytes)) bytes)
-          → Answered r after
-      unfolding revised
-      response-done h at q e r after w = step-done rustLimits permitted (response i status block) bytes used response-clear i refl h at q e r after w
+  by-cause : {a : Standing} → t ≡ a → a ≡ standingOf (refuseBy (updateCause rustLimits u) (spotIn i bytes used))
+  by-cause e = sym e ∙ told ∙ ap (λ (o : Option Refusal). standingOf (refuseBy o (spotIn i bytes used))) (sym (n .causes))
 
-module _ (i : Ident) (seconds : ℕ) (bytes : List ℕ) (used : ℕ) where
-  abbrev pub Set : Written → List ℕ → Type 0
-  Set r after = Done rustLimits permitted (interval i seconds) bytes used r after
+  -- 1, 2, 3, 15
+  pub call-refused : {cause : Refusal} → t ≡ standing.Refused cause → Ends (written.Refused cause) bytes
+  call-refused {cause} e = by (updateCause rustLimits u) refl (by-cause e)
+    where
+      by : (o : Option Refusal) → updateCause rustLimits u ≡ o → standing.Refused cause ≡ standingOf (refuseBy o (spotIn i bytes used)) → Ends (written.Refused cause) bytes
+      by none q f = turned rustLimits permitted u bytes used q i (n .named) (not-standing i bytes used f)
+      by (some own) q f = let k : own ≡ cause = cc in arguments-done rustLimits permitted u bytes used (q ∙ ap some k)
 
-  pub interval-refused : {cause : Refusal} → checkOf (identCause rustLimits i) ≡ check.Refused cause → Set (written.Refused cause) bytes
-  unfolding updateCause
-  interval-refused {cause} e = arguments-done rustLimits permitted (interval i seconds) bytes used (stopped (identCause rustLimits i) e)
+  module _ {at : ℕ} {q : RecordAt} (e : t ≡ standing.At at q) where
+    pub stands : (updateCause rustLimits u ≡ none) × (standing.At at q ≡ standingOf (spotIn i bytes used))
+    stands = by (updateCause rustLimits u) (by-cause e)
+      where
+        by : (o : Option Refusal) → standing.At at q ≡ standingOf (refuseBy o (spotIn i bytes used)) → (o ≡ none) × (standing.At at q ≡ standingOf (spotIn i bytes used))
+        by none f = (refl, f)
+        by (some own) f = absurd (let z : _≡_ {A = ℕ} 0 1 = cc in omega arith)
 
-  module _ (c : checkOf (identCause rustLimits i) ≡ check.Passed) where
-    pub interval-turned : {cause : Refusal} → standing.Refused cause ≡ standingOf (spotIn i bytes used) → Set (written.Refused cause) bytes
-    unfolding updateCause
-    interval-turned {cause} e = turned rustLimits permitted (interval i seconds) bytes used (passed (identCause rustLimits i) c) i refl (not-standing i bytes used e)
+    -- the other arguments are not refused
+    pub others-passed : others ≡ none
+    others-passed = no-causes (identCause rustLimits i) others (sym (n .causes) ∙ stands .0) .1
 
-    pub interval-done : Bytes bytes → (at : ℕ) (q : RecordAt) → standing.At at q ≡ standingOf (spotIn i bytes used) → (r : Written) (after : List ℕ)
-        → (r ≡ writtenFrom (stepped (λ v. intervalUpdate rustLimits seconds v) (length bytes) at (take used bytes))) × (after ≡ leaves (stepped (λ v. intervalUpdate rustLimits seconds v) (length bytes) at (take used bytes)) bytes)
-        → Set r after
-    unfolding updateCause revised
-    interval-done h at q e r after w = step-done rustLimits permitted (interval i seconds) bytes used (passed (identCause rustLimits i) c) i refl h at q e r after w
+    -- the step's refusals, 18, or the changed record
+    pub call-done : Bytes bytes → {r : Written} {after : List ℕ}
+        → (r ≡ writtenFrom (stepped (revised rustLimits u) (length bytes) at (take used bytes))) × (after ≡ leaves (stepped (revised rustLimits u) (length bytes) at (take used bytes)) bytes)
+        → Ends r after
+    call-done h {r} {after} w = step-done rustLimits permitted u bytes used (stands .0) i (n .named) h at q (stands .1) r after w
 
 -- ---- the next local number
 
@@ -115,7 +118,7 @@ module _ (i : Ident) (bytes : List ℕ) (used : ℕ) where
   localAt at = stepped (λ v. given (localUpdate v)) (length bytes) at (take used bytes)
 
   -- a refusal, as this call answers it
-  raise-not : {cause : Refusal} → Done rustLimits permitted (localNumber i) bytes used (written.Refused cause) bytes → Raises (raised.Refused cause) bytes
+  pub raise-not : {cause : Refusal} → Done rustLimits permitted (localNumber i) bytes used (written.Refused cause) bytes → Raises (raised.Refused cause) bytes
   raise-not {cause} d = (by (updating rustLimits (localNumber i) bytes used .answer) (d .0), d .1)
     where
       by : (a : Answer) → written.Refused cause ≡ writtenBy (updating rustLimits (localNumber i) bytes used .used) a → raised.Refused cause ≡ raisedBy (updating rustLimits (localNumber i) bytes used .used) a
@@ -131,24 +134,14 @@ module _ (i : Ident) (bytes : List ℕ) (used : ℕ) where
       by (refused cause) = (refl, (refl, refl))
       by (given s) = (refl, (refl, refl))
 
-  -- 1
-  pub raise-refused : {cause : Refusal} → checkOf (identCause rustLimits i) ≡ check.Refused cause → Raises (raised.Refused cause) bytes
-  unfolding updateCause
-  raise-refused e = raise-not (arguments-done rustLimits permitted (localNumber i) bytes used (stopped (identCause rustLimits i) e))
-
-  module _ (c : checkOf (identCause rustLimits i) ≡ check.Passed) where
-    -- 3, 15
-    pub raise-turned : {cause : Refusal} → standing.Refused cause ≡ standingOf (spotIn i bytes used) → Raises (raised.Refused cause) bytes
-    unfolding updateCause
-    raise-turned e = raise-not (turned rustLimits permitted (localNumber i) bytes used (passed (identCause rustLimits i) c) i refl (not-standing i bytes used e))
-
-    -- 18, or the changed record's number
-    pub raise-done : Bytes bytes → (at : ℕ) (q : RecordAt) → standing.At at q ≡ standingOf (spotIn i bytes used) → (r : Raised) (after : List ℕ)
-        → (r ≡ raisedWith (localStep (meaning (q .numbers)) .local) (writtenFrom (localAt at))) × (after ≡ leaves (localAt at) bytes) → Raises r after
-    unfolding updateCause revised
-    raise-done h at q e r after w =
-        let l = step-left rustLimits permitted (localNumber i) bytes used (passed (identCause rustLimits i) c) i refl h at q e in
-        let n : meaning (q .numbers) ≡ l .value .numbers = ap (λ (y : RecordAt). meaning (y .numbers)) (l .placed) ∙ meaning-same (l .value .numbers) in
-        let f : r ≡ raisedWith (localStep (l .value .numbers) .local) (writtenFrom (localAt at)) = w .0 ∙ ap (λ (y : Numbers). raisedWith (localStep y .local) (writtenFrom (localAt at))) n in
-        let d = raised-left (localStep (l .value .numbers) .local) (localAt at) (l .left) in
-        (f ∙ d .0, (w .1 ∙ d .1 .0, ap (λ (y : Raised). usedRaised y used) f ∙ d .1 .1))
+  -- 18, or the changed record's number
+  pub raise-done : {t : Standing} → t ≡ standingOf (foundIn i none bytes used) → {at : ℕ} {q : RecordAt} → t ≡ standing.At at q → Bytes bytes → {r : Raised} {after : List ℕ}
+      → (r ≡ raisedWith (localStep (meaning (q .numbers)) .local) (writtenFrom (localAt at))) × (after ≡ leaves (localAt at) bytes) → Raises r after
+  unfolding revised
+  raise-done told {at} {q} e h {r} w =
+      let s = stands (raises i) bytes used told e in
+      let l = step-left rustLimits permitted (localNumber i) bytes used (s .0) i refl h at q (s .1) in
+      let n : meaning (q .numbers) ≡ l .value .numbers = ap (λ (y : RecordAt). meaning (y .numbers)) (l .placed) ∙ meaning-same (l .value .numbers) in
+      let f : r ≡ raisedWith (localStep (l .value .numbers) .local) (writtenFrom (localAt at)) = w .0 ∙ ap (λ (y : Numbers). raisedWith (localStep y .local) (writtenFrom (localAt at))) n in
+      let d = raised-left (localStep (l .value .numbers) .local) (localAt at) (l .left) in
+      (f ∙ d .0, (w .1 ∙ d .1 .0, ap (λ (y : Raised). usedRaised y used) f ∙ d .1 .1))

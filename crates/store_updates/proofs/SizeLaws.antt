@@ -17,7 +17,8 @@ use Rattle.record.specs.Record.{State, Record, mapOf, image}
 use Rattle.record.specs.Changes.{withNumbers}
 use Rattle.record.specs.Rules.{withState}
 use Rattle.dialog.specs.Updates.{terminateUpdate}
-use Rattle.book.specs.Calls.{Ident, noValue, terminate, update}
+use Rattle.dialog_id.specs.Ident.{Ident}
+use Rattle.book.specs.Calls.{noValue, terminate, update}
 use Rattle.book.specs.Book.{Book, size, identOf, isOf, find, amend, alter, Taken, revised, judge, fitting}
 use Rattle.book.proofs.IdentLaws.{id-cases, same-ident, other-ident}
 use Rattle.book.proofs.BookLaws.{find-here, find-there}

@@ -1,6 +1,6 @@
 // The calls that name their record by its identifier.
 use dialog_changes::Raised;
-use dialog_manager::check_identifier;
+use dialog_id::check_lengths;
 use dialog_responses::response_at;
 use limits::Check;
 use output::Written;
@@ -11,8 +11,10 @@ use store_steps::local_at;
 use store_steps::terminate_at;
 ghost use mathlib.Core.Path.{_≡_};
 ghost use Rattle.limits.specs.Limits.{rustLimits};
+ghost use Rattle.dialog_id.specs.Ident.{ident};
 ghost use Rattle.book.specs.Returned.{writtenIn, raisedIn};
-ghost use Rattle.store_entries.specs.Entries.{usedAfter, usedRaised, terminating, responding, setting, raising};
+ghost use Rattle.store_entries.specs.Entries.{usedAfter, usedRaised, terminating, responding, setting, raising, standingOf, Ready};
+ghost use Rattle.store_updates.specs.Finding.{causeIn, foundIn};
 
 // Dialog::terminate, by identifier: 1, 3, 15.
 pub fn terminate(
@@ -26,10 +28,7 @@ pub fn terminate(
     ensures { λ _. ⌜ now (bytes .exit) ≡ terminating rustLimits (now («call_id» .entry)) (now («local_tag» .entry)) (now («remote_tag» .entry)) (now (bytes .entry)) used .bytes ⌝ }
     ensures { λ r. ⌜ usedAfter r used ≡ terminating rustLimits (now («call_id» .entry)) (now («local_tag» .entry)) (now («remote_tag» .entry)) (now (bytes .entry)) used .used ⌝ }
 {
-    if let Check::Refused(x) = check_identifier(call_id, local_tag, remote_tag) {
-        return Written::Refused(x);
-    }
-    match locate(bytes, used, call_id, local_tag, remote_tag) {
+    match find_record(call_id, local_tag, remote_tag, Check::Passed, bytes, used) {
         Standing::At(at, r) => terminate_at(bytes, used, at, r),
         Standing::Refused(cause) => Written::Refused(cause),
     }
@@ -49,13 +48,8 @@ pub fn response(
     ensures { λ _. ⌜ now (bytes .exit) ≡ responding rustLimits (now («call_id» .entry)) (now («local_tag» .entry)) (now («remote_tag» .entry)) status (now (block .entry)) (now (bytes .entry)) used .bytes ⌝ }
     ensures { λ r. ⌜ usedAfter r used ≡ responding rustLimits (now («call_id» .entry)) (now («local_tag» .entry)) (now («remote_tag» .entry)) status (now (block .entry)) (now (bytes .entry)) used .used ⌝ }
 {
-    if let Check::Refused(x) = check_identifier(call_id, local_tag, remote_tag) {
-        return Written::Refused(x);
-    }
-    if let Check::Refused(y) = msg::check_block(block) {
-        return Written::Refused(y);
-    }
-    match locate(bytes, used, call_id, local_tag, remote_tag) {
+    let others = msg::check_block(block);
+    match find_record(call_id, local_tag, remote_tag, others, bytes, used) {
         Standing::At(at, r) => response_at(bytes, used, at, r, status, block),
         Standing::Refused(cause) => Written::Refused(cause),
     }
@@ -74,10 +68,7 @@ pub fn set_session_expires(
     ensures { λ _. ⌜ now (bytes .exit) ≡ setting rustLimits (now («call_id» .entry)) (now («local_tag» .entry)) (now («remote_tag» .entry)) seconds (now (bytes .entry)) used .bytes ⌝ }
     ensures { λ r. ⌜ usedAfter r used ≡ setting rustLimits (now («call_id» .entry)) (now («local_tag» .entry)) (now («remote_tag» .entry)) seconds (now (bytes .entry)) used .used ⌝ }
 {
-    if let Check::Refused(x) = check_identifier(call_id, local_tag, remote_tag) {
-        return Written::Refused(x);
-    }
-    match locate(bytes, used, call_id, local_tag, remote_tag) {
+    match find_record(call_id, local_tag, remote_tag, Check::Passed, bytes, used) {
         Standing::At(at, r) => interval_at(bytes, used, at, r, seconds),
         Standing::Refused(cause) => Written::Refused(cause),
     }
@@ -95,11 +86,29 @@ pub fn next_local_cseq(
     ensures { λ _. ⌜ now (bytes .exit) ≡ raising rustLimits (now («call_id» .entry)) (now («local_tag» .entry)) (now («remote_tag» .entry)) (now (bytes .entry)) used .bytes ⌝ }
     ensures { λ r. ⌜ usedRaised r used ≡ raising rustLimits (now («call_id» .entry)) (now («local_tag» .entry)) (now («remote_tag» .entry)) (now (bytes .entry)) used .used ⌝ }
 {
-    if let Check::Refused(x) = check_identifier(call_id, local_tag, remote_tag) {
-        return Raised::Refused(x);
-    }
-    match locate(bytes, used, call_id, local_tag, remote_tag) {
+    match find_record(call_id, local_tag, remote_tag, Check::Passed, bytes, used) {
         Standing::At(at, r) => local_at(bytes, used, at, r),
         Standing::Refused(cause) => Raised::Refused(cause),
     }
+}
+
+// Where the record of an identifier stands: 1 of the identifier, what the check of the other arguments found, 3, 15.
+fn find_record(
+    call_id: &[u8],
+    local_tag: &[u8],
+    remote_tag: &[u8],
+    others: Check,
+    bytes: &[u8],
+    used: usize,
+) -> Standing
+    ensures { λ r. ⌜ r ≡ standingOf (foundIn (ident (now («call_id» .entry)) (now («local_tag» .entry)) (now («remote_tag» .entry))) (causeIn others) (now (bytes .entry)) used) ⌝ }
+    ensures { λ r. ⌜ Ready (now (bytes .entry)) used r ⌝ }
+{
+    if let Check::Refused(x) = check_lengths(call_id, local_tag, remote_tag) {
+        return Standing::Refused(x);
+    }
+    if let Check::Refused(y) = others {
+        return Standing::Refused(y);
+    }
+    locate(bytes, used, call_id, local_tag, remote_tag)
 }

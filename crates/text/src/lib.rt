@@ -8,6 +8,7 @@ ghost use Rattle.limits.specs.Limits.{rustLimits};
 ghost use Rattle.limits.specs.Outcome.{checkOf};
 ghost use Rattle.text.specs.Answers.{tooLong, valueCause};
 ghost use Rattle.text.specs.Text.{within, isBlank, isValue, other, span, all, blanks, textEnd, trimmed, trimmedSpan, lower, same, equal, wordSpan};
+ghost use Rattle.text.specs.Spans.{partIn, PartWithin};
 use limits::Check;
 use limits::Limits;
 use limits::Refusal;
@@ -274,4 +275,13 @@ pub fn equal_text(a: &[u8], b: &[u8]) -> bool
         i += 1;
     }
     true
+}
+
+// The bytes that a span names.
+pub fn part(s: &[u8], p: Span) -> &[u8]
+    requires { ⌜ PartWithin (now s) p ⌝ }
+    ensures { λ r. ⌜ now r ≡ partIn (now (s .entry)) p ⌝ }
+{
+    let at = p.start;
+    &s[at..at + p.length]
 }

@@ -108,6 +108,26 @@ impl Answer {
     }
 }
 
+/// Lends an out number in the width that the call takes it in, and takes it back.
+pub fn lent_as<T: TryFrom<u64> + TryInto<u64>>(out: &mut u64, ask: impl FnOnce(&mut T) -> u8) -> u8 {
+    let mut held = T::try_from(*out).ok().expect("of that width");
+    let number = ask(&mut held);
+    *out = held.try_into().ok().expect("64 bits hold it");
+    number
+}
+
+/// Lends the first three out numbers as a RAck, and takes them back.
+pub fn lent_as_rack(outs: &mut [u64], ask: impl FnOnce(&mut port::Rack) -> u8) -> u8 {
+    let mut rack = port::Rack {
+        rseq: outs[0] as u32,
+        cseq: outs[1] as u32,
+        method: outs[2] as u8,
+    };
+    let number = ask(&mut rack);
+    outs[..3].copy_from_slice(&[u64::from(rack.rseq), u64::from(rack.cseq), u64::from(rack.method)]);
+    number
+}
+
 /// The first out number of these names says whether there is an answer, or yes or no.
 const FLAGS: [&str; 2] = ["found", "yes"];
 

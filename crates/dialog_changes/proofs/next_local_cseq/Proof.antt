@@ -2,31 +2,33 @@
 use borrow.Author.Needs.{needs}
 use mathlib.Core.Path.{_≡_, sym, ap, _∙_}
 use Rattle.limits.specs.Outcome.{given}
-use Rattle.output.specs.Output.{leaves, writtenFrom}
-use Rattle.record.specs.NumbersForm.{meaning}
-use Rattle.record.specs.Changes.{withNumbers}
-use Rattle.record.specs.Rules.{localStep}
 use Rattle.record.specs.Record.{Numbers}
+use Rattle.record.specs.Rules.{localStep}
 use Rattle.dialog.specs.Updates.{localUpdate}
-use Rattle.dialog_changes.specs.ImageUpdates.{localRaised}
-use Rattle.dialog_changes.proofs.ImageUpdateLaws.{One, one-used, used-refused, meaning-read, after-refused, step-taken, raised-refused, raised-not, raised-to}
+use Rattle.dialog_changes.proofs.ImageUpdateLaws.{One, one-used, used-refused, meaning-read, Ended, unread-ended, changed-ended, raised-refused, raised-not, raised-to}
 use Rattle.dialog_changes.proofs.next_local_cseq.Statement.{statement}
 use Rattle.dialog_changes.proofs.next_local_cseq.Tie as tie
 
--- the one record, its new local number, and what the change of the numbers answered and left
-the-one : (c : tie.After-update-numbers) → One (c .before .before .before .before .before .before .before .before .before .before .args .bytes .now) (c .before .before .before .before .before .before .before .before .before .before .args .used) (c .before .before .before .before .before .r .given .0 .0)
-the-one c = one-used (c .before .before .before .before .before .before .before .before .before .before .args .bytes .now) (c .before .before .before .before .before .before .before .before .before .before .args .used) (c .before .before .before .before .before .r .given .0 .0) (sym (c .before .before .before .before .before .r .given .1) ∙ c .before .before .before .before .before .before .before .read-used .ensures)
+-- where the record was read, and where the call began
+abbrev met : tie.After-update-numbers → tie.After-r
+met c = c .before .before .before .before .before
 
-stepped : (c : tie.After-update-numbers) → meaning (c .before .before .next-local-cseq .result) ≡ localStep (the-one c .value .numbers)
-stepped c = c .before .before .next-local-cseq .ensures ∙ ap localStep (meaning-read (c .before .before .before .before .before .before .before .before .before .before .args .bytes .now) (c .before .before .before .before .before .before .before .before .before .before .args .used) (c .before .before .before .before .before .r .given .0 .0) (the-one c))
+abbrev start : tie.After-update-numbers → tie.Start
+start c = met c .before .before .before .before .before
+
+-- the one record, its new local number, and what the change of the numbers answered and left
+the-one : (c : tie.After-update-numbers) → One (start c .args .bytes .now) (start c .args .used) (met c .r .given .0 .0)
+the-one c = one-used (start c .args .bytes .now) (start c .args .used) (met c .r .given .0 .0) (sym (met c .r .given .1) ∙ met c .before .before .read-used .ensures)
 
 number-is : (c : tie.After-update-numbers) → c .before .before .next-local-cseq .result .local ≡ localUpdate (the-one c .value) .numbers .local
-number-is c = ap (λ (x : Numbers). x .local) (stepped c)
+number-is c =
+    ap (λ (x : Numbers). x .local)
+    (c .before .before .next-local-cseq .ensures ∙ ap localStep (meaning-read (start c .args .bytes .now) (start c .args .used) (met c .r .given .0 .0) (the-one c)))
 
-written-is : (c : tie.After-update-numbers) → (c .update-numbers .result ≡ writtenFrom (localRaised (c .before .before .before .before .before .before .before .before .before .before .args .bytes .now) (c .before .before .before .before .before .before .before .before .before .before .args .used))) × (c .update-numbers .last .0 ≡ leaves (localRaised (c .before .before .before .before .before .before .before .before .before .before .args .bytes .now) (c .before .before .before .before .before .before .before .before .before .before .args .used)) (c .before .before .before .before .before .before .before .before .before .before .args .bytes .now))
+written-is : (c : tie.After-update-numbers) → Ended (start c .args .bytes .now) (start c .args .used) (λ x. given (localStep x)) (c .update-numbers .result) (c .update-numbers .last .0)
 written-is c =
-    let a = c .before .before .before .before .before .before .before .before .before .before .args in
-    step-taken (a .bytes .now) (a .used) (λ r. given (localUpdate r)) (c .before .before .before .before .before .r .given .0 .0) (the-one c) (meaning (c .before .before .next-local-cseq .result)) (c .update-numbers .result) (c .update-numbers .last .0) (λ i. c .before .before .before .before .before .before .before .before .before .slice-known .given i .fits) (ap (λ (x : Numbers). given (withNumbers x (the-one c .value))) (sym (stepped c))) (c .update-numbers .ensures)
+    changed-ended (start c .args .bytes .now) (start c .args .used) (λ x. given (localStep x)) (sym (met c .r .given .1) ∙ met c .before .before .read-used .ensures)
+    (ap given (sym (c .before .before .next-local-cseq .ensures))) (λ i. met c .before .before .before .before .slice-known .given i .fits) (c .update-numbers .ensures)
 
 read-used-requires : tie.Need-read-used-requires
 read-used-requires c κs = search needs
@@ -41,7 +43,10 @@ same-length : tie.Need-same-length
 same-length c = search needs
 
 returns : tie.Need-returns
-returns c = let a = c .before .before .before .before .before .args in let e = used-refused (a .bytes .now) (a .used) (sym (c .enum-told .given .1) ∙ c .before .before .read-used .ensures) in (raised-refused (a .bytes .now) (a .used) e, after-refused (a .bytes .now) (a .used) (λ r. given (localUpdate r)) e .1)
+returns c =
+    let a = c .before .before .before .before .before .args in
+    let e = sym (c .enum-told .given .1) ∙ c .before .before .read-used .ensures in
+    (raised-refused (a .bytes .now) (a .used) (used-refused (a .bytes .now) (a .used) e), unread-ended (a .bytes .now) (a .used) (λ x. given (localStep x)) e .1)
 
 next-local-cseq-requires : tie.Need-next-local-cseq-requires
 next-local-cseq-requires c κs = search needs
@@ -59,13 +64,19 @@ same-length-2 : tie.Need-same-length-2
 same-length-2 c = search needs
 
 returns-2 : tie.Need-returns-2
-returns-2 c = let a = c .before .before .before .before .before .before .before .before .before .before .before .before .before .before .before .args in (raised-to (a .bytes .now) (a .used) (c .before .before .before .before .before .before .before .before .before .before .r .given .0 .0) (the-one (c .before .before .before .before .before)) (written-is (c .before .before .before .before .before) .0) (c .before .n .given .1) (number-is (c .before .before .before .before .before)), written-is (c .before .before .before .before .before) .1)
+returns-2 c =
+    let m = c .before .before .before .before .before in
+    let a = start m .args in
+    (raised-to (a .bytes .now) (a .used) (met m .r .given .0 .0) (the-one m) (written-is m .0) (c .before .n .given .1) (number-is m), written-is m .1)
 
 same-length-3 : tie.Need-same-length-3
 same-length-3 c = search needs
 
 returns-3 : tie.Need-returns-3
-returns-3 c = let a = c .before .before .before .before .before .before .before .before .before .before .before .before .before .before .before .args in (raised-not (a .bytes .now) (a .used) (c .before .before .before .before .before .before .before .before .before .before .r .given .0 .0) (the-one (c .before .before .before .before .before)) (written-is (c .before .before .before .before .before) .0) (c .before .cause .given .1), written-is (c .before .before .before .before .before) .1)
+returns-3 c =
+    let m = c .before .before .before .before .before in
+    let a = start m .args in
+    (raised-not (a .bytes .now) (a .used) (met m .r .given .0 .0) (the-one m) (written-is m .0) (c .before .cause .given .1), written-is m .1)
 
 pub next-local-cseq-spec : {M : Type 1} → statement M
 next-local-cseq-spec =

@@ -12,8 +12,8 @@ use Rattle.ordered_store.specs.Entries.{withoutEntry}
 use Rattle.prack_body.specs.declared.TrackedAt.{TrackedAt}
 use Rattle.prack_entries.specs.Entries.{keyOfText, keyOf}
 use Rattle.prack_entries.specs.Places.{Sought}
-use Rattle.prack_entries.specs.declared.finding.Seat.the-variants as seats
-use Rattle.prack_entries.proofs.SeatLaws.{held-sought, free-sought, Found, found, lacking}
+use Rattle.prack_entries.specs.declared.finding.Slot.the-variants as slots
+use Rattle.prack_entries.proofs.SlotLaws.{held-sought, free-sought, Found, found, lacking}
 use Rattle.prack_validator.specs.Validator.{Action, removeDialog, noValue, actionCause}
 use Rattle.prack_validator.proofs.OperationLaws.{leaving, long-cause, rest-cause, by-arguments, by-store, by-changing, by-keeping, dialog-decides, cut-length}
 use Rattle.prack_validator.proofs.AnswerLaws.{written-kept, written-taken}
@@ -38,7 +38,7 @@ act c = removeDialog (i c)
 known : (c : tie.After-slice-known) → Bytes (s c)
 known c = bytes-all (s c) (λ n. c .slice-known .given n .fits)
 
--- where the function began, from where the seat was found
+-- where the function began, from where the slot was found
 abbrev top : tie.After-find → tie.After-slice-known
 top c = c .before .before .before .before
 
@@ -58,7 +58,7 @@ t c = top (e c)
 abbrev P : tie.After-known-told → TrackedAt
 P c = c .before .t .given .0 .0
 
-S : (c : tie.After-known-told) → Sought (i (t c)) (s (t c)) (used (t c)) (seats.Held (P c))
+S : (c : tie.After-known-told) → Sought (i (t c)) (s (t c)) (used (t c)) (slots.Held (P c))
 S c = held-sought (i (t c)) (s (t c)) (used (t c)) (P c) (sym (e c .find .ensures) ∙ c .before .t .given .1)
 
 F : (c : tie.After-known-told) → Found (i (t c)) (s (t c)) (used (t c)) (P c) (S c .list)

@@ -18,8 +18,8 @@ use Rattle.prack_body.specs.declared.TrackedAt.{TrackedAt}
 use Rattle.prack_body.proofs.BodyLaws.{holds-size, holds-within}
 use Rattle.prack_entries.specs.Entries.{keyOf, encodeTracked}
 use Rattle.prack_entries.specs.Places.{Sought}
-use Rattle.prack_entries.specs.declared.finding.Seat.the-variants as seats
-use Rattle.prack_entries.proofs.SeatLaws.{held-sought, free-sought, Found, found, lacking}
+use Rattle.prack_entries.specs.declared.finding.Slot.the-variants as slots
+use Rattle.prack_entries.proofs.SlotLaws.{held-sought, free-sought, Found, found, lacking}
 use Rattle.prack_validator.specs.Validator.{Action, removePracked, noValue, actionCause}
 use Rattle.prack_validator.proofs.OperationLaws.{long-cause, rest-cause, short, by-arguments, by-store, by-fitting, by-keeping, pruning-decides}
 use Rattle.prack_validator.proofs.AnswerLaws.{written-kept, written-taken, written-set}
@@ -47,7 +47,7 @@ act c = removePracked (i c) (r c)
 known : (c : tie.After-slice-known) → Bytes (s c)
 known c = bytes-all (s c) (λ n. c .slice-known .given n .fits)
 
--- where the function began, from where the seat was found
+-- where the function began, from where the slot was found
 abbrev top : tie.After-find → tie.After-slice-known
 top c = c .before .before .before .before
 
@@ -65,10 +65,10 @@ abbrev t : tie.After-known-told → tie.After-slice-known
 t c = top (e c)
 
 abbrev P : tie.After-known-told → TrackedAt
-P c = c .before .seat .given .0 .0
+P c = c .before .slot .given .0 .0
 
-S : (c : tie.After-known-told) → Sought (i (t c)) (s (t c)) (used (t c)) (seats.Held (P c))
-S c = held-sought (i (t c)) (s (t c)) (used (t c)) (P c) (sym (e c .find .ensures) ∙ c .before .seat .given .1)
+S : (c : tie.After-known-told) → Sought (i (t c)) (s (t c)) (used (t c)) (slots.Held (P c))
+S c = held-sought (i (t c)) (s (t c)) (used (t c)) (P c) (sym (e c .find .ensures) ∙ c .before .slot .given .1)
 
 F : (c : tie.After-known-told) → Found (i (t c)) (s (t c)) (used (t c)) (P c) (S c .list)
 F c = found (i (t c)) (s (t c)) (used (t c)) (P c) (known (t c)) (S c)
@@ -100,8 +100,8 @@ returns c =
 find-requires : tie.Need-find-requires
 find-requires c κs = search needs
 
-enum-known-seat : tie.Need-enum-known-seat
-enum-known-seat c = search needs
+enum-known-slot : tie.Need-enum-known-slot
+enum-known-slot c = search needs
 
 slice-reshare-prefix-load : tie.Need-slice-reshare-prefix-load
 slice-reshare-prefix-load c = S c .within
@@ -183,7 +183,7 @@ remove-pracked-spec =
     too-long-requires
     returns
     find-requires
-    enum-known-seat
+    enum-known-slot
     slice-reshare-prefix-load
     slice-aggregate-load
     slice-aggregate-load-2

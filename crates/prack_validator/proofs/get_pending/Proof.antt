@@ -19,7 +19,7 @@ use Rattle.prack_body.specs.Body.{Holds}
 use Rattle.prack_body.proofs.BodyLaws.{holds-size, holds-within}
 use Rattle.prack_entries.specs.Entries.{keyOf, encodeTracked, cleanFor}
 use Rattle.prack_entries.specs.Places.{Sought}
-use Rattle.prack_entries.proofs.SeatLaws.{sought}
+use Rattle.prack_entries.proofs.SlotLaws.{sought}
 use Rattle.prack_validator.specs.Validator.{Action, getPending, written, actionCause, ran}
 use Rattle.prack_validator.proofs.OperationLaws.{long-cause, rest-cause, short, leftBy, by-arguments, by-store, by-cause, by-fitting, pending-refuses, pending-decides, clean-id}
 use Rattle.prack_validator.proofs.AnswerLaws.{listed-kept, listed-taken, set-taken, set-refused}
@@ -50,7 +50,7 @@ act c = getPending (i c) (time c) (length (out c))
 known : (c : tie.After-slice-known2) → Bytes (s c)
 known c = bytes-all (s c) (λ n. c .before .slice-known .given n .fits)
 
--- where the function began, from where the seat was found
+-- where the function began, from where the slot was found
 abbrev top : tie.After-find → tie.After-slice-known2
 top c = c .before .before .before .before
 

@@ -11,8 +11,8 @@ use Rattle.prack_body.specs.Lists.{entriesOf, firstOf, isAcknowledged}
 use Rattle.prack_list.specs.Steps.{positionIn}
 use Rattle.prack_body.specs.declared.TrackedAt.{TrackedAt}
 use Rattle.prack_entries.specs.Places.{Sought}
-use Rattle.prack_entries.specs.declared.finding.Seat.the-variants as seats
-use Rattle.prack_entries.proofs.SeatLaws.{held-sought, free-sought, Found, found, lacking}
+use Rattle.prack_entries.specs.declared.finding.Slot.the-variants as slots
+use Rattle.prack_entries.proofs.SlotLaws.{held-sought, free-sought, Found, found, lacking}
 use Rattle.prack_validator.specs.Validator.{Action, isPracked, flag, actionCause, deciding, ran}
 use Rattle.prack_validator.specs.declared.Pracked.the-variants as pracked
 use Rattle.prack_validator.proofs.OperationLaws.{long-cause, rest-cause, by-arguments, by-store, by-keeping, pracked-decides, at-flag, no-list-flag, unknown-flag, body-there}
@@ -41,7 +41,7 @@ act c = isPracked (i c) (r c)
 known : (c : tie.After-shared-slice-known2) → Bytes (s c)
 known c = bytes-all (s c) (λ n. c .shared-slice-known2 .given n .fits)
 
--- where the function began, from where the seat was found
+-- where the function began, from where the slot was found
 abbrev top : tie.After-find → tie.After-shared-slice-known2
 top c = c .before .before .before
 
@@ -55,7 +55,7 @@ e c = c .before .before .before
 abbrev P : tie.After-known-told → TrackedAt
 P c = c .before .t .given .0 .0
 
-S : (c : tie.After-known-told) → Sought (i (top (e c))) (s (top (e c))) (used (top (e c))) (seats.Held (P c))
+S : (c : tie.After-known-told) → Sought (i (top (e c))) (s (top (e c))) (used (top (e c))) (slots.Held (P c))
 S c = held-sought (i (top (e c))) (s (top (e c))) (used (top (e c))) (P c) (sym (e c .find .ensures) ∙ c .before .t .given .1)
 
 F : (c : tie.After-known-told) → Found (i (top (e c))) (s (top (e c))) (used (top (e c))) (P c) (S c .list)

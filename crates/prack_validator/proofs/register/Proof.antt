@@ -20,8 +20,8 @@ use Rattle.prack_body.specs.Body.{Holds}
 use Rattle.prack_body.proofs.BodyLaws.{holds-size, holds-within}
 use Rattle.prack_entries.specs.Entries.{keyOf, encodeTracked, cleanFor}
 use Rattle.prack_entries.specs.Places.{Sought}
-use Rattle.prack_entries.proofs.SeatLaws.{sought}
-use Rattle.prack_validator.specs.Validator.{register, noValue, actionCause}
+use Rattle.prack_entries.proofs.SlotLaws.{sought}
+use Rattle.prack_validator.specs.Validator.{Action, register, noValue, actionCause}
 use Rattle.prack_validator.proofs.OperationLaws.{long-cause, rest-cause, short, method-cause, by-arguments, by-store, by-fitting, register-decides, clean-id}
 use Rattle.prack_validator.proofs.AnswerLaws.{written-kept, written-set}
 use native.Mathlib.Omega.{arith}
@@ -29,12 +29,15 @@ use borrow.Author.Needs.{needs}
 use Rattle.prack_validator.proofs.register.Statement.{statement}
 use Rattle.prack_validator.proofs.register.Tie as tie
 
--- the text, the response, the bytes and how many are used
+-- the text, the response, the call, the bytes and how many are used
 abbrev i : tie.After-slice-known → List ℕ
 i c = c .before .before .args .id .now
 
 abbrev p : tie.After-slice-known → Pending
 p c = let a = c .before .before .args in pendingOf (a .rseq) (a .cseq) (a .method) (a .code) (a .time)
+
+abbrev call : tie.After-slice-known → Action
+call c = let a = c .before .before .args in register (a .id .now) (a .rseq) (a .cseq) (a .method) (a .code) (a .time)
 
 abbrev s : tie.After-slice-known → List ℕ
 s c = c .before .before .args .bytes .now
@@ -45,7 +48,7 @@ used c = c .before .before .args .used
 known : (c : tie.After-slice-known) → Bytes (s c)
 known c = bytes-all (s c) (λ n. c .slice-known .given n .fits)
 
--- where the function began, from where the seat was found
+-- where the function began, from where the slot was found
 abbrev top : tie.After-find → tie.After-slice-known
 top c = c .before .before .before .before .before .before
 
@@ -55,8 +58,8 @@ not-long c = let d = c .before .before .before .before in sym (d .before .too-lo
 known-method : (c : tie.After-find) → isMethod (p (top c) .method) ≡ true
 known-method c = let d = c .before .before in sym (d .before .is-method .ensures) ∙ not-false (d .before .is-method .result) (d .if2 .left)
 
-clear : (c : tie.After-find) → actionCause rustLimits (register (i (top c)) (p (top c))) ≡ none
-clear c = rest-cause (register (i (top c)) (p (top c))) (not-long c) ∙ method-cause (p (top c) .method) true (known-method c)
+clear : (c : tie.After-find) → actionCause rustLimits (call (top c)) ≡ none
+clear c = rest-cause (call (top c)) (not-long c) ∙ method-cause (p (top c) .method) true (known-method c)
 
 -- the bytes are a store's
 S : (c : tie.At-match-keys2) → Sought (i (top (c .before))) (s (top (c .before))) (used (top (c .before))) (c .before .find .result)
@@ -88,7 +91,7 @@ too-long-requires c κs = search needs
 returns : tie.Need-returns
 returns c =
     let t = c .before .before in
-    written-kept (s t) (used t) (by-arguments (s t) (used t) (register (i t) (p t)) (long-cause (register (i t) (p t)) (sym (c .before .too-long .ensures) ∙ c .if1 .taken)))
+    written-kept (s t) (used t) (by-arguments (s t) (used t) (call t) (long-cause (call t) (sym (c .before .too-long .ensures) ∙ c .if1 .taken)))
 
 is-method-requires : tie.Need-is-method-requires
 is-method-requires c κs = search needs
@@ -96,7 +99,7 @@ is-method-requires c κs = search needs
 returns-2 : tie.Need-returns-2
 returns-2 c =
     let t = c .before .before .before .before in
-    written-kept (s t) (used t) (by-arguments (s t) (used t) (register (i t) (p t)) (rest-cause (register (i t) (p t)) (sym (c .before .before .before .too-long .ensures) ∙ c .before .before .if1 .left) ∙ method-cause (p t .method) false (sym (c .before .is-method .ensures) ∙ not-true (c .before .is-method .result) (c .if2 .taken))))
+    written-kept (s t) (used t) (by-arguments (s t) (used t) (call t) (rest-cause (call t) (sym (c .before .before .before .too-long .ensures) ∙ c .before .before .if1 .left) ∙ method-cause (p t .method) false (sym (c .before .is-method .ensures) ∙ not-true (c .before .is-method .result) (c .if2 .taken))))
 
 find-requires : tie.Need-find-requires
 find-requires c κs = search needs
@@ -111,7 +114,7 @@ returns-3 : tie.Need-returns-3
 returns-3 c =
     let d = c .before .before in
     let t = top d in
-    written-kept (s t) (used t) (by-store (s t) (used t) (register (i t) (p t)) (clear d) (i t) (sym (d .find .ensures) ∙ c .enum-told .given .1))
+    written-kept (s t) (used t) (by-store (s t) (used t) (call t) (clear d) (i t) (sym (d .find .ensures) ∙ c .enum-told .given .1))
 
 slice-aggregate-clean-copy : tie.Need-slice-aggregate-clean-copy
 slice-aggregate-clean-copy c = search needs
@@ -155,7 +158,7 @@ returns-4 c =
     let w : Sought (i t) (s t) (used t) (f .before .find .result) = S f in
     let n : x .id ≡ i t = clean-id (known t) w (p t .registeredAt) in
     written-set (s t) (used t) noValue (fitted (length (s t)) (encodeTracked rustLimits (setEntry keyOf x (w .list))))
-    (by-fitting (s t) (used t) (register (i t) (p t)) (clear (f .before)) w (setEntry keyOf x (w .list)) (given noValue) (register-decides (i t) (w .list) (p t)))
+    (by-fitting (s t) (used t) (call t) (clear (f .before)) w (setEntry keyOf x (w .list)) (given noValue) (register-decides (i t) (w .list) (p t .rseq) (p t .cseq) (p t .method) (p t .code) (p t .registeredAt)))
     (c .before .before .set .ensures .0 w x n (pushed d .are)) (c .before .before .set .ensures .1 w x n (pushed d .are))
 
 pub register-spec : {M : Type 1} → statement M

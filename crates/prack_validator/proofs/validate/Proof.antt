@@ -21,7 +21,7 @@ use Rattle.prack_body.specs.Body.{Holds}
 use Rattle.prack_body.proofs.BodyLaws.{holds-size, holds-within}
 use Rattle.prack_entries.specs.Entries.{keyOf, encodeTracked, cleanFor}
 use Rattle.prack_entries.specs.Places.{Sought}
-use Rattle.prack_entries.proofs.SeatLaws.{sought}
+use Rattle.prack_entries.proofs.SlotLaws.{sought}
 use Rattle.prack_validator.specs.Validator.{Action, validate, actionCause, judgedFor, markedFor, rackValue, ran}
 use Rattle.prack_validator.proofs.OperationLaws.{long-cause, rest-cause, short, leftBy, by-arguments, by-store, by-fitting, validate-decides, clean-id}
 use Rattle.prack_validator.proofs.AnswerLaws.{validated-kept, validated-taken, set-taken, set-refused}
@@ -59,7 +59,7 @@ start c = c .before .before .before
 not-long : (c : tie.After-check-block) → tooLong rustLimits (i (start c)) ≡ false
 not-long c = sym (c .before .before .too-long .ensures) ∙ c .before .if1 .left
 
--- where the function began, from where the seat was found
+-- where the function began, from where the slot was found
 abbrev checked : tie.After-find → tie.After-check-block
 checked c = c .before .before .before .before
 

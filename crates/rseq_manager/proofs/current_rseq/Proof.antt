@@ -1,14 +1,14 @@
 -- `rseq_manager::current_rseq` meets its contract. Assumes nothing.
 use mathlib.Core.Path.{sym, _∙_}
 use Rattle.record.proofs.CodecLaws.{bytes-all}
-use Rattle.rseq_entries.specs.Entries.{ident}
+use Rattle.dialog_id.specs.Ident.{ident}
 use Rattle.rseq_manager.proofs.AnswerLaws.{current-refused, current-broken, current-is, current-none}
 use borrow.Author.Needs.{needs}
 use Rattle.rseq_manager.proofs.current_rseq.Statement.{statement}
 use Rattle.rseq_manager.proofs.current_rseq.Tie as tie
 
-check-identifier-requires : tie.Need-check-identifier-requires
-check-identifier-requires c κs = search needs
+check-lengths-requires : tie.Need-check-lengths-requires
+check-lengths-requires c κs = search needs
 
 enum-known-x : tie.Need-enum-known-x
 enum-known-x c = search needs
@@ -16,7 +16,7 @@ enum-known-x c = search needs
 returns : tie.Need-returns
 returns c =
     let a = c .before .before .before .before .before .before .before .before .args in
-    current-refused (ident (a .call-id .now) (a .local-tag .now) (a .remote-tag .now)) (a .bytes .now) (a .used) (bytes-all (a .bytes .now) (λ i. c .before .before .before .before .shared-slice-known4 .given i .fits)) (sym (c .before .before .before .check-identifier .ensures) ∙ c .before .x .given .1)
+    current-refused (ident (a .call-id .now) (a .local-tag .now) (a .remote-tag .now)) (a .bytes .now) (a .used) (bytes-all (a .bytes .now) (λ i. c .before .before .before .before .shared-slice-known4 .given i .fits)) (sym (c .before .before .before .check-lengths .ensures) ∙ c .before .x .given .1)
 
 enum-told : tie.Need-enum-told
 enum-told c = search needs
@@ -36,23 +36,23 @@ enum-told-3 c = search needs
 returns-2 : tie.Need-returns-2
 returns-2 c =
     let a = c .before .before .before .before .before .before .before .before .before .before .before .args in
-    current-is (ident (a .call-id .now) (a .local-tag .now) (a .remote-tag .now)) (a .bytes .now) (a .used) (bytes-all (a .bytes .now) (λ i. c .before .before .before .before .before .before .before .shared-slice-known4 .given i .fits)) (sym (c .before .before .before .before .before .before .check-identifier .ensures) ∙ c .before .before .before .before .enum-told .given .1) (sym (c .before .before .before .find .ensures) ∙ c .before .number .given .1)
+    current-is (ident (a .call-id .now) (a .local-tag .now) (a .remote-tag .now)) (a .bytes .now) (a .used) (bytes-all (a .bytes .now) (λ i. c .before .before .before .before .before .before .before .shared-slice-known4 .given i .fits)) (sym (c .before .before .before .before .before .before .check-lengths .ensures) ∙ c .before .before .before .before .enum-told .given .1) (sym (c .before .before .before .find .ensures) ∙ c .before .number .given .1)
 
 returns-3 : tie.Need-returns-3
 returns-3 c =
     let a = c .before .before .before .before .before .before .before .before .before .before .args in
-    current-none (ident (a .call-id .now) (a .local-tag .now) (a .remote-tag .now)) (a .bytes .now) (a .used) (bytes-all (a .bytes .now) (λ i. c .before .before .before .before .before .before .shared-slice-known4 .given i .fits)) (sym (c .before .before .before .before .before .check-identifier .ensures) ∙ c .before .before .before .enum-told .given .1) (sym (c .before .before .find .ensures) ∙ c .enum-told2 .given .1)
+    current-none (ident (a .call-id .now) (a .local-tag .now) (a .remote-tag .now)) (a .bytes .now) (a .used) (bytes-all (a .bytes .now) (λ i. c .before .before .before .before .before .before .shared-slice-known4 .given i .fits)) (sym (c .before .before .before .before .before .check-lengths .ensures) ∙ c .before .before .before .enum-told .given .1) (sym (c .before .before .find .ensures) ∙ c .enum-told2 .given .1)
 
 returns-4 : tie.Need-returns-4
 returns-4 c =
     let a = c .before .before .before .before .before .before .before .before .before .before .args in
-    current-broken (ident (a .call-id .now) (a .local-tag .now) (a .remote-tag .now)) (a .bytes .now) (a .used) (bytes-all (a .bytes .now) (λ i. c .before .before .before .before .before .before .shared-slice-known4 .given i .fits)) (sym (c .before .before .before .before .before .check-identifier .ensures) ∙ c .before .before .before .enum-told .given .1) (sym (c .before .before .find .ensures) ∙ c .enum-told3 .given .1)
+    current-broken (ident (a .call-id .now) (a .local-tag .now) (a .remote-tag .now)) (a .bytes .now) (a .used) (bytes-all (a .bytes .now) (λ i. c .before .before .before .before .before .before .shared-slice-known4 .given i .fits)) (sym (c .before .before .before .before .before .check-lengths .ensures) ∙ c .before .before .before .enum-told .given .1) (sym (c .before .before .find .ensures) ∙ c .enum-told3 .given .1)
 
 pub current-rseq-spec : {M : Type 1} → statement M
 current-rseq-spec =
     tie.close
     (tie.spec
-    check-identifier-requires
+    check-lengths-requires
     enum-known-x
     returns
     enum-told

@@ -2,7 +2,7 @@
 use mathlib.Core.Path.{sym, subst, _∙_}
 use lib.ListN.{take}
 use lib.Seq.{length-take-le}
-use Rattle.book.specs.Calls.{Ident, ident}
+use Rattle.dialog_id.specs.Ident.{Ident, ident}
 use Rattle.dialog_manager.specs.Search.{Stands}
 use Rattle.dialog_manager.proofs.LookupLaws.{Kept, kept, stored}
 use Rattle.store_entries.proofs.LocateLaws.{ready, unread, nothing, one}

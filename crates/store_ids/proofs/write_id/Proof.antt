@@ -1,7 +1,7 @@
 -- `store_ids::write_id` meets its contract: the three texts one after another. Assumes nothing.
 use Rattle.edit.proofs.EditLaws.{wrote-three}
 use Rattle.record.specs.Codec.{text}
-use Rattle.dialog.specs.Matching.{partIn}
+use Rattle.text.specs.Spans.{partIn}
 use Rattle.store_ids.proofs.IdentifierLaws.{part-size}
 use native.Mathlib.Omega.{arith}
 use borrow.Author.Needs.{needs}

@@ -5,7 +5,7 @@ use super::calls::{self, Call};
 use super::image;
 use super::order;
 use super::room;
-use crate::answer::{Answer, Input, Out, Width};
+use crate::answer::{lent_as, Answer, Input, Out, Width};
 use crate::bounds;
 use crate::messages::{request, response};
 use crate::random::Random;
@@ -276,8 +276,8 @@ fn ask(input: &Input, answer: &mut Answer, create: Create) -> u8 {
         local_uri,
         remote_uri,
     };
-    let mut length = answer.outs[0] as usize;
-    let number = create(&given, room::lent(&mut answer.bytes), &mut length, &mut answer.outs[1]);
-    answer.outs[0] = length as u64;
-    number
+    let [length, least, ..] = &mut answer.outs;
+    lent_as(length, |length| {
+        create(&given, room::lent(&mut answer.bytes), length, least)
+    })
 }

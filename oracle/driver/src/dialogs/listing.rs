@@ -4,7 +4,7 @@ use super::calls::{lent_for, Call};
 use super::image::{self, Parts, Record};
 use super::records;
 use super::room;
-use crate::answer::{Answer, Input, Width};
+use crate::answer::{lent_as, Answer, Input, Width};
 use crate::bounds;
 use crate::random::Random;
 use crate::rules::{LISTING, LONGEST_LISTED};
@@ -24,10 +24,9 @@ pub const OPERATIONS: &[Operation] = &[Operation {
     expect,
     ask: |input, answer| {
         room::lend_empty(answer, input.numbers[0] as usize);
-        let mut length = answer.outs[0] as usize;
-        let number = port::store::listing(input.texts[0], room::lent(&mut answer.bytes), &mut length);
-        answer.outs[0] = length as u64;
-        number
+        lent_as(&mut answer.outs[0], |length| {
+            port::store::listing(input.texts[0], room::lent(&mut answer.bytes), length)
+        })
     },
     inputs: each_store,
     fault: "the refresh second is rounded up",

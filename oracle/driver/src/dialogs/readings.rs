@@ -4,10 +4,10 @@
 use super::calls::{self, Call};
 use super::image::{self, Record};
 use super::{each_image, Make};
-use crate::answer::{Answer, Input, Out, Width, NOTHING};
+use crate::answer::{lent_as, Answer, Input, Out, Width, NOTHING};
 use crate::bounds;
 use crate::messages::request;
-use crate::operations::{lent_part, take_part, PART, YES};
+use crate::operations::{ask_places, lent_part, take_part, ID_PARTS, PART, YES};
 use crate::places;
 use crate::random::Random;
 use crate::rules;
@@ -40,15 +40,6 @@ pub const MAKERS: &[(&str, Make)] = &[
     (ROUTE, make_route),
 ];
 
-const ID_PARTS: &[Out] = &[
-    ("Call-ID", Width::U64),
-    ("Call-ID length", Width::U64),
-    ("local tag", Width::U64),
-    ("local tag length", Width::U64),
-    ("remote tag", Width::U64),
-    ("remote tag length", Width::U64),
-];
-
 const URI_PARTS: &[Out] = &[
     ("target", Width::U64),
     ("target length", Width::U64),
@@ -78,10 +69,9 @@ pub const OPERATIONS: &[Operation] = &[
         rows: &[0, 1, 2, 3, NOTHING],
         expect: expect_matches,
         ask: |input, answer| {
-            let mut matches = answer.outs[0] as u8;
-            let number = port::image_matches_request(input.texts[1], input.texts[0], &mut matches);
-            answer.outs[0] = u64::from(matches);
-            number
+            lent_as(&mut answer.outs[0], |matches| {
+                port::image_matches_request(input.texts[1], input.texts[0], matches)
+            })
         },
         inputs: |feed| each_image(feed, make_matches),
         fault: "the tags of the request aren't swapped",
@@ -96,10 +86,9 @@ pub const OPERATIONS: &[Operation] = &[
         rows: &[0, 3, NOTHING],
         expect: expect_refresh,
         ask: |input, answer| {
-            let mut due = answer.outs[0] as u8;
-            let number = port::image_needs_refresh(input.texts[0], input.numbers[0], &mut due);
-            answer.outs[0] = u64::from(due);
-            number
+            lent_as(&mut answer.outs[0], |due| {
+                port::image_needs_refresh(input.texts[0], input.numbers[0], due)
+            })
         },
         inputs: |feed| each_image(feed, make_refresh),
         fault: "an interval of 0 counts as none",
@@ -186,10 +175,9 @@ pub const OPERATIONS: &[Operation] = &[
         rows: &[0, 3],
         expect: expect_route_count,
         ask: |input, answer| {
-            let mut count = answer.outs[0] as usize;
-            let number = port::image_route_count(input.texts[0], &mut count);
-            answer.outs[0] = count as u64;
-            number
+            lent_as(&mut answer.outs[0], |count| {
+                port::image_route_count(input.texts[0], count)
+            })
         },
         inputs: |feed| each_image(feed, make_plain),
         fault: "the 50th route isn't counted",
@@ -333,16 +321,6 @@ fn expect_uris(input: &Input, answer: &mut Answer) -> Result<(), u8> {
     let uris = [dialog.remote_target(), dialog.local_uri(), dialog.remote_uri()];
     give_places(input, answer, &record.uris, uris.map(SipUri::as_str));
     Ok(())
-}
-
-/// The port's three places.
-fn ask_places(input: &Input, answer: &mut Answer, function: fn(&[u8], &mut [usize; 6]) -> u8) -> u8 {
-    let mut parts: [usize; 6] = std::array::from_fn(|index| answer.outs[index] as usize);
-    let number = function(input.texts[0], &mut parts);
-    for (out, part) in answer.outs.iter_mut().zip(parts) {
-        *out = part as u64;
-    }
-    number
 }
 
 /// The Rust's state, side and security.

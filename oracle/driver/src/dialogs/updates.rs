@@ -8,7 +8,7 @@ use super::order;
 use super::records;
 use super::room::{self, IMAGE, USED};
 use super::{each_image, Make};
-use crate::answer::{Answer, Input, Out, Width};
+use crate::answer::{lent_as, Answer, Input, Out, Width};
 use crate::bounds;
 use crate::messages::{request, response};
 use crate::random::Random;
@@ -127,10 +127,7 @@ pub const OPERATIONS: &[Operation] = &[
         expect: expect_next,
         ask: |input, answer| {
             ask_change(input, answer, |image, used, out| {
-                let mut number = *out as u32;
-                let answered = port::image_next_local_cseq(image, used, &mut number);
-                *out = u64::from(number);
-                answered
+                lent_as(out, |number| port::image_next_local_cseq(image, used, number))
             })
         },
         inputs: |feed| each_image(feed, |random, image| make_plain(random, image, expect_next)),
@@ -165,10 +162,8 @@ pub const OPERATIONS: &[Operation] = &[
 /// The port's change: on the image, the used length and the second out number.
 fn ask_change(input: &Input, answer: &mut Answer, change: impl FnOnce(&mut [u8], &mut usize, &mut u64) -> u8) -> u8 {
     room::lend_image(input, answer);
-    let mut used = answer.outs[USED] as usize;
-    let number = change(room::lent(&mut answer.bytes), &mut used, &mut answer.outs[1]);
-    answer.outs[USED] = used as u64;
-    number
+    let [used, out, ..] = &mut answer.outs;
+    lent_as(used, |used| change(room::lent(&mut answer.bytes), used, out))
 }
 
 /// An expected answer.

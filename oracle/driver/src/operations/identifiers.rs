@@ -1,6 +1,7 @@
 //! Dialog identifiers: the tag of a value, the checks of `DialogId::new`, the three parts in a block.
 
-use crate::answer::{Answer, Input, Out, Width};
+use super::{ask_places, ID_PARTS};
+use crate::answer::{Answer, Input, Width};
 use crate::blocks::{each_block, Blocks};
 use crate::messages::{request, response};
 use crate::places;
@@ -12,16 +13,6 @@ use sip_core::{Headers, Method};
 use sip_dialog::{DialogError, DialogId};
 use smol_str::SmolStr;
 use std::ops::Range;
-
-/// Places and lengths of the three parts.
-const PARTS: &[Out] = &[
-    ("Call-ID", Width::U64),
-    ("Call-ID length", Width::U64),
-    ("local tag", Width::U64),
-    ("local tag length", Width::U64),
-    ("remote tag", Width::U64),
-    ("remote tag length", Width::U64),
-];
 
 pub const OPERATIONS: &[Operation] = &[
     Operation {
@@ -58,10 +49,10 @@ pub const OPERATIONS: &[Operation] = &[
         against: "Rust DialogId::from_request",
         texts: &["block"],
         numbers: &[],
-        outs: PARTS,
+        outs: ID_PARTS,
         rows: &[0, 1, 2, 4],
         expect: |input, answer| expect_parts(input, answer, Side::Request),
-        ask: |input, answer| ask_parts(input, answer, port::from_request),
+        ask: |input, answer| ask_places(input, answer, port::from_request),
         inputs: |feed| each_block(feed, &BLOCKS, &|feed, block| feed.compare(&Input::text(block))),
         fault: "an empty From tag counts as absent",
         distort: |_, answer| refuse_empty(answer, 3),
@@ -71,10 +62,10 @@ pub const OPERATIONS: &[Operation] = &[
         against: "Rust DialogId::from_response_uac",
         texts: &["block"],
         numbers: &[],
-        outs: PARTS,
+        outs: ID_PARTS,
         rows: &[0, 1, 2, 4],
         expect: |input, answer| expect_parts(input, answer, Side::Uac),
-        ask: |input, answer| ask_parts(input, answer, port::from_response_uac),
+        ask: |input, answer| ask_places(input, answer, port::from_response_uac),
         inputs: |feed| each_block(feed, &BLOCKS, &|feed, block| feed.compare(&Input::text(block))),
         fault: "an empty Call-ID counts as absent",
         distort: |_, answer| refuse_empty(answer, 1),
@@ -84,10 +75,10 @@ pub const OPERATIONS: &[Operation] = &[
         against: "Rust DialogId::from_response_uas",
         texts: &["block"],
         numbers: &[],
-        outs: PARTS,
+        outs: ID_PARTS,
         rows: &[0, 1, 2, 4],
         expect: |input, answer| expect_parts(input, answer, Side::Uas),
-        ask: |input, answer| ask_parts(input, answer, port::from_response_uas),
+        ask: |input, answer| ask_places(input, answer, port::from_response_uas),
         inputs: |feed| each_block(feed, &BLOCKS, &|feed, block| feed.compare(&Input::text(block))),
         fault: "From's tag is the local one, as for uac",
         distort: |_, answer| {
@@ -285,20 +276,10 @@ fn rust_id(headers: Headers, side: Side) -> Option<DialogId> {
     }
 }
 
-/// The port's identifier.
-fn ask_parts(input: &Input, answer: &mut Answer, function: fn(&[u8], &mut port::Identifier) -> u8) -> u8 {
-    let mut parts: port::Identifier = std::array::from_fn(|index| answer.outs[index] as usize);
-    let number = function(input.texts[0], &mut parts);
-    for (out, part) in answer.outs.iter_mut().zip(parts) {
-        *out = part as u64;
-    }
-    number
-}
-
 /// A planted fault: 4 where the part whose length is at `index` is empty.
 fn refuse_empty(answer: &mut Answer, index: usize) {
     if answer.number == 0 && answer.outs[index] == 0 {
         answer.number = 4;
-        answer.keep_all(PARTS);
+        answer.keep_all(ID_PARTS);
     }
 }

@@ -10,7 +10,7 @@ mod timers;
 mod uri;
 pub mod values;
 
-use crate::answer::{Answer, Out, Width};
+use crate::answer::{Answer, Input, Out, Width};
 use crate::run::{compare_each, Feed, Operation};
 
 /// All operations, in the order of the C declarations.
@@ -35,6 +35,16 @@ pub fn compare_all(calls: usize, seed: u64, planted: impl Fn(&str) -> bool) -> V
 
 /// The out numbers of an operation that may find a part.
 pub const PART: &[Out] = &[("found", Width::U8), ("place", Width::U64), ("length", Width::U64)];
+
+/// The out numbers of an identifier: places and lengths of its three parts.
+pub const ID_PARTS: &[Out] = &[
+    ("Call-ID", Width::U64),
+    ("Call-ID length", Width::U64),
+    ("local tag", Width::U64),
+    ("local tag length", Width::U64),
+    ("remote tag", Width::U64),
+    ("remote tag length", Width::U64),
+];
 
 /// The out numbers of one step of a list.
 const LIST_PART: &[Out] = &[
@@ -61,6 +71,16 @@ pub fn take_part(answer: &mut Answer, part: port::Part) {
     answer.outs[0] = u64::from(part.found);
     answer.outs[1] = part.place as u64;
     answer.outs[2] = part.length as u64;
+}
+
+/// The port's three places and their lengths.
+pub fn ask_places(input: &Input, answer: &mut Answer, function: fn(&[u8], &mut [usize; 6]) -> u8) -> u8 {
+    let mut parts: [usize; 6] = std::array::from_fn(|index| answer.outs[index] as usize);
+    let number = function(input.texts[0], &mut parts);
+    for (out, part) in answer.outs.iter_mut().zip(parts) {
+        *out = part as u64;
+    }
+    number
 }
 
 /// The out numbers of a step, to lend.

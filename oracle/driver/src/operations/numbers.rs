@@ -1,6 +1,6 @@
 //! Numbers and methods: CSeq, RSeq, RAck, method texts, reliable provisionals.
 
-use crate::answer::{Answer, Input, Out, Width, NOTHING};
+use crate::answer::{lent_as, lent_as_rack, Answer, Input, Out, Width, NOTHING};
 use crate::blocks::{each_block, Blocks};
 use crate::messages::response;
 use crate::places;
@@ -175,10 +175,7 @@ fn expect_cseq_number(input: &Input, answer: &mut Answer) -> Result<(), u8> {
 
 /// The port's number of a block.
 fn ask_number(input: &Input, answer: &mut Answer, function: fn(&[u8], &mut u32) -> u8) -> u8 {
-    let mut number = answer.outs[0] as u32;
-    let refusal = function(input.texts[0], &mut number);
-    answer.outs[0] = u64::from(number);
-    refusal
+    lent_as(&mut answer.outs[0], |number| function(input.texts[0], number))
 }
 
 /// The value of the first line of that name, as text.
@@ -214,10 +211,7 @@ fn method_number(method: &Method) -> u64 {
 
 /// The port's CSeq method.
 fn ask_cseq_method(input: &Input, answer: &mut Answer) -> u8 {
-    let mut method = answer.outs[0] as u8;
-    let number = port::cseq_method(input.texts[0], &mut method);
-    answer.outs[0] = u64::from(method);
-    number
+    lent_as(&mut answer.outs[0], |method| port::cseq_method(input.texts[0], method))
 }
 
 /// Refuses the method where the number is bad.
@@ -276,11 +270,10 @@ fn expect_reliable(input: &Input, answer: &mut Answer) -> Result<(), u8> {
 
 /// The port's yes or no.
 fn ask_reliable(input: &Input, answer: &mut Answer) -> u8 {
-    let mut reliable = answer.outs[0] as u8;
     let status = input.numbers[0] as u16;
-    let number = port::is_reliable_provisional(status, input.texts[0], &mut reliable);
-    answer.outs[0] = u64::from(reliable);
-    number
+    lent_as(&mut answer.outs[0], |reliable| {
+        port::is_reliable_provisional(status, input.texts[0], reliable)
+    })
 }
 
 /// Says yes to a 100 with RSeq.
@@ -363,10 +356,9 @@ fn expect_method_text(input: &Input, answer: &mut Answer) -> Result<(), u8> {
 fn ask_method_text(input: &Input, answer: &mut Answer) -> u8 {
     let [method, lent, ..] = input.numbers;
     answer.lend(lent as usize);
-    let mut length = answer.outs[0] as usize;
-    let number = port::method_text(method as u8, &mut answer.bytes, &mut length);
-    answer.outs[0] = length as u64;
-    number
+    lent_as(&mut answer.outs[0], |length| {
+        port::method_text(method as u8, &mut answer.bytes, length)
+    })
 }
 
 /// Ends the text by a 0, as a C string.
@@ -411,16 +403,7 @@ fn expect_rack(input: &Input, answer: &mut Answer) -> Result<(), u8> {
 
 /// The port's RAck.
 fn ask_rack(input: &Input, answer: &mut Answer) -> u8 {
-    let mut rack = port::Rack {
-        rseq: answer.outs[0] as u32,
-        cseq: answer.outs[1] as u32,
-        method: answer.outs[2] as u8,
-    };
-    let number = port::parse_rack(input.texts[0], &mut rack);
-    answer.outs[0] = u64::from(rack.rseq);
-    answer.outs[1] = u64::from(rack.cseq);
-    answer.outs[2] = u64::from(rack.method);
-    number
+    lent_as_rack(&mut answer.outs, |rack| port::parse_rack(input.texts[0], rack))
 }
 
 /// Reads the first three of four parts.
@@ -492,10 +475,9 @@ fn ask_format_rack(input: &Input, answer: &mut Answer) -> u8 {
         cseq: cseq as u32,
         method: method as u8,
     };
-    let mut length = answer.outs[0] as usize;
-    let number = port::format_rack(&rack, &mut answer.bytes, &mut length);
-    answer.outs[0] = length as u64;
-    number
+    lent_as(&mut answer.outs[0], |length| {
+        port::format_rack(&rack, &mut answer.bytes, length)
+    })
 }
 
 /// Writes before it measures.

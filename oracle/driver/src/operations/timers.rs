@@ -1,7 +1,7 @@
 //! session_timer_manager.rs's free functions and `needs_refresh`. Times are whole nanoseconds on both sides.
 
 use super::YES;
-use crate::answer::{Answer, Input, Out, Width, NOTHING};
+use crate::answer::{lent_as, Answer, Input, Out, Width, NOTHING};
 use crate::random::Random;
 use crate::rules;
 use crate::run::{Feed, Operation};
@@ -413,11 +413,10 @@ fn expect_role(input: &Input, answer: &mut Answer) -> Result<(), u8> {
 fn ask_role(input: &Input, answer: &mut Answer) -> u8 {
     let [given, is_uac, ..] = input.numbers;
     let text = input.texts[0];
-    let mut refresher = answer.outs[0] as u8;
     let given = (given == 1).then_some(text);
-    let number = port::determine_refresher_role(given, text, is_uac == 1, &mut refresher);
-    answer.outs[0] = u64::from(refresher);
-    number
+    lent_as(&mut answer.outs[0], |refresher| {
+        port::determine_refresher_role(given, text, is_uac == 1, refresher)
+    })
 }
 
 /// Reads `Uas` as `uas`.

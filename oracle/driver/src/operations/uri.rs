@@ -1,7 +1,7 @@
 //! SIP URIs: reading, the estimate, and the URI in a header value.
 
 use super::{lent_part, take_part, PART};
-use crate::answer::{Answer, Input, Width, NOTHING};
+use crate::answer::{lent_as, Answer, Input, Width, NOTHING};
 use crate::places;
 use crate::rules;
 use crate::run::{Feed, Operation};
@@ -189,10 +189,9 @@ fn expect_estimate(input: &Input, answer: &mut Answer) -> Result<(), u8> {
 
 /// The port's estimate.
 fn ask_estimate(input: &Input, answer: &mut Answer) -> u8 {
-    let mut estimate = answer.outs[0] as usize;
-    let number = port::uri_estimate(input.texts[0], &mut estimate);
-    answer.outs[0] = estimate as u64;
-    number
+    lent_as(&mut answer.outs[0], |estimate| {
+        port::uri_estimate(input.texts[0], estimate)
+    })
 }
 
 /// Counts a port's own digits.

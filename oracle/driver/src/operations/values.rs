@@ -1,7 +1,7 @@
 //! Header values: comma parts, the Contact, the route set, Session-Expires.
 
 use super::{lent_list_part, lent_part, take_part, LIST_PART, PART};
-use crate::answer::{Answer, Input, Out, Step, Width, NOTHING};
+use crate::answer::{lent_as, Answer, Input, Out, Step, Width, NOTHING};
 use crate::blocks::{each_block, Blocks};
 use crate::messages::response;
 use crate::places;
@@ -346,10 +346,7 @@ fn expect_route_count(input: &Input, answer: &mut Answer) -> Result<(), u8> {
 
 /// The port's count.
 fn ask_route_count(input: &Input, answer: &mut Answer) -> u8 {
-    let mut count = answer.outs[0] as usize;
-    let number = port::route_count(input.texts[0], &mut count);
-    answer.outs[0] = count as u64;
-    number
+    lent_as(&mut answer.outs[0], |count| port::route_count(input.texts[0], count))
 }
 
 /// Takes 50 routes and an unreadable part.

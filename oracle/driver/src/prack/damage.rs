@@ -5,10 +5,10 @@ use super::calls;
 use super::layout::{encode, Entry, MOST, RESPONSE};
 use crate::dialogs::records;
 use crate::random::Random;
+use crate::store::entries::SWAPPED;
 use crate::store::kind::Damage;
 
 /// The damages that a run of bytes doesn't know.
-pub const SWAPPED: Damage = "two entries swapped";
 const TWICE: Damage = "one text twice";
 const ELEVEN: Damage = "eleven responses";
 const FLAG: Damage = "a flag 2";

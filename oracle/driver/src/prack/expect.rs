@@ -8,7 +8,7 @@ use crate::bounds;
 use crate::dialogs::creation::limit;
 use crate::dialogs::room;
 use crate::rules;
-use crate::store::expect::meet_lent;
+use crate::store::expect::store_read;
 use crate::store::kind::Damage;
 use crate::store::memory::Left;
 
@@ -33,14 +33,7 @@ fn answer(book: &mut Result<Book, Damage>, call: &Call, lent: usize, left: &mut 
         (1..=14).contains(&method).then_some(()).ok_or(28)?;
     }
     let headers = rules::headers(call.block())?;
-    meet_lent(call.name(), left.store.used, lent);
-    if left.store.used > lent {
-        return Err(3);
-    }
-    let book = book.as_mut().map_err(|damage| {
-        bounds::met(call.name(), "store", damage);
-        3
-    })?;
+    let book = store_read(book, call.name(), left.store.used, lent)?;
     meet::store(book, call);
     let held = book.held(&call.id).cloned();
     let used_after = book.used_after(call);

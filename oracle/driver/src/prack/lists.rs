@@ -5,14 +5,11 @@ use super::calls::{self, Pool};
 use super::damage::{damaged, each_of_entries};
 use super::layout::{decode, encode, Entry, Response};
 use super::steps::LONG;
-use crate::dialogs::records;
 use crate::random::Random;
+use crate::store::entries;
 use crate::store::kind::Damage;
 use crate::store::lists::List;
-use crate::store::run::{Run, Sides};
-
-/// The most calls of a random list.
-const LONGEST_LIST: usize = 120;
+use crate::store::run::Run;
 
 /// One random list; one in four begins with a store handed in.
 pub fn list(run: &mut Run<Pracks>, random: &mut Random) {
@@ -22,19 +19,8 @@ pub fn list(run: &mut Run<Pracks>, random: &mut Random) {
     } else {
         Vec::new()
     };
-    let mut list = List::new(run, random, &used, [0, 0]);
-    for _ in 0..1 + list.random.below(LONGEST_LIST) {
-        if list.random.one_in(12) {
-            let book = list.sides.book();
-            let damaged = damaged(list.random, book);
-            let call = calls::make(list.random, &pool, book);
-            list.interrupt(&call, damaged);
-        }
-        let call = calls::make(list.random, &pool, list.sides.book());
-        if !list.each(&[call]) {
-            return;
-        }
-    }
+    let list = List::new(run, random, &used, [0, 0]);
+    list.go_through(|random, book| calls::make(random, &pool, book), damaged);
 }
 
 /// A store of three entries: with a list of two, with none, and the example of docs/LAYOUTS.md.
@@ -96,23 +82,15 @@ pub fn all(id: &[u8], time: u64) -> [Call; 6] {
 /// byte behind it, and by every damage to its entries.
 pub fn each_broken(run: &mut Run<Pracks>, random: &mut Random) {
     let entries = three();
-    let mut broken: Vec<(Damage, Vec<u8>)> = Vec::new();
-    records::each_broken(&encode(&entries), &mut |damage, bytes| {
-        broken.push((damage, bytes.to_vec()))
-    });
-    for _ in 0..TIMES {
-        each_of_entries(&entries, random, &mut |damage, bytes| {
-            broken.push((damage, bytes.to_vec()))
-        });
-    }
-    for (turn, (damage, bytes)) in broken.iter().enumerate() {
-        let time = LONG + random.pick(&[0, LONG, LONG + 1]);
-        for call in all(&entries[turn % entries.len()].id, time) {
-            let mut other = Sides::damaged(random, bytes, [0, 0], damage);
-            let lent = random.pick(&[bytes.len(), other.store.size()]);
-            run.compare(&mut other, &call, lent);
+    let damages = |random: &mut Random, give: &mut dyn FnMut(Damage, &[u8])| {
+        for _ in 0..TIMES {
+            each_of_entries(&entries, random, give);
         }
-    }
+    };
+    entries::each_broken(run, random, &encode(&entries), damages, |random, turn| {
+        let time = LONG + random.pick(&[0, LONG, LONG + 1]);
+        all(&entries[turn % entries.len()].id, time).to_vec()
+    });
 }
 
 /// How often each damage to the entries is gone through.

@@ -2,21 +2,14 @@
 //! of three entries, handed in.
 
 use super::call::{Action, Call, Pracks};
-use super::damage::SWAPPED;
 use super::layout::{encode, Entry, RESPONSE};
 use super::lists::three;
 use super::steps::LONG;
-use crate::dialogs::records;
 use crate::random::Random;
 use crate::rules::LONGEST;
+use crate::store::entries::{chosen, lent_for, ROOMS, STORES};
 use crate::store::run::{Run, Sides};
 use crate::texts::each_choice;
-
-/// Whole, cut off by one byte, with two entries swapped, or lent one byte less than is used.
-const STORES: usize = 4;
-
-/// Behind the used bytes: much room, none, as much as the call needs for a text that isn't held, one byte less, one byte more.
-const ROOMS: usize = 5;
 
 /// The time: that of the last cleanups, 300 s later, or earlier.
 const TIMES: [u64; 3] = [LONG, 2 * LONG, 1];
@@ -91,24 +84,9 @@ fn blocks() -> Vec<Vec<u8>> {
 
 /// Compares a call on the store so chosen.
 fn give(run: &mut Run<Pracks>, random: &mut Random, call: &Call, [store, room]: [usize; 2]) {
-    let mut entries = three();
-    let mut damage = records::CUT;
-    if store == 2 {
-        entries.swap(0, 2);
-        damage = SWAPPED;
-    }
-    let bytes = encode(&entries);
-    let used = bytes.len() - usize::from(store == 1);
-    let mut sides = Sides::damaged(random, &bytes[..used], [0, 0], damage);
-    let needed = used + growth(&entries, call);
-    let lent = match (store, room) {
-        (3, _) => used - 1,
-        (_, 0) => needed + 200,
-        (_, 1) => used,
-        (_, 2) => needed,
-        (_, 3) => (needed - 1).max(used),
-        _ => needed + 1,
-    };
+    let (damage, bytes) = chosen(store, three(), encode);
+    let mut sides = Sides::damaged(random, &bytes, [0, 0], damage);
+    let lent = lent_for([store, room], bytes.len(), growth(&three(), call));
     sides.store.grow(random, lent + SPARE);
     run.compare(&mut sides, call, lent);
 }

@@ -4,15 +4,14 @@
 use super::writer::Writer;
 use super::{Key, RECORDER};
 use crate::dialogs::encode;
-use crate::dialogs::image::Parts;
 use crate::prack;
 use crate::random::Random;
 use crate::rseq;
 use crate::store::call::{texts_of, Call};
 use crate::store::dialogs::Dialogs;
+use crate::store::directed;
 use crate::store::lists::{self, List};
 use crate::store::run::Run;
-use sip_core::SipUri;
 use sip_dialog::DialogId;
 use sip_dialog::DialogStateType::{self, Confirmed, Early, Terminated};
 use std::collections::BTreeSet;
@@ -29,29 +28,9 @@ pub fn numbered(image: &[u8], at: usize, digits: usize, number: usize) -> Vec<u8
     image
 }
 
-/// The image of a short record.
-fn image(call_id: &str, local_tag: &str, state: DialogStateType) -> Vec<u8> {
-    let uri = || SipUri::parse("sip:h").expect("readable");
-    let parts = Parts {
-        id: DialogId::unchecked_new(call_id, local_tag, "r"),
-        state,
-        target: uri(),
-        local_uri: uri(),
-        remote_uri: uri(),
-        local: 1,
-        remote: 7,
-        last_ack: None,
-        seconds: Some(90),
-        refresher: None,
-        routes: Vec::new(),
-        is_uac: false,
-    };
-    encode(&parts.dialog())
-}
-
 /// Copies of an image whose local tag is a number of five digits.
 fn copies(many: usize, call_id: &str, state: DialogStateType) -> (usize, Vec<u8>, usize, usize) {
-    let image = image(call_id, "00000", state);
+    let image = encode(&directed::record(&id(call_id, 0), state));
     let at = image.windows(5).position(|window| window == b"00000").expect("digits");
     (many, image, at, 5)
 }
@@ -63,29 +42,14 @@ fn id(call_id: &str, number: usize) -> DialogId {
 
 /// A put of such a record.
 fn put(call_id: &str, number: usize, state: DialogStateType) -> Call {
-    Call::Put(image(call_id, &format!("{number:05}"), state))
+    directed::put(&id(call_id, number), state)
 }
 
-/// A round of each kind on a record, which it leaves Terminated.
+/// A look-up by request, then a round of each kind on a record, which it leaves Terminated.
 fn rounds(id: &DialogId) -> Vec<Call> {
-    let (call_id, from, to) = (id.call_id(), id.remote_tag(), id.local_tag());
-    let block = format!("CSeq:8 A\r\nCall-ID:{call_id}\r\nFrom:;tag={from}\r\nTo:;tag={to}\r\n").into_bytes();
-    let (method, response) = (b"INVITE".to_vec(), Vec::new());
-    vec![
-        Call::FindByRequest(block.clone()),
-        Call::Request { method, block },
-        Call::Response {
-            id: texts_of(id),
-            status: 200,
-            block: response,
-        },
-        Call::Next(texts_of(id)),
-        Call::Set {
-            id: texts_of(id),
-            seconds: 91,
-        },
-        Call::Terminate(texts_of(id)),
-    ]
+    let mut calls = vec![Call::FindByRequest(directed::request(id, 8).block().to_vec())];
+    calls.extend(directed::rounds(id, 1));
+    calls
 }
 
 /// The calls at 10,000 records.

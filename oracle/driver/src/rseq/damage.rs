@@ -4,10 +4,10 @@ use super::book::Book;
 use super::layout::{encode, Entry};
 use crate::dialogs::records;
 use crate::random::Random;
+use crate::store::entries::SWAPPED;
 use crate::store::kind::Damage;
 
 /// The damages that a run of bytes doesn't know.
-pub const SWAPPED: Damage = "two entries swapped";
 const TWICE: Damage = "one identifier twice";
 const ZERO: Damage = "a number 0";
 

@@ -6,7 +6,7 @@ use crate::bounds;
 use crate::dialogs::creation::limit;
 use crate::rules::LONGEST;
 use crate::store::call::Id;
-use crate::store::expect::meet_lent;
+use crate::store::expect::store_read;
 use crate::store::kind::Damage;
 use crate::store::memory::Left;
 
@@ -25,14 +25,7 @@ pub fn expect(book: &mut Result<Book, Damage>, call: &Call, lent: usize, left: &
 /// 1 and 3, then what the Rust says. All used bytes are the Rust's, a refused call's too.
 fn answer(book: &mut Result<Book, Damage>, call: &Call, lent: usize, left: &mut Left) -> Result<Option<u64>, u8> {
     limit(call.name(), &call.texts())?;
-    meet_lent(call.name(), left.store.used, lent);
-    if left.store.used > lent {
-        return Err(3);
-    }
-    let book = book.as_mut().map_err(|damage| {
-        bounds::met(call.name(), "store", damage);
-        3
-    })?;
+    let book = store_read(book, call.name(), left.store.used, lent)?;
     meet_store(book, call);
     let said = take(book, call, lent);
     book.read_back();

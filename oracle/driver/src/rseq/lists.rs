@@ -4,15 +4,12 @@ use super::call::{Call, RSeqs};
 use super::calls::{self, Pool};
 use super::damage::{damaged, each_of_entries};
 use super::layout::{decode, encode, Entry};
-use crate::dialogs::records;
 use crate::random::Random;
 use crate::store::call::Id;
+use crate::store::entries;
 use crate::store::kind::Damage;
 use crate::store::lists::List;
-use crate::store::run::{Run, Sides};
-
-/// The most calls of a random list.
-const LONGEST_LIST: usize = 120;
+use crate::store::run::Run;
 
 /// One random list; one in four begins with a store handed in.
 pub fn list(run: &mut Run<RSeqs>, random: &mut Random) {
@@ -22,19 +19,8 @@ pub fn list(run: &mut Run<RSeqs>, random: &mut Random) {
     } else {
         Vec::new()
     };
-    let mut list = List::new(run, random, &used, [0, 0]);
-    for _ in 0..1 + list.random.below(LONGEST_LIST) {
-        if list.random.one_in(12) {
-            let book = list.sides.book();
-            let damaged = damaged(list.random, book);
-            let call = calls::make(list.random, &pool, book);
-            list.interrupt(&call, damaged);
-        }
-        let call = calls::make(list.random, &pool, list.sides.book());
-        if !list.each(&[call]) {
-            return;
-        }
-    }
+    let list = List::new(run, random, &used, [0, 0]);
+    list.go_through(|random, book| calls::make(random, &pool, book), damaged);
 }
 
 /// An identifier of three texts.
@@ -62,23 +48,15 @@ pub fn three() -> [Entry; 3] {
 /// byte behind it, by two entries swapped, one of them twice, or a number 0.
 pub fn each_broken(run: &mut Run<RSeqs>, random: &mut Random) {
     let entries = three();
-    let mut broken: Vec<(Damage, Vec<u8>)> = Vec::new();
-    records::each_broken(&encode(&entries), &mut |damage, bytes| {
-        broken.push((damage, bytes.to_vec()))
-    });
-    for _ in 0..TIMES {
-        each_of_entries(&entries, random, &mut |damage, bytes| {
-            broken.push((damage, bytes.to_vec()))
-        });
-    }
-    for (turn, (damage, bytes)) in broken.iter().enumerate() {
-        let n = calls::n(random);
-        for call in Call::all(&entries[turn % entries.len()].0, n) {
-            let mut other = Sides::damaged(random, bytes, [0, 0], damage);
-            let lent = random.pick(&[bytes.len(), other.store.size()]);
-            run.compare(&mut other, &call, lent);
+    let damages = |random: &mut Random, give: &mut dyn FnMut(Damage, &[u8])| {
+        for _ in 0..TIMES {
+            each_of_entries(&entries, random, give);
         }
-    }
+    };
+    entries::each_broken(run, random, &encode(&entries), damages, |random, turn| {
+        let n = calls::n(random);
+        Call::all(&entries[turn % entries.len()].0, n).to_vec()
+    });
 }
 
 /// How often each damage to the entries is gone through.

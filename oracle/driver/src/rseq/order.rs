@@ -3,21 +3,14 @@
 
 use super::call::{Call, RSeqs};
 use super::calls::FIRSTS;
-use super::damage::SWAPPED;
 use super::layout::{encode, entry_size};
 use super::lists::three;
-use crate::dialogs::records;
 use crate::random::Random;
 use crate::rules::LONGEST;
 use crate::store::call::Id;
+use crate::store::entries::{chosen, lent_for, ROOMS, STORES};
 use crate::store::run::{Run, Sides};
 use crate::texts::each_choice;
-
-/// Whole, cut off by one byte, with two entries swapped, or lent one byte less than is used.
-const STORES: usize = 4;
-
-/// Behind the used bytes: much room, none, as much as a new entry needs, one byte less, one byte more.
-const ROOMS: usize = 5;
 
 /// Held ones, then one that isn't held, with any part of the longest length or longer by one.
 const IDS: usize = 11;
@@ -48,24 +41,9 @@ fn id(choice: usize) -> Id {
 
 /// Compares a call on the store so chosen.
 fn give(run: &mut Run<RSeqs>, random: &mut Random, call: &Call, id: &Id, [store, room]: [usize; 2]) {
-    let mut entries = three();
-    let mut damage = records::CUT;
-    if store == 2 {
-        entries.swap(0, 2);
-        damage = SWAPPED;
-    }
-    let bytes = encode(&entries);
-    let used = bytes.len() - usize::from(store == 1);
-    let mut sides = Sides::damaged(random, &bytes[..used], [0, 0], damage);
-    let needed = used + entry_size(id);
-    let lent = match (store, room) {
-        (3, _) => used - 1,
-        (_, 0) => needed + 200,
-        (_, 1) => used,
-        (_, 2) => needed,
-        (_, 3) => needed - 1,
-        _ => needed + 1,
-    };
+    let (damage, bytes) = chosen(store, three(), encode);
+    let mut sides = Sides::damaged(random, &bytes, [0, 0], damage);
+    let lent = lent_for([store, room], bytes.len(), entry_size(id));
     sides.store.grow(random, lent + 8);
     run.compare(&mut sides, call, lent);
 }

@@ -2,6 +2,7 @@
 
 use super::call::{Call, Id};
 use super::memory::Left;
+use crate::answer::lent_as;
 use crate::dialogs::room;
 use port::store::{self, Place};
 
@@ -15,12 +16,7 @@ pub fn ask(call: &Call, length: usize, left: &mut Left) {
         Call::Request { method, block } => store::request(method, block, lent),
         Call::Response { id, status, block } => store::response(texts(id), *status, block, lent),
         Call::Terminate(id) => store::terminate(texts(id), lent),
-        Call::Next(id) => {
-            let mut raised = outs[0] as u32;
-            let number = store::next_local_cseq(texts(id), lent, &mut raised);
-            outs[0] = u64::from(raised);
-            number
-        }
+        Call::Next(id) => lent_as(&mut outs[0], |raised| store::next_local_cseq(texts(id), lent, raised)),
         Call::Set { id, seconds } => store::set_session_expires(texts(id), *seconds, lent, &mut outs[0]),
         Call::Remove(id) => store::remove(texts(id), lent, &mut terminated),
         Call::Sweep => store::sweep(lent),
@@ -31,8 +27,8 @@ pub fn ask(call: &Call, length: usize, left: &mut Left) {
         Call::FindByRequest(block) => find(outs, |found| {
             store::find_by_request(block, lent.bytes, *lent.used, found)
         }),
-        Call::Count => size(outs, |count| store::count(lent.bytes, *lent.used, count)),
-        Call::AllIds(_) => size(outs, |length| {
+        Call::Count => lent_as(&mut outs[0], |count| store::count(lent.bytes, *lent.used, count)),
+        Call::AllIds(_) => lent_as(&mut outs[0], |length| {
             store::all_ids(lent.bytes, *lent.used, room::lent(&mut left.output), length)
         }),
     };
@@ -40,7 +36,7 @@ pub fn ask(call: &Call, length: usize, left: &mut Left) {
 }
 
 /// An identifier's texts, lent.
-fn texts(id: &Id) -> store::Id<'_> {
+pub fn texts(id: &Id) -> store::Id<'_> {
     [&id[0], &id[1], &id[2]]
 }
 
@@ -50,13 +46,5 @@ fn find(outs: &mut [u64; 3], ask: impl FnOnce(&mut Place) -> u8) -> u8 {
     let mut found = Place { place, length };
     let number = ask(&mut found);
     [outs[0], outs[1]] = [found.place as u64, found.length as u64];
-    number
-}
-
-/// Lends the first out number as a size.
-fn size(outs: &mut [u64; 3], ask: impl FnOnce(&mut usize) -> u8) -> u8 {
-    let mut size = outs[0] as usize;
-    let number = ask(&mut size);
-    outs[0] = size as u64;
     number
 }

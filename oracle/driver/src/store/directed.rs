@@ -24,7 +24,7 @@ fn id(call_id: &str, number: usize) -> DialogId {
 }
 
 /// A short record.
-fn record(id: &DialogId, state: DialogStateType) -> Dialog {
+pub fn record(id: &DialogId, state: DialogStateType) -> Dialog {
     let uri = || SipUri::parse("sip:h").expect("readable");
     let parts = Parts {
         id: id.clone(),
@@ -44,12 +44,12 @@ fn record(id: &DialogId, state: DialogStateType) -> Dialog {
 }
 
 /// A put of it.
-fn put(id: &DialogId, state: DialogStateType) -> Call {
+pub fn put(id: &DialogId, state: DialogStateType) -> Call {
     Call::Put(encode(&record(id, state)))
 }
 
 /// A request that names a record and is above its remote number.
-fn request(id: &DialogId, number: usize) -> Call {
+pub fn request(id: &DialogId, number: usize) -> Call {
     let (call_id, from, to) = (id.call_id(), id.remote_tag(), id.local_tag());
     let block = format!("CSeq:{number} A\r\nCall-ID:{call_id}\r\nFrom:;tag={from}\r\nTo:;tag={to}\r\n");
     Call::Request {
@@ -123,7 +123,7 @@ fn full(list: &mut List<Dialogs>, held: &DialogId, turn: usize) -> bool {
 }
 
 /// A round of each kind on a record, which it leaves Terminated.
-fn rounds(held: &DialogId, turn: usize) -> [Call; 5] {
+pub fn rounds(held: &DialogId, turn: usize) -> [Call; 5] {
     [
         request(held, 8),
         response(held, 200),

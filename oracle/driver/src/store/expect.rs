@@ -24,14 +24,7 @@ pub fn expect(book: &mut Result<Book, Damage>, call: &Call, lent: usize, left: &
 fn answer(book: &mut Result<Book, Damage>, call: &Call, lent: usize, left: &mut Left) -> Result<(), u8> {
     limit(call.name(), &call.texts())?;
     let headers = rules::headers(call.block())?;
-    meet_lent(call.name(), left.store.used, lent);
-    if left.store.used > lent {
-        return Err(3);
-    }
-    let book = book.as_mut().map_err(|damage| {
-        bounds::met(call.name(), "store", damage);
-        3
-    })?;
+    let book = store_read(book, call.name(), left.store.used, lent)?;
     meet_records(call.name(), book.order.len());
     let said = take(book, call, &headers, lent, left);
     book.read_back();
@@ -55,8 +48,25 @@ fn meet_records(operation: &'static str, records: usize) {
     }
 }
 
+/// The book of a store that is lent so many bytes; 3 where its used length is over them, or its bytes aren't a store.
+pub fn store_read<'a, B>(
+    book: &'a mut Result<B, Damage>,
+    operation: &'static str,
+    used: usize,
+    lent: usize,
+) -> Result<&'a mut B, u8> {
+    meet_lent(operation, used, lent);
+    if used > lent {
+        return Err(3);
+    }
+    book.as_mut().map_err(|damage| {
+        bounds::met(operation, "store", damage);
+        3
+    })
+}
+
 /// Says how the used length compares with the lent one.
-pub fn meet_lent(operation: &'static str, used: usize, lent: usize) {
+fn meet_lent(operation: &'static str, used: usize, lent: usize) {
     bounds::number(operation, "lent bytes", lent);
     match used as i128 - lent as i128 {
         0 => bounds::met(operation, "used bytes", "as many as lent"),

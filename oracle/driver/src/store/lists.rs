@@ -50,6 +50,26 @@ impl<'a, K: Kind> List<'a, K> {
         })
     }
 
+    /// So many random calls, until the port differs; one time in twelve a call on damaged bytes comes before.
+    pub fn go_through(
+        mut self,
+        make: impl Fn(&mut Random, &K::Book) -> K::Call,
+        damaged: impl Fn(&mut Random, &K::Book) -> (Damage, Vec<u8>),
+    ) {
+        for _ in 0..1 + self.random.below(LONGEST_LIST) {
+            if self.random.one_in(12) {
+                let book = self.sides.book();
+                let damaged = damaged(self.random, book);
+                let call = make(self.random, book);
+                self.interrupt(&call, damaged);
+            }
+            let call = make(self.random, self.sides.book());
+            if !self.each(&[call]) {
+                return;
+            }
+        }
+    }
+
     /// A call on damaged bytes in between. Where they are a store still, it is one handed in.
     pub fn interrupt(&mut self, call: &K::Call, (damage, bytes): (Damage, Vec<u8>)) {
         let random = &mut *self.random;
@@ -79,19 +99,8 @@ pub fn roomy<K: Kind>(random: &mut Random, sides: &Sides<K>, call: &K::Call) -> 
 pub fn list(run: &mut Run<Dialogs>, random: &mut Random) {
     let counts = counts(random);
     let pool = Pool::new(random);
-    let mut list = List::new(run, random, &[], counts);
-    for _ in 0..1 + list.random.below(LONGEST_LIST) {
-        if list.random.one_in(12) {
-            let book = list.sides.book();
-            let damaged = damaged(list.random, book);
-            let call = calls::make(list.random, &pool, book);
-            list.interrupt(&call, damaged);
-        }
-        let call = calls::make(list.random, &pool, list.sides.book());
-        if !list.each(&[call]) {
-            return;
-        }
-    }
+    let list = List::new(run, random, &[], counts);
+    list.go_through(|random, book| calls::make(random, &pool, book), damaged);
 }
 
 /// The counts at the start of a list: mostly none, at times so large that they stop.

@@ -1,14 +1,15 @@
 //! Lists of calls on a store of records, compared with the Rust's `DialogManager`: after every call its number, every out
 //! number, every byte of the store's memory, and the two counts.
 
-mod ask;
+pub mod ask;
 pub mod book;
 pub mod call;
 pub mod calls;
 mod damage;
 pub mod describe;
 pub mod dialogs;
-mod directed;
+pub mod directed;
+pub mod entries;
 pub mod expect;
 mod faults;
 pub mod given;

@@ -8,8 +8,9 @@ use lib.Seq.{length-take-le}
 use Rattle.limits.specs.Limits.{rustLimits}
 use Rattle.limits.proofs.Laws.{passed, stopped}
 use Rattle.record.proofs.CodecLaws.{Bytes, bytes-all}
-use Rattle.book.specs.Calls.{ident, Reading}
-use Rattle.book.specs.Book.{identCause, readingCause}
+use Rattle.dialog_id.specs.Ident.{ident, identCause}
+use Rattle.book.specs.Calls.{Reading}
+use Rattle.book.specs.Book.{readingCause}
 use Rattle.dialog_manager.specs.Lookups.{getting, answerIn}
 use Rattle.dialog_manager.proofs.LookupLaws.{Kept, kept, stored, arguments-refuse, store-refuses, replies, get-cause, get-reply}
 use native.Mathlib.Omega.{arith}
@@ -18,7 +19,6 @@ use Rattle.dialog_manager.proofs.lookups.get.Statement.{statement}
 use Rattle.dialog_manager.proofs.lookups.get.Tie as tie
 use Rattle.dialog_manager.proofs.lookups.get.Reads as reads
 use Rattle.dialog_manager.proofs.lookups.get.Lts as lts
-use Rattle.dialog_manager.proofs.lookups.check_identifier.Reads as check-identifier-reads
 use Rattle.dialog_manager.proofs.placing.place_of.Reads as place-of-reads
 use Rattle.store.proofs.count.Reads as count-reads
 
@@ -40,7 +40,7 @@ clear : (c : tie.After-enum-told) → readingCause rustLimits (q (c .before .bef
 clear c =
     let a = start (c .before .before .before) .args in
     get-cause rustLimits (a .call-id .now) (a .local-tag .now) (a .remote-tag .now)
-    ∙ passed (identCause rustLimits (ident (a .call-id .now) (a .local-tag .now) (a .remote-tag .now))) (sym (c .before .before .check-identifier .ensures) ∙ c .enum-told .given .1)
+    ∙ passed (identCause rustLimits (ident (a .call-id .now) (a .local-tag .now) (a .remote-tag .now))) (sym (c .before .before .check-lengths .ensures) ∙ c .enum-told .given .1)
 
 -- the store was read
 abbrev began : tie.After-enum-told2 → tie.After-shared-slice-known4
@@ -49,8 +49,8 @@ began c = c .before .before .before .before .before .before
 store : (c : tie.After-enum-told2) → Kept (s (began c)) (start (began c) .args .used)
 store c = kept (s (began c)) (start (began c) .args .used) (sym (c .before .before .count .ensures) ∙ c .enum-told2 .given .1)
 
-check-identifier-requires : tie.Need-check-identifier-requires
-check-identifier-requires c κs = search needs
+check-lengths-requires : tie.Need-check-lengths-requires
+check-lengths-requires c κs = search needs
 
 enum-known-x : tie.Need-enum-known-x
 enum-known-x c = search needs
@@ -60,7 +60,7 @@ returns c =
     let k = c .before .before .before .before in
     let a = start k .args in
     arguments-refuse rustLimits (length (s k)) (q k) (s k) (a .used) (known k)
-    (get-cause rustLimits (a .call-id .now) (a .local-tag .now) (a .remote-tag .now) ∙ stopped (identCause rustLimits (ident (a .call-id .now) (a .local-tag .now) (a .remote-tag .now))) (sym (c .before .before .before .check-identifier .ensures) ∙ c .before .x .given .1))
+    (get-cause rustLimits (a .call-id .now) (a .local-tag .now) (a .remote-tag .now) ∙ stopped (identCause rustLimits (ident (a .call-id .now) (a .local-tag .now) (a .remote-tag .now))) (sym (c .before .before .before .check-lengths .ensures) ∙ c .before .x .given .1))
 
 enum-told : tie.Need-enum-told
 enum-told c = search needs
@@ -97,7 +97,7 @@ pub get-spec : {M : Type 1} → statement M
 get-spec =
     tie.close
     (tie.spec
-    check-identifier-requires
+    check-lengths-requires
     enum-known-x
     returns
     enum-told

@@ -9,7 +9,7 @@ use Rattle.record.proofs.CodecLaws.{Bytes}
 use Rattle.distinct.specs.Keys.{keyAt}
 use Rattle.record.proofs.CodecLaws.{bytes-all}
 use Rattle.distinct.proofs.Images.{map-here, key-long}
-use Rattle.distinct.proofs.Compares.{flags-less, flags-greater, by-bytes}
+use Rattle.distinct.proofs.Compares.{flags-less, flags-more, by-bytes}
 use Rattle.distinct.proofs.keys.compare.Statement.{statement}
 use Rattle.distinct.proofs.keys.compare.Tie as tie
 
@@ -49,7 +49,7 @@ returns-2 : tie.Need-returns-2
 returns-2 c =
     let d = c .before .before .before .before in
     let a = d .before .args in
-    sym (flags-greater (s d) (a .p) (a .q) (known d) (d .before .pre .0) (d .before .pre .1) _ _ (c .before .before .before .flags .ensures) (c .before .before .flags2 .ensures) (c .if2 .taken))
+    sym (flags-more (s d) (a .p) (a .q) (known d) (d .before .pre .0) (d .before .pre .1) _ _ (c .before .before .before .flags .ensures) (c .before .before .flags2 .ensures) (c .if2 .taken))
 
 add-a : tie.Need-add-a
 add-a c = omega (arith, p-here (c .before .before .before .before))
@@ -63,33 +63,33 @@ add-b c = omega (arith, q-here (c .before .before .before .before .before))
 ids-end-requires-2 : tie.Need-ids-end-requires-2
 ids-end-requires-2 c κs = search needs
 
-sub-compare-bytes : tie.Need-sub-compare-bytes
-sub-compare-bytes c = omega (arith, p-long (c .before .before .before .before .before .before), c .before .ids-end .ensures .0)
+sub-compare : tie.Need-sub-compare
+sub-compare c = omega (arith, p-long (c .before .before .before .before .before .before), c .before .ids-end .ensures .0)
 
-part-compare-bytes-start : tie.Need-part-compare-bytes-start
-part-compare-bytes-start c = omega (arith, p-long (c .before .before .before .before .before .before), c .before .ids-end .ensures .0)
+part-compare-start : tie.Need-part-compare-start
+part-compare-start c = omega (arith, p-long (c .before .before .before .before .before .before), c .before .ids-end .ensures .0)
 
-part-compare-bytes-end : tie.Need-part-compare-bytes-end
-part-compare-bytes-end c = search needs
+part-compare-end : tie.Need-part-compare-end
+part-compare-end c = search needs
 
-sub-compare-bytes-2 : tie.Need-sub-compare-bytes-2
-sub-compare-bytes-2 c = omega (arith, q-long (c .before .before .before .before .before .before .before), c .before .ids-end2 .ensures .0)
+sub-compare-2 : tie.Need-sub-compare-2
+sub-compare-2 c = omega (arith, q-long (c .before .before .before .before .before .before .before), c .before .ids-end2 .ensures .0)
 
-part-compare-bytes-start-2 : tie.Need-part-compare-bytes-start-2
-part-compare-bytes-start-2 c = omega (arith, q-long (c .before .before .before .before .before .before .before), c .before .ids-end2 .ensures .0)
+part-compare-start-2 : tie.Need-part-compare-start-2
+part-compare-start-2 c = omega (arith, q-long (c .before .before .before .before .before .before .before), c .before .ids-end2 .ensures .0)
 
-part-compare-bytes-end-2 : tie.Need-part-compare-bytes-end-2
-part-compare-bytes-end-2 c = search needs
+part-compare-end-2 : tie.Need-part-compare-end-2
+part-compare-end-2 c = search needs
 
-compare-bytes-requires : tie.Need-compare-bytes-requires
-compare-bytes-requires c κs = search needs
+compare-requires : tie.Need-compare-requires
+compare-requires c κs = search needs
 
 returns-3 : tie.Need-returns-3
 returns-3 c =
     let e = c .before .before .before in
     let d = e .before .before .before .before .before .before in
     let a = d .before .args in
-    c .compare-bytes .ensures
+    c .compare .ensures
     ∙ sym (by-bytes (s d) (a .p) (a .q) (known d) (d .before .pre .0) (d .before .pre .1) _ _ (e .before .before .before .before .before .flags .ensures) (e .before .before .before .before .flags2 .ensures) (e .before .before .before .if1 .left) (e .before .before .if2 .left) _ _ (e .before .ids-end .ensures .0) (e .ids-end2 .ensures .0))
 
 pub compare-spec : {M : Type 1} → statement M
@@ -104,11 +104,11 @@ compare-spec =
     ids-end-requires
     add-b
     ids-end-requires-2
-    sub-compare-bytes
-    part-compare-bytes-start
-    part-compare-bytes-end
-    sub-compare-bytes-2
-    part-compare-bytes-start-2
-    part-compare-bytes-end-2
-    compare-bytes-requires
+    sub-compare
+    part-compare-start
+    part-compare-end
+    sub-compare-2
+    part-compare-start-2
+    part-compare-end-2
+    compare-requires
     returns-3)

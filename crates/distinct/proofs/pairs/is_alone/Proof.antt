@@ -7,7 +7,7 @@ use lib.ListN.{length}
 use borrow.Author.Needs.{needs}
 use Rattle.record.proofs.CodecLaws.{Bytes}
 use Rattle.distinct.specs.Pairs.{WholeFrom, aloneFrom}
-use Rattle.distinct.specs.declared.keys.Order.the-variants.{Equal}
+use Rattle.ordered_store.specs.declared.Order.the-variants.{Same}
 use Rattle.record.proofs.CodecLaws.{bytes-all}
 use Rattle.distinct.proofs.Alones.{Step, step, step-whole, alone-end, alone-met, alone-next}
 use Rattle.distinct.proofs.pairs.is_alone.Statement.{statement}
@@ -51,7 +51,7 @@ loop-less c =
     omega (arith, c .record-end .ensures, n .next .moves, n .next .within)
 
 -- the keys differ
-differ : (c : tie.At-match-keys2 Inv-loop μ-loop) → c .before .compare .result ≡ Equal → ⊥
+differ : (c : tie.At-match-keys2 Inv-loop μ-loop) → c .before .compare .result ≡ Same → ⊥
 differ c e =
     let k = c .match .keys2 in
     ⊎-elim (λ w. omega arith) (λ w. omega arith) (rw e at k)

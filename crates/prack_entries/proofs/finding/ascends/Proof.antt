@@ -1,6 +1,8 @@
 -- `finding::ascends` meets its contract: the order of two texts is that of their keys. Assumes nothing.
-use Rattle.prack_entries.specs.Places.{partIn}
-use Rattle.prack_entries.proofs.SearchLaws.{told-before}
+use mathlib.Core.Path.{ap}
+use Rattle.text.specs.Spans.{partIn}
+use Rattle.ordered_store.proofs.KeyLaws.{told-last, is-before}
+use Rattle.prack_entries.specs.Entries.{keyOfText}
 use borrow.Author.Needs.{needs}
 use Rattle.prack_entries.proofs.finding.ascends.Statement.{statement}
 use Rattle.prack_entries.proofs.finding.ascends.Tie as tie
@@ -26,17 +28,17 @@ enum-told-3 c = search needs
 returns : tie.Need-returns
 returns c =
     let a = c .before .before .before .before .before .before .args in
-    told-before (partIn (a .bytes .now) (a .t .id)) (partIn (a .bytes .now) (a .u .id)) (c .before .before .before .before .part .ensures) (c .before .before .before .part2 .ensures) (c .before .before .compare .ensures) (c .enum-told .given .1)
+    is-before (keyOfText (partIn (a .bytes .now) (a .t .id))) (ap keyOfText (c .before .before .before .part2 .ensures)) (told-last _ (c .before .before .before .before .part .ensures) (c .before .before .compare .ensures)) (c .enum-told .given .1)
 
 returns-2 : tie.Need-returns-2
 returns-2 c =
     let a = c .before .before .before .before .before .before .args in
-    told-before (partIn (a .bytes .now) (a .t .id)) (partIn (a .bytes .now) (a .u .id)) (c .before .before .before .before .part .ensures) (c .before .before .before .part2 .ensures) (c .before .before .compare .ensures) (c .enum-told2 .given .1)
+    is-before (keyOfText (partIn (a .bytes .now) (a .t .id))) (ap keyOfText (c .before .before .before .part2 .ensures)) (told-last _ (c .before .before .before .before .part .ensures) (c .before .before .compare .ensures)) (c .enum-told2 .given .1)
 
 returns-3 : tie.Need-returns-3
 returns-3 c =
     let a = c .before .before .before .before .before .before .args in
-    told-before (partIn (a .bytes .now) (a .t .id)) (partIn (a .bytes .now) (a .u .id)) (c .before .before .before .before .part .ensures) (c .before .before .before .part2 .ensures) (c .before .before .compare .ensures) (c .enum-told3 .given .1)
+    is-before (keyOfText (partIn (a .bytes .now) (a .t .id))) (ap keyOfText (c .before .before .before .part2 .ensures)) (told-last _ (c .before .before .before .before .part .ensures) (c .before .before .compare .ensures)) (c .enum-told3 .given .1)
 
 pub ascends-spec : {M : Type 1} → statement M
 ascends-spec =

@@ -2,18 +2,19 @@
 use Prim.Native.Nat.{ℕ, _-_}
 use mathlib.Core.Path.{sym, _∙_}
 use mathlib.Core.List.{List}
-use lib.ListN.{length, drop}
+use lib.ListN.{length}
 use borrow.Author.Tests.{not-true, not-false}
 use Rattle.record.proofs.CodecLaws.{Bytes, bytes-all}
-use Rattle.prack_entries.proofs.PlaceLaws.{form, Got, got, not-got}
-use Rattle.prack_entries.proofs.CountLaws.{Counting, nothing, first-broken, start, all-counted, next-broken, out-of-order, counted}
+use Rattle.ordered_store.proofs.PlaceLaws.{Got, got}
+use Rattle.ordered_store.proofs.CountLaws.{Counting, nothing, first-broken, start, all-counted, next-broken, out-of-order, counted}
+use Rattle.prack_entries.proofs.PlaceLaws.{layout}
 use native.Mathlib.Omega.{arith}
 use borrow.Author.Needs.{needs}
 use Rattle.prack_entries.proofs.finding.count_entries.Statement.{statement}
 use Rattle.prack_entries.proofs.finding.count_entries.Tie as tie
 
 abbrev Inv-loop : tie.InvT-loop
-Inv-loop bytes last₀ n₀ last n = Counting bytes last n
+Inv-loop bytes last₀ n₀ last n = Counting layout bytes last n
 
 abbrev μ-loop : tie.MeasureT-loop
 μ-loop bytes last₀ n₀ last n = length bytes - last .end
@@ -30,14 +31,14 @@ abbrev top : tie.Then2 Inv-loop μ-loop → tie.After-shared-slice-known Inv-loo
 top c = c .before .before .before .before .before .before .before .before
 
 -- what is read in a turn
-next : (c : tie.After-known-told2 Inv-loop μ-loop) → Got (s (top (c .before .before .before .before))) (c .before .before .before .before .before .before .loop .last .end) (c .before .t .given .0 .0)
+next : (c : tie.After-known-told2 Inv-loop μ-loop) → Got layout (s (top (c .before .before .before .before))) (c .before .before .before .before .before .before .loop .last .end) (c .before .t .given .0 .0)
 next c =
     let t = c .before .before .before .before in
     let l = t .before .before .loop in
-    got (s (top t)) (l .last .end) (known (top t)) (l .inv .is .within) (sym (c .before .before .before .read-tracked2 .ensures) ∙ c .before .t .given .1)
+    got layout (s (top t)) (l .last .end) (known (top t)) (sym (c .before .before .before .read-tracked2 .ensures) ∙ c .before .t .given .1)
 
 returns : tie.Need-returns Inv-loop μ-loop
-returns c = nothing (s (c .before)) (c .if1 .taken)
+returns c = nothing layout (s (c .before)) (c .if1 .taken)
 
 read-tracked-requires : tie.Need-read-tracked-requires Inv-loop μ-loop
 read-tracked-requires c κs = search needs
@@ -51,12 +52,12 @@ enum-told c = search needs
 returns-2 : tie.Need-returns-2 Inv-loop μ-loop
 returns-2 c =
     let t = c .before .before .before .before in
-    first-broken (s t) (omega (arith, c .before .before .before .if1 .left)) (not-got 0 (form .read (drop 0 (s t))) (sym (c .before .before .read-tracked .ensures) ∙ c .enum-told .given .1))
+    first-broken layout (s t) (omega (arith, c .before .before .before .if1 .left)) (sym (c .before .before .read-tracked .ensures) ∙ c .enum-told .given .1)
 
 loop-holds : tie.Need-loop-holds Inv-loop μ-loop
 loop-holds c =
     let t = c .before .before .before .before .before in
-    start (s t) (omega (arith, c .before .before .before .before .if1 .left)) (got (s t) 0 (known t) (omega arith) (sym (c .before .before .before .read-tracked .ensures) ∙ c .before .first .given .1))
+    start layout (s t) (omega (arith, c .before .before .before .before .if1 .left)) (got layout (s t) 0 (known t) (sym (c .before .before .before .read-tracked .ensures) ∙ c .before .first .given .1))
 
 read-tracked-requires-2 : tie.Need-read-tracked-requires-2 Inv-loop μ-loop
 read-tracked-requires-2 c κs = c .before .before .loop .inv .is .within
@@ -71,7 +72,7 @@ returns-3 : tie.Need-returns-3 Inv-loop μ-loop
 returns-3 c =
     let t = c .before .before .before in
     let l = t .before .before .loop in
-    next-broken (s (top t)) (l .last) (l .n) (l .inv) (t .if2 .taken) (not-got (l .last .end) (form .read (drop (l .last .end) (s (top t)))) (sym (c .before .before .read-tracked2 .ensures) ∙ c .enum-told2 .given .1))
+    next-broken layout (s (top t)) (l .last) (l .n) (l .inv) (t .if2 .taken) (sym (c .before .before .read-tracked2 .ensures) ∙ c .enum-told2 .given .1)
 
 ascends-requires : tie.Need-ascends-requires Inv-loop μ-loop
 ascends-requires c κs = (c .before .before .before .before .before .before .loop .inv .is .inside, next c .is .inside)
@@ -81,7 +82,7 @@ returns-4 c =
     let n = c .before .before in
     let t = n .before .before .before .before in
     let l = t .before .before .loop in
-    out-of-order (s (top t)) (l .last) (l .n) (l .inv) (t .if2 .taken) (next n) (c .before .ascends .ensures) (not-true _ (c .if3 .taken))
+    out-of-order layout (s (top t)) (l .last) (l .n) (l .inv) (t .if2 .taken) (next n) (c .before .ascends .ensures) (not-true _ (c .if3 .taken))
 
 add-n : tie.Need-add-n Inv-loop μ-loop
 add-n c =
@@ -101,12 +102,12 @@ loop-again c =
     let n = c .before .before in
     let t = n .before .before .before .before in
     let l = t .before .before .loop in
-    counted (s (top t)) (l .last) (l .n) (l .inv) (t .if2 .taken) (next n) (c .before .ascends .ensures) (not-false _ (c .if3 .left))
+    counted layout (s (top t)) (l .last) (l .n) (l .inv) (t .if2 .taken) (next n) (c .before .ascends .ensures) (not-false _ (c .if3 .left))
 
 returns-5 : tie.Need-returns-5 Inv-loop μ-loop
 returns-5 c =
     let l = c .before .before .loop in
-    all-counted (c .before .before .before .before .before .before .before .before .before .args .bytes .now) (l .last) (l .n) (l .inv) (c .if2 .left)
+    all-counted layout (c .before .before .before .before .before .before .before .before .before .args .bytes .now) (l .last) (l .n) (l .inv) (c .if2 .left)
 
 pub count-entries-spec : {M : Type 1} → statement M
 count-entries-spec =

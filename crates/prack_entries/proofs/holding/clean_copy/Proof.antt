@@ -7,8 +7,8 @@ use Rattle.record.proofs.CodecLaws.{Bytes, bytes-all}
 use Rattle.prack_body.specs.declared.TrackedAt.{TrackedAt}
 use Rattle.prack_body.proofs.BodyLaws.{holds-size}
 use Rattle.prack_entries.specs.Places.{Sought}
-use Rattle.prack_entries.specs.declared.finding.Seat.the-variants as seats
-use Rattle.prack_entries.proofs.SeatLaws.{Found, found, broken-not}
+use Rattle.prack_entries.specs.declared.finding.Slot.the-variants as slots
+use Rattle.prack_entries.proofs.SlotLaws.{Found, found, broken-not}
 use Rattle.prack_entries.proofs.HoldLaws.{renamed, copied, begun}
 use native.Mathlib.Omega.{arith}
 use borrow.Author.Needs.{needs}
@@ -30,20 +30,20 @@ abbrev top : tie.After-known-told → tie.After-slice-known
 top c = c .before .before .before
 
 abbrev P : tie.After-known-told → TrackedAt
-P c = c .before .seat .given .0 .0
+P c = c .before .slot .given .0 .0
 
--- a text of which it is the seat, and what is known of it
+-- a text of which it is the slot, and what is known of it
 abbrev I : tie.After-known-told → List ℕ
 I c = top c .before .before .pre .1 .0
 
-abbrev S : (c : tie.After-known-told) → Sought (I c) (s (top c)) (used (top c)) (seats.Held (P c))
-S c = renamed (top c .before .before .pre .1 .1) (c .before .seat .given .1)
+abbrev S : (c : tie.After-known-told) → Sought (I c) (s (top c)) (used (top c)) (slots.Held (P c))
+S c = renamed (top c .before .before .pre .1 .1) (c .before .slot .given .1)
 
 F : (c : tie.After-known-told) → Found (I c) (s (top c)) (used (top c)) (P c) (S c .list)
 F c = found (I c) (s (top c)) (used (top c)) (P c) (known (top c)) (S c)
 
-enum-known-seat : tie.Need-enum-known-seat
-enum-known-seat c = search needs
+enum-known-slot : tie.Need-enum-known-slot
+enum-known-slot c = search needs
 
 slice-aggregate-load : tie.Need-slice-aggregate-load
 slice-aggregate-load c = let d = c .before in sym (length-take-le (used (top d)) (s (top d)) (S d .within))
@@ -80,7 +80,7 @@ returns c =
     let d = l .before .before .before in
     let t = top d in
     let a = t .before .before .args in
-    let k = copied (s t) (used t) (a .time) (known t) (d .before .seat .given .1) (l .load .ensures .1) (c .before .before .clean .ensures) in
+    let k = copied (s t) (used t) (a .time) (known t) (d .before .slot .given .1) (l .load .ensures .1) (c .before .before .clean .ensures) in
     (holds-size (k (I d) (t .before .before .pre .1 .1)), λ id w h. k id w)
 
 same-length-2 : tie.Need-same-length-2
@@ -106,7 +106,7 @@ pub clean-copy-spec : {M : Type 1} → statement M
 clean-copy-spec =
     tie.close
     (tie.spec
-    enum-known-seat
+    enum-known-slot
     slice-aggregate-load
     load-requires
     clean-requires

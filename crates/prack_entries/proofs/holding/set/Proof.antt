@@ -4,8 +4,8 @@ use mathlib.Core.List.{List}
 use Rattle.record.proofs.CodecLaws.{Bytes, bytes-all}
 use Rattle.prack_body.specs.declared.TrackedAt.{TrackedAt}
 use Rattle.prack_entries.specs.Places.{Sought}
-use Rattle.prack_entries.specs.declared.finding.Seat.the-variants as seats
-use Rattle.prack_entries.proofs.SeatLaws.{Found, found, lacking, broken-not}
+use Rattle.prack_entries.specs.declared.finding.Slot.the-variants as slots
+use Rattle.prack_entries.proofs.SlotLaws.{Found, found, lacking, broken-not}
 use Rattle.prack_entries.proofs.WriteLaws.{no-room, replaced}
 use Rattle.prack_entries.proofs.HoldLaws.{renamed, by-held, by-free}
 use native.Mathlib.Omega.{arith}
@@ -34,10 +34,10 @@ abbrev top : tie.After-known-told → tie.After-slice-known
 top c = c .before .before .before
 
 abbrev P : tie.After-known-told → TrackedAt
-P c = c .before .seat .given .0 .0
+P c = c .before .slot .given .0 .0
 
-abbrev S : (c : tie.After-known-told) → Sought (i (top c)) (s (top c)) (used (top c)) (seats.Held (P c))
-S c = renamed (top c .before .before .before .pre .1 .1) (c .before .seat .given .1)
+abbrev S : (c : tie.After-known-told) → Sought (i (top c)) (s (top c)) (used (top c)) (slots.Held (P c))
+S c = renamed (top c .before .before .before .pre .1 .1) (c .before .slot .given .1)
 
 F : (c : tie.After-known-told) → Found (i (top c)) (s (top c)) (used (top c)) (P c) (S c .list)
 F c = found (i (top c)) (s (top c)) (used (top c)) (P c) (known (top c)) (S c)
@@ -52,8 +52,8 @@ old c = P c .end - from c
 inside : (c : tie.After-known-told) → from c + old c ≤ used (top c)
 inside c = omega (arith, F c .text-inside, F c .end-within)
 
-enum-known-seat : tie.Need-enum-known-seat
-enum-known-seat c = search needs
+enum-known-slot : tie.Need-enum-known-slot
+enum-known-slot c = search needs
 
 add-from : tie.Need-add-from
 add-from c =
@@ -73,7 +73,7 @@ returns : tie.Need-returns
 returns c =
     let d = c .before .before .before in
     let t = top d in
-    let k = by-held (i t) (s t) (body t) (used t) (known t) (d .before .seat .given .1) (no-room (s t) (body t) (used t) (from d) (old d) (inside d) (S d .within) (c .if1 .taken)) in
+    let k = by-held (i t) (s t) (body t) (used t) (known t) (d .before .slot .given .1) (no-room (s t) (body t) (used t) (from d) (old d) (inside d) (S d .within) (c .if1 .taken)) in
     (λ w x e f. k w x e f .0, λ w x e f. k w x e f .1)
 
 replace-requires : tie.Need-replace-requires
@@ -81,16 +81,16 @@ replace-requires c κs =
     let d = c .before .before .before .before in
     (omega (arith, inside d), S d .within, omega (arith, inside d, S d .within, c .before .if1 .left))
 
-enum-known-seat-2 : tie.Need-enum-known-seat-2
-enum-known-seat-2 c = search needs
+enum-known-slot-2 : tie.Need-enum-known-slot-2
+enum-known-slot-2 c = search needs
 
 insert-requires : tie.Need-insert-requires
 insert-requires c κs =
     let d = c .before in
     let t = d .before .before .before in
     let e = t .before .before .before in
-    let w = renamed (e .pre .1 .1) (d .before .seat2 .given .1) in
-    ((e .pre .0, e .pre .1 .0), (lacking (i t) (s t) (used t) (d .before .seat2 .given .0 .0) (known t) w .1 .1, w .within))
+    let w = renamed (e .pre .1 .1) (d .before .slot2 .given .1) in
+    ((e .pre .0, e .pre .1 .0), (lacking (i t) (s t) (used t) (d .before .slot2 .given .0 .0) (known t) w .1 .1, w .within))
 
 enum-told : tie.Need-enum-told
 enum-told c = search needs
@@ -103,7 +103,7 @@ returns-2 c =
     let r = c .before .before in
     let d = r .before .before .before .before .before in
     let t = top d in
-    let k = by-held (i t) (s t) (body t) (used t) (known t) (d .before .seat .given .1) (replaced (s t) (body t) (used t) (from d) (old d) (inside d) (S d .within) (r .before .before .if1 .left) (r .replace .ensures .0) (r .replace .ensures .1)) in
+    let k = by-held (i t) (s t) (body t) (used t) (known t) (d .before .slot .given .1) (replaced (s t) (body t) (used t) (from d) (old d) (inside d) (S d .within) (r .before .before .if1 .left) (r .replace .ensures .0) (r .replace .ensures .1)) in
     (λ w x e f. k w x e f .0, λ w x e f. k w x e f .1)
 
 same-length-2 : tie.Need-same-length-2
@@ -114,7 +114,7 @@ returns-3 c =
     let r = c .before .before in
     let d = r .before .before in
     let t = d .before .before .before in
-    let k = by-free (i t) (s t) (body t) (used t) (known t) (d .before .seat2 .given .1) (r .insert .ensures) in
+    let k = by-free (i t) (s t) (body t) (used t) (known t) (d .before .slot2 .given .1) (r .insert .ensures) in
     (λ w x e f. k w x e f .0, λ w x e f. k w x e f .1)
 
 returns-4 : tie.Need-returns-4
@@ -126,14 +126,14 @@ pub set-spec : {M : Type 1} → statement M
 set-spec =
     tie.close
     (tie.spec
-    enum-known-seat
+    enum-known-slot
     add-from
     sub-old
     sub-if1
     sub-if1-2
     returns
     replace-requires
-    enum-known-seat-2
+    enum-known-slot-2
     insert-requires
     enum-told
     same-length

@@ -1,6 +1,7 @@
 -- `finding::ascends` meets its contract. Assumes nothing.
+use Rattle.ordered_store.proofs.KeyLaws.{is-before}
 use Rattle.rseq_entries.specs.Places.{keyAt}
-use Rattle.rseq_entries.proofs.KeyLaws.{same-key, is-before}
+use Rattle.rseq_entries.proofs.PlaceLaws.{same-key}
 use borrow.Author.Needs.{needs}
 use Rattle.rseq_entries.proofs.finding.ascends.Statement.{statement}
 use Rattle.rseq_entries.proofs.finding.ascends.Tie as tie

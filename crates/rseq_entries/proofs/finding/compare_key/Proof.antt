@@ -1,7 +1,7 @@
 -- `finding::compare_key` meets its contract: the first text that differs decides. Assumes nothing.
 use mathlib.Core.List.{[], _∷_}
-use Rattle.rseq_entries.specs.Places.{partIn}
-use Rattle.rseq_entries.proofs.KeyLaws.{told-before, told-same, told-after}
+use Rattle.text.specs.Spans.{partIn}
+use Rattle.ordered_store.proofs.KeyLaws.{told-before, told-same, told-after}
 use borrow.Author.Needs.{needs}
 use Rattle.rseq_entries.proofs.finding.compare_key.Statement.{statement}
 use Rattle.rseq_entries.proofs.finding.compare_key.Tie as tie

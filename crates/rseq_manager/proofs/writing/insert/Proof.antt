@@ -1,6 +1,7 @@
 -- `writing::insert` meets its contract: the tail moved, and the entry written before it. Assumes nothing.
 use mathlib.Core.Path.{sym}
-use Rattle.rseq_entries.specs.Entries.{ident, entryForm}
+use Rattle.dialog_id.specs.Ident.{ident}
+use Rattle.rseq_entries.specs.Entries.{entryForm}
 use Rattle.rseq_manager.specs.RSeq.{numbered}
 use Rattle.rseq_entries.proofs.FormLaws.{entry-size}
 use Rattle.rseq_manager.proofs.WriteLaws.{no-room, inserted}

@@ -1,5 +1,5 @@
 -- `writing::write_entry` meets its contract: the three texts one after another, then the number. Assumes nothing.
-use Rattle.rseq_entries.specs.Entries.{ident}
+use Rattle.dialog_id.specs.Ident.{ident}
 use Rattle.rseq_manager.specs.RSeq.{numbered}
 use Rattle.rseq_entries.proofs.FormLaws.{entry-size}
 use Rattle.rseq_manager.proofs.WriteLaws.{wrote-entry}

@@ -1,7 +1,7 @@
 -- `sip_dialog_rseq_current` meets its contract: what is handed over is what `ran` leaves. Assumes nothing.
 use mathlib.Core.Path.{ap, _∙_}
 use Rattle.limits.specs.Limits.{rustLimits}
-use Rattle.rseq_entries.specs.Entries.{ident}
+use Rattle.dialog_id.specs.Ident.{ident}
 use Rattle.rseq_manager.specs.RSeq.{current, ran}
 use Rattle.c_rseq_answers.specs.Given.{currentNumber}
 use Rattle.c_rseq_answers.proofs.ReturnLaws.{current-number, current-given}

@@ -1,6 +1,6 @@
 -- `sip_dialog_rseq_next` meets its contract: what is handed over is what `ran` leaves. Assumes nothing.
 use Rattle.limits.specs.Limits.{rustLimits}
-use Rattle.rseq_entries.specs.Entries.{ident}
+use Rattle.dialog_id.specs.Ident.{ident}
 use Rattle.rseq_manager.specs.RSeq.{next, ran}
 use Rattle.c_rseq_answers.proofs.ReturnLaws.{numbered-returns}
 use borrow.Author.Needs.{needs}

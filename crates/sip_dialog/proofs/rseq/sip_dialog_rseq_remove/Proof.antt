@@ -1,8 +1,8 @@
 -- `sip_dialog_rseq_remove` meets its contract: what is handed over is what `ran` leaves. Assumes nothing.
 use Rattle.limits.specs.Limits.{rustLimits}
-use Rattle.rseq_entries.specs.Entries.{ident}
+use Rattle.dialog_id.specs.Ident.{ident}
 use Rattle.rseq_manager.specs.RSeq.{remove, ran}
-use Rattle.c_rseq_answers.proofs.ReturnLaws.{written-returns}
+use Rattle.c_answers.proofs.ReturnLaws.{written-returns}
 use borrow.Author.Needs.{needs}
 use Rattle.sip_dialog.proofs.rseq.sip_dialog_rseq_remove.Statement.{statement}
 use Rattle.sip_dialog.proofs.rseq.sip_dialog_rseq_remove.Tie as tie

@@ -2,7 +2,8 @@
 use lib.ListN.{length}
 use Rattle.limits.specs.Limits.{rustLimits}
 use Rattle.record.proofs.CodecLaws.{bytes-all}
-use Rattle.book.specs.Calls.{ident, get}
+use Rattle.dialog_id.specs.Ident.{ident}
+use Rattle.book.specs.Calls.{get}
 use Rattle.c_store_answers.proofs.ReturnLaws.{reading-returns}
 use borrow.Author.Needs.{needs}
 use Rattle.sip_dialog.proofs.store_readings.sip_dialog_get.Statement.{statement}

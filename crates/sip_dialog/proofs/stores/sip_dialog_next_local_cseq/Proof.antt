@@ -1,7 +1,7 @@
 -- `sip_dialog_next_local_cseq` meets its contract: what is handed over is what `run` leaves. Assumes nothing.
 use lib.ListN.{length}
 use Rattle.limits.specs.Limits.{rustLimits}
-use Rattle.book.specs.Calls.{ident}
+use Rattle.dialog_id.specs.Ident.{ident}
 use Rattle.c_store_answers.proofs.ValueLaws.{raised-returns}
 use borrow.Author.Needs.{needs}
 use Rattle.sip_dialog.proofs.stores.sip_dialog_next_local_cseq.Statement.{statement}

@@ -1,7 +1,8 @@
 -- `sip_dialog_remove` meets its contract: what is handed over is what `run` leaves. Assumes nothing.
 use lib.ListN.{length}
 use Rattle.limits.specs.Limits.{rustLimits}
-use Rattle.book.specs.Calls.{ident, remove}
+use Rattle.dialog_id.specs.Ident.{ident}
+use Rattle.book.specs.Calls.{remove}
 use Rattle.c_store_answers.proofs.ReturnLaws.{counted-returns}
 use borrow.Author.Needs.{needs}
 use Rattle.sip_dialog.proofs.stores.sip_dialog_remove.Statement.{statement}

@@ -1,7 +1,8 @@
 -- `sip_dialog_set_session_expires` meets its contract: what is handed over is what `run` leaves. Assumes nothing.
 use lib.ListN.{length}
 use Rattle.limits.specs.Limits.{rustLimits}
-use Rattle.book.specs.Calls.{ident, interval, update}
+use Rattle.dialog_id.specs.Ident.{ident}
+use Rattle.book.specs.Calls.{interval, update}
 use Rattle.c_store_answers.proofs.ValueLaws.{set-returns}
 use borrow.Author.Needs.{needs}
 use Rattle.sip_dialog.proofs.stores.sip_dialog_set_session_expires.Statement.{statement}

@@ -1,7 +1,8 @@
 -- `sip_dialog_terminate` meets its contract: what is handed over is what `run` leaves. Assumes nothing.
 use lib.ListN.{length}
 use Rattle.limits.specs.Limits.{rustLimits}
-use Rattle.book.specs.Calls.{ident, terminate, update}
+use Rattle.dialog_id.specs.Ident.{ident}
+use Rattle.book.specs.Calls.{terminate, update}
 use Rattle.c_store_answers.proofs.ReturnLaws.{written-returns}
 use borrow.Author.Needs.{needs}
 use Rattle.sip_dialog.proofs.stores.sip_dialog_terminate.Statement.{statement}

@@ -3,7 +3,7 @@ use mathlib.Core.Path.{_≡_, sym, _∙_}
 use mathlib.Core.Bool.{true}
 use Rattle.text.specs.Text.{equal}
 use Rattle.record.specs.NumbersForm.{stateIn}
-use Rattle.dialog.specs.Matching.{partIn}
+use Rattle.text.specs.Spans.{partIn}
 use Rattle.book.specs.Book.{isEarly}
 use Rattle.store_puts.proofs.EarlyLaws.{not-early, other-call, other-local, other-remote, itself}
 use borrow.Author.Needs.{needs}

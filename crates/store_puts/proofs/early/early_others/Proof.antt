@@ -4,7 +4,7 @@ use mathlib.Core.Path.{sym, _∙_}
 use lib.ListN.{length}
 use Rattle.record.proofs.CodecLaws.{Bytes, bytes-all}
 use Rattle.image.specs.declared.RecordAt.{RecordAt}
-use Rattle.book.specs.Calls.{ident}
+use Rattle.dialog_id.specs.Ident.{ident}
 use Rattle.store_puts.proofs.EarlyLaws.{Counting, start, here, done, unbroken, Counted, counted}
 use native.Mathlib.Omega.{arith}
 use borrow.Author.Needs.{needs}

@@ -8,7 +8,7 @@ use Rattle.limits.specs.Limits.{rustLimits}
 use Rattle.record.specs.NumbersForm.{stateIn}
 use Rattle.record.proofs.CodecLaws.{Bytes, bytes-all}
 use Rattle.image.specs.declared.RecordAt.{RecordAt}
-use Rattle.book.specs.Calls.{ident}
+use Rattle.dialog_id.specs.Ident.{ident}
 use Rattle.book.specs.Book.{storeRead}
 use Rattle.dialog_manager.specs.Search.{Stands}
 use Rattle.dialog_manager.specs.declared.finding.Found.the-variants as found

@@ -1,9 +1,9 @@
 -- `calls::next_local_cseq` meets its contract: 1, 3, 15, then the step on the record in its place. Assumes nothing.
-use mathlib.Core.Path.{sym, subst, _∙_}
+use mathlib.Core.Path.{subst}
 use Rattle.record.proofs.CodecLaws.{bytes-all}
-use Rattle.book.specs.Calls.{Ident, ident}
+use Rattle.dialog_id.specs.Ident.{Ident, ident}
 use Rattle.store_entries.specs.Entries.{Ready}
-use Rattle.store_updates.proofs.CallLaws.{raise-refused, raise-turned, raise-done}
+use Rattle.store_updates.proofs.CallLaws.{raises, call-refused, raise-not, raise-done}
 use borrow.Author.Needs.{needs}
 use Rattle.store_updates.proofs.calls.next_local_cseq.Statement.{statement}
 use Rattle.store_updates.proofs.calls.next_local_cseq.Tie as tie
@@ -11,30 +11,21 @@ use Rattle.store_updates.proofs.calls.next_local_cseq.Tie as tie
 abbrev name : tie.Start → Ident
 name c = ident (c .args .call-id .now) (c .args .local-tag .now) (c .args .remote-tag .now)
 
-check-identifier-requires : tie.Need-check-identifier-requires
-check-identifier-requires c κs = search needs
+-- where the call began
+abbrev start : tie.After-find-record → tie.Start
+start c = c .before .before .before .before .before .before
 
-enum-known-x : tie.Need-enum-known-x
-enum-known-x c = search needs
-
-returns : tie.Need-returns
-returns c =
-    let a = c .before .before .before .before .before .before .before .before in
-    raise-refused (name a) (a .args .bytes .now) (a .args .used) (sym (c .before .before .before .check-identifier .ensures) ∙ c .before .x .given .1)
-
-enum-told : tie.Need-enum-told
-enum-told c = search needs
-
-locate-requires : tie.Need-locate-requires
-locate-requires c κs = search needs
+find-record-requires : tie.Need-find-record-requires
+find-record-requires c κs = search needs
 
 enum-known-at : tie.Need-enum-known-at
 enum-known-at c = search needs
 
 local-at-requires : tie.Need-local-at-requires
 local-at-requires c κs =
-    let a = c .before .before .before .before .before .before .before .before .before .before .before .before .before .args in
-    subst (Ready (a .bytes .now) (a .used)) (c .before .before .at .given .1) (c .before .before .before .before .locate .ensures .1)
+    let m = c .before .before in
+    let k = m .before .before in
+    subst (Ready (start k .args .bytes .now) (start k .args .used)) (m .at .given .1) (k .find-record .ensures .1)
 
 enum-known-cause : tie.Need-enum-known-cause
 enum-known-cause c = search needs
@@ -42,38 +33,32 @@ enum-known-cause c = search needs
 same-length : tie.Need-same-length
 same-length c = search needs
 
-returns-2 : tie.Need-returns-2
-returns-2 c =
-    let k = c .before .before .before .before .before .before .before .before .before in
-    let a = k .before .before .before .before .before .before .before in
+returns : tie.Need-returns
+returns c =
     let m = c .before .before .before .before .before in
-    raise-done (name a) (a .args .bytes .now) (a .args .used) (sym (k .before .before .check-identifier .ensures) ∙ k .enum-told .given .1)
-    (bytes-all (a .args .bytes .now) (λ i. k .before .before .before .slice-known .given i .fits)) (m .at .given .0 .0) (m .at .given .0 .1 .0)
-    (sym (m .at .given .1) ∙ m .before .before .locate .ensures .0) (c .before .before .local-at .result) (c .before .before .local-at .last .0) (c .before .before .local-at .ensures)
+    let k = m .before .before in
+    let s = start k in
+    raise-done (name s) (s .args .bytes .now) (s .args .used) (k .find-record .ensures .0) (m .at .given .1)
+    (bytes-all (s .args .bytes .now) (λ i. k .before .before .slice-known .given i .fits)) (c .before .before .local-at .ensures)
 
 same-length-2 : tie.Need-same-length-2
 same-length-2 c = search needs
 
-returns-3 : tie.Need-returns-3
-returns-3 c =
-    let k = c .before .before .before .before .before in
-    let a = k .before .before .before .before .before .before .before in
-    raise-turned (name a) (a .args .bytes .now) (a .args .used) (sym (k .before .before .check-identifier .ensures) ∙ k .enum-told .given .1)
-    (sym (c .before .cause .given .1) ∙ c .before .before .before .locate .ensures .0)
+returns-2 : tie.Need-returns-2
+returns-2 c =
+    let k = c .before .before .before in
+    let s = start k in
+    raise-not (name s) (s .args .bytes .now) (s .args .used) (call-refused (raises (name s)) (s .args .bytes .now) (s .args .used) (k .find-record .ensures .0) (c .before .cause .given .1))
 
 pub next-local-cseq-spec : {M : Type 1} → statement M
 next-local-cseq-spec =
     tie.close
     (tie.spec
-    check-identifier-requires
-    enum-known-x
-    returns
-    enum-told
-    locate-requires
+    find-record-requires
     enum-known-at
     local-at-requires
     enum-known-cause
     same-length
-    returns-2
+    returns
     same-length-2
-    returns-3)
+    returns-2)

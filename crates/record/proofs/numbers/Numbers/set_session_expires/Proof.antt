@@ -1,35 +1,47 @@
 -- `record::Numbers::set_session_expires` meets its contract: 13, then 14. Assumes nothing.
-use borrow.Author.Tests.{lt-ltb, le-ltb}
-use Rattle.record.specs.Rules.{intervalStep}
-use native.Mathlib.Omega.{arith}
+use Prim.Native.Nat.{ℕ}
+use mathlib.Core.Path.{sym, ap, _∙_}
 use borrow.Author.Needs.{needs}
+use Rattle.limits.specs.Limits.{rustLimits}
+use Rattle.limits.specs.Outcome.{given}
+use Rattle.session_timer_manager.proofs.Laws.{seconds-accepted, seconds-refused}
+use Rattle.record.specs.NumbersForm.{meaning}
+use Rattle.record.specs.Rules.{withSeconds, intervalStep}
 use Rattle.record.proofs.numbers.Numbers.set_session_expires.Statement.{statement}
 use Rattle.record.proofs.numbers.Numbers.set_session_expires.Tie as tie
 
-cast-if1 : tie.Need-cast-if1
-cast-if1 c = search needs
+check-expires-seconds-requires : tie.Need-check-expires-seconds-requires
+check-expires-seconds-requires c κs = search needs
 
-cast-t8 : tie.Need-cast-t8
-cast-t8 c = search needs
+enum-known-n : tie.Need-enum-known-n
+enum-known-n c = search needs
+
+with-seconds-requires : tie.Need-with-seconds-requires
+with-seconds-requires c κs = search needs
+
+enum-known-cause : tie.Need-enum-known-cause
+enum-known-cause c = search needs
 
 returns : tie.Need-returns
 unfolding intervalStep
-returns c = rw (lt-ltb _ _ (c .if1 .taken))
-
-cast-if2 : tie.Need-cast-if2
-cast-if2 c = search needs
+returns c =
+    let m = c .before .before in
+    let a = m .before .before .before .args in
+    let k = seconds-accepted rustLimits (a .seconds) (sym (m .before .before .check-expires-seconds .ensures) ∙ m .n .given .1) in
+    rw (k .0) (ap given (c .with-seconds .ensures ∙ ap (λ (n : ℕ). withSeconds n (meaning (a .self))) (k .1)))
 
 returns-2 : tie.Need-returns-2
 unfolding intervalStep
-returns-2 c = rw (le-ltb _ _ (c .before .if1 .left), lt-ltb _ _ (c .if2 .taken))
-
-cast-t11 : tie.Need-cast-t11
-cast-t11 c = search needs
-
-returns-3 : tie.Need-returns-3
-unfolding intervalStep
-returns-3 c = rw (le-ltb _ _ (c .before .if1 .left), le-ltb _ _ (c .if2 .left))
+returns-2 c =
+    rw (seconds-refused rustLimits (c .before .before .before .before .args .seconds) (sym (c .before .before .before .check-expires-seconds .ensures) ∙ c .before .cause .given .1))
 
 pub set-session-expires-spec : {M : Type 1} → statement M
 set-session-expires-spec =
-    tie.close (tie.spec cast-if1 cast-t8 returns cast-if2 returns-2 cast-t11 returns-3)
+    tie.close
+    (tie.spec
+    check-expires-seconds-requires
+    enum-known-n
+    with-seconds-requires
+    enum-known-cause
+    returns
+    returns-2)
