@@ -3,6 +3,7 @@
 use super::numbers::{ported, texts, ROOM, SIZES, THINGS};
 use super::tables::{table, timed, Plan, Side, Sides};
 use crate::messages::request;
+use crate::prack::layout::{encode, Entry, Response as Held};
 use port::prack::{self, Response};
 use port::store::Store;
 use port::Rack;
@@ -51,25 +52,19 @@ pub struct Pracks {
 }
 
 impl Pracks {
-    /// Lists of so many dialogs.
+    /// Lists of so many dialogs. The store is written by the run's own encoder: registering them would read it each time.
     fn new(size: usize) -> Pracks {
-        let id = |number: usize| texts(number).concat();
+        let ids: Vec<String> = (0..size).map(|number| texts(number).concat()).collect();
         set_clock(TIME);
         let validator = PrackValidator::new();
-        let mut bytes = vec![0; size * ROOM + ROOM];
-        let mut used = 0;
-        for number in 0..size {
-            let lent = Store {
-                bytes: &mut bytes,
-                used: &mut used,
-            };
-            let id = id(number);
-            assert_eq!(prack::register(id.as_bytes(), RESPONSE, TIME, lent), 0, "registered");
-            rust_register(&validator, &id, RESPONSE);
+        for id in &ids {
+            rust_register(&validator, id, RESPONSE);
         }
-        bytes.truncate(used + ROOM);
+        let mut bytes = encode(&ids.iter().map(|id| entry(id)).collect::<Vec<Entry>>());
+        let used = bytes.len();
+        bytes.resize(used + ROOM, 0);
         Pracks {
-            middle: id(size / 2),
+            middle: ids[size / 2].clone(),
             bytes,
             used,
             validator,
@@ -81,6 +76,28 @@ impl Pracks {
     fn put_back(&self) {
         self.validator.remove_dialog(&self.middle);
         rust_register(&self.validator, &self.middle, RESPONSE);
+    }
+}
+
+/// What is held for a dialog after its response was registered.
+fn entry(id: &str) -> Entry {
+    let Response {
+        rseq,
+        cseq,
+        method,
+        code,
+    } = RESPONSE;
+    Entry {
+        id: id.as_bytes().to_vec(),
+        cleaned_at: TIME,
+        list: Some(vec![Held {
+            rseq,
+            cseq,
+            method,
+            code,
+            acknowledged: false,
+            registered_at: TIME,
+        }]),
     }
 }
 

@@ -2,6 +2,7 @@
 
 use super::numbers::{ported, texts, ROOM, SIZES, THINGS};
 use super::tables::{table, timed, Plan, Side, Sides};
+use crate::rseq::layout::{encode, Entry};
 use port::rseq;
 use port::store::{Id, Store};
 use sip_dialog::storage::hold_rseq;
@@ -32,21 +33,17 @@ pub struct RSeqs {
 }
 
 impl RSeqs {
-    /// A number for each of so many dialogs.
+    /// A number for each of so many dialogs. The store is written by the run's own encoder: asking for each would read it each time.
     fn new(size: usize) -> RSeqs {
         let manager = RSeqManager::new();
-        let mut bytes = vec![0; size * ROOM + ROOM];
-        let mut used = 0;
+        let mut entries: Vec<Entry> = Vec::new();
         for number in 0..size {
-            let lent = Store {
-                bytes: &mut bytes,
-                used: &mut used,
-            };
-            let mut rseq = 0;
-            assert_eq!(rseq_next(&texts(number), lent, &mut rseq), 0, "held");
-            hold_rseq(&manager, dialog_id(number), rseq);
+            hold_rseq(&manager, dialog_id(number), N);
+            entries.push((texts(number).map(String::into_bytes), N));
         }
-        bytes.truncate(used + ROOM);
+        let mut bytes = encode(&entries);
+        let used = bytes.len();
+        bytes.resize(used + ROOM, 0);
         RSeqs {
             size,
             bytes,
