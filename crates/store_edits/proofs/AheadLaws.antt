@@ -12,8 +12,6 @@ use Rattle.record.proofs.CodecLaws.{Bytes, bytes-take}
 use Rattle.record.proofs.StoreLaws.{EachFormed, decoded}
 use Rattle.record.proofs.WellFormedLaws.{image-round}
 use Rattle.image.specs.Places.{recordPlaces}
-use Rattle.image.specs.declared.RecordAt.{RecordAt}
-use Rattle.image.specs.declared.RecordReading.the-variants.{Whole, Broken}
 use Rattle.image.proofs.SizeLaws.{recordSize, record-sized}
 use Rattle.book.specs.Book.{Book, storeImage, storeRead, size}
 
@@ -75,11 +73,3 @@ pub none-ahead : (s : List ℕ) (used at : ℕ) (rest : Book) → Ahead s used a
 unfolding writeAll
 none-ahead s used at [] g h = refl
 none-ahead s used at (x ∷ more) g h = absurd (omega (arith, h, g .left, length-append (image .write x) (storeImage more), written-size x (g .formed .0)))
-
--- ---- what a reading answered
-
-pub whole-is : {p q : RecordAt} → Whole p ≡ Whole q → p ≡ q
-whole-is e = cc
-
-pub not-whole : {q : RecordAt} → Broken ≡ Whole q → ⊥
-not-whole e = let z : _≡_ {A = ℕ} 0 1 = cc in omega arith

@@ -1,3 +1,4 @@
 pub mod AheadLaws
 pub mod RemoveLaws
+pub mod StateLaws
 pub mod SweepLaws

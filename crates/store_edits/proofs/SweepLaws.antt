@@ -1,7 +1,7 @@
 -- A sweep, a record at a time: the front is the images of the records that stay, and the bytes after it are what they were. Assumes nothing.
 use Prim.Native.Nat.{ℕ, _+_, _-_, _≤_, _<_}
 use native.Mathlib.Omega.{arith}
-use mathlib.Core.Path.{_≡_, refl, sym, ap, ap₂, _∙_}
+use mathlib.Core.Path.{_≡_, refl, sym, ap, ap₂, subst, _∙_}
 use mathlib.Core.Bool.{Bool, true, false, cond, not}
 use mathlib.Core.List.{List, [], _∷_, _++_, append-assoc, append-nil}
 use mathlib.Core.Option.{none}
@@ -14,13 +14,11 @@ use Rattle.limits.specs.declared.Refusal.the-variants.{BadStore}
 use Rattle.edit.specs.Edit.{over, putAt}
 use Rattle.output.proofs.OutputLaws.{put-next}
 use Rattle.record.specs.Codec.{writeAll}
-use Rattle.record.specs.Record.{State, Record, image}
-use Rattle.record.specs.NumbersForm.{stateIn}
+use Rattle.record.specs.Record.{Record, image}
 use Rattle.record.proofs.CodecLaws.{Bytes}
-use Rattle.record.proofs.NumberLaws.{state-same}
-use Rattle.image.specs.Places.{recordPlaces, recordFrom}
-use Rattle.image.specs.declared.RecordAt.{RecordAt}
-use Rattle.image.specs.declared.RecordReading.the-variants.{Whole}
+use Rattle.image.specs.Places.{recordPlaces}
+use Rattle.distinct.specs.Keys.{At}
+use Rattle.distinct.specs.Ends.{endAt}
 use Rattle.store.specs.Counting.{recordsHeld, countAnswer}
 use Rattle.store.specs.declared.Held.the-variants as held
 use Rattle.book.specs.Calls.{noValue}
@@ -30,7 +28,7 @@ use Rattle.book.proofs.SentenceLaws.{kept-size}
 use Rattle.book.proofs.WayLaws.{keptWith, way-taken}
 use Rattle.dialog_manager.specs.Search.{Stored}
 use Rattle.dialog_manager.proofs.LookupLaws.{Kept}
-use Rattle.store_edits.specs.Edits.{sweeping, livingIn}
+use Rattle.store_edits.specs.Edits.{sweeping, livingIn, StayingAt}
 use Rattle.store_edits.proofs.AheadLaws.{Ahead, all-ahead, Front, front, none-ahead}
 use Rattle.store_edits.proofs.RemoveLaws.{images, unheld}
 
@@ -71,7 +69,7 @@ piece-length : (t : Bool) (x : Record) → length (piece t x) ≡ cond t 0 (leng
 piece-length true x = refl
 piece-length false x = refl
 
-pub piece-small : (t : Bool) (n : ℕ) → cond t 0 n ≤ n
+piece-small : (t : Bool) (n : ℕ) → cond t 0 n ≤ n
 piece-small true n = omega arith
 piece-small false n = omega arith
 
@@ -85,48 +83,59 @@ past-front front s at h =
     let z : length front + (at - length front) ≡ at = omega (arith, h) in
     ap (λ (n : ℕ). drop n (over front s)) (sym z) ∙ (drop-append-add front (drop (length front) s) (at - length front) ∙ (drop-drop (at - length front) (length front) s ∙ ap (λ (n : ℕ). drop n s) z))
 
--- what is read at the place, and the next place
-pub record Next (s : List ℕ) (used : ℕ) (bytes : List ℕ) (at to : ℕ) : Type 0 where
-  pub value : Record
-  pub reads : recordFrom at (image .read (drop at bytes)) ≡ Whole (recordPlaces at value)
-  pub ends : recordPlaces at value .end ≡ at + length (image .write value)
-  pub moves : at < recordPlaces at value .end
-  pub fits : recordPlaces at value .end ≤ used
-  pub again : (n : ℕ) (after : List ℕ) → n ≡ cond (isTerminated (value .numbers .state)) 0 (length (image .write value)) → after ≡ putAt to (take n (drop at bytes)) bytes
-      → Closing s used after (recordPlaces at value .end) (to + n)
+-- a turn: how many bytes stay of the record at the place, and what is so after them
+pub record Next (s : List ℕ) (used : ℕ) (bytes : List ℕ) (at to end : ℕ) : Type 0 where
+  pub moves : at < end
+  pub fits : end ≤ used
+  pub few : (n : ℕ) → StayingAt bytes at (end - at) n → n ≤ end - at
+  pub again : (n : ℕ) (after : List ℕ) → StayingAt bytes at (end - at) n → after ≡ putAt to (take n (drop at bytes)) bytes → Closing s used after end (to + n)
 
 module _ (s : List ℕ) (used : ℕ) (bytes : List ℕ) (at to : ℕ) (g : Closing s used bytes at to) where
   same-ahead : drop at bytes ≡ drop at s
   same-ahead = ap (drop at) (g .are) ∙ past-front (g .front) s at (omega (arith, g .below, g .to-is))
 
-  pub next : at < used → Next s used bytes at to
-  next h =
-      let f : Front s used at (g .rest) = front s used at (g .rest) (g .ahead) h in
-      let x : Record = f .value in
-      let t : Bool = isTerminated (x .numbers .state) in
-      let i : List ℕ = image .write x in
-      let after : List ℕ = drop (recordPlaces at x .end) s in
-      let here : drop at bytes ≡ i ++ after = same-ahead ∙ f .starts in
-      record {
-        value = x;
-        reads = ap (λ (u : List ℕ). recordFrom at (image .read u)) same-ahead ∙ ap (recordFrom at) (f .reads);
-        ends = f .ends;
-        moves = f .moves;
-        fits = f .fits;
-        again = λ n new p q.
-            let small : cond t 0 (length i) ≤ length i = piece-small t (length i) in
-            let took : take n (drop at bytes) ≡ piece t x = ap₂ (λ (m : ℕ) (u : List ℕ). take m u) p here ∙ piece-taken t x after in
-            record {
-              front = g .front ++ piece t x;
-              rest = f .more;
-              all = g .all ∙ (ap (λ (b : Book). g .front ++ storeImage (keep living b)) (f .split) ∙ piece-kept t x (g .front) (f .more));
-              ahead = f .next;
-              to-is = omega (arith, g .to-is, p, length-append (g .front) (piece t x), piece-length t x);
-              below = omega (arith, g .below, f .ends, p, small);
-              are = q ∙ (ap₂ (λ (u v : List ℕ). putAt to u v) took (g .are) ∙ put-next (g .front) (piece t x) s to (sym (g .to-is)));
-              within = g .within;
-            };
-      }
+  module _ (h : at < used) where
+    abbrev first : Front s used at (g .rest)
+    first = front s used at (g .rest) (g .ahead) h
+
+    -- a record stands there
+    pub stands : At bytes at
+    stands = record { reading = record { value = first .value; rest = drop (recordPlaces at (first .value) .end) s }; reads = ap (image .read) same-ahead ∙ first .reads }
+
+    its-end : endAt bytes at ≡ recordPlaces at (first .value) .end
+    unfolding endAt stands
+    its-end = rw (stands .reads) (sym (first .ends))
+
+    pub next : (end : ℕ) → end ≡ endAt bytes at → Next s used bytes at to end
+    unfolding stands
+    next end q =
+        let x : Record = first .value in
+        let t : Bool = isTerminated (x .numbers .state) in
+        let i : List ℕ = image .write x in
+        let after : List ℕ = drop (recordPlaces at x .end) s in
+        let here : drop at bytes ≡ i ++ after = same-ahead ∙ first .starts in
+        let e : end ≡ recordPlaces at x .end = q ∙ its-end in
+        let l : end - at ≡ length i = omega (arith, e, first .ends) in
+        let so-many : (n : ℕ) → StayingAt bytes at (end - at) n → n ≡ cond t 0 (length i) = λ n k. k (stands .reading) (stands .reads) ∙ ap (cond t 0) l in
+        let small : cond t 0 (length i) ≤ length i = piece-small t (length i) in
+        record {
+          moves = omega (arith, e, first .moves);
+          fits = omega (arith, e, first .fits);
+          few = λ n k. omega (arith, so-many n k, small, l);
+          again = λ n new k w.
+              let p : n ≡ cond t 0 (length i) = so-many n k in
+              let took : take n (drop at bytes) ≡ piece t x = ap₂ (λ (m : ℕ) (u : List ℕ). take m u) p here ∙ piece-taken t x after in
+              record {
+                front = g .front ++ piece t x;
+                rest = first .more;
+                all = g .all ∙ (ap (λ (b : Book). g .front ++ storeImage (keep living b)) (first .split) ∙ piece-kept t x (g .front) (first .more));
+                ahead = subst (λ (m : ℕ). Ahead s used m (first .more)) (sym e) (first .next);
+                to-is = omega (arith, g .to-is, p, length-append (g .front) (piece t x), piece-length t x);
+                below = omega (arith, g .below, e, first .ends, p, small);
+                are = w ∙ (ap₂ (λ (u v : List ℕ). putAt to u v) took (g .are) ∙ put-next (g .front) (piece t x) s to (sym (g .to-is)));
+                within = g .within;
+              };
+        }
 
   -- all records are read
   pub done : used ≤ at → livingIn (storeRead (take used s)) ≡ g .front
@@ -136,14 +145,6 @@ module _ (s : List ℕ) (used : ℕ) (bytes : List ℕ) (at to : ℕ) (g : Closi
   -- no byte more or less
   pub same-long : length bytes ≡ length s
   same-long = ap length (g .are) ∙ omega (arith, length-append (g .front) (drop (length (g .front)) s), length-drop (length (g .front)) s, g .to-is, g .below, g .ahead .left, g .within)
-
--- the bytes that stay, by the parts that were read
-pub so-many : (at : ℕ) (x : Record) (p : RecordAt) → p ≡ recordPlaces at x → recordPlaces at x .end ≡ at + length (image .write x)
-    → cond (isTerminated (stateIn (p .numbers .state))) 0 (p .end - at) ≡ cond (isTerminated (x .numbers .state)) 0 (length (image .write x))
-so-many at x p e k =
-    let z : p .end ≡ recordPlaces at x .end = ap (λ (q : RecordAt). q .end) e in
-    let y : p .end - at ≡ length (image .write x) = omega (arith, z, k) in
-    ap₂ (λ (t : State) (n : ℕ). cond (isTerminated t) 0 n) (ap (λ (q : RecordAt). stateIn (q .numbers .state)) e ∙ state-same (x .numbers .state)) y
 
 -- ---- the whole call
 

@@ -1,10 +1,15 @@
--- The calls that take records out of a store. What they leave is `run` (book/specs/Store.antt); here the call of each is set out, and a step of the code.
+-- The calls that take records out of a store. What they leave is `run` (book/specs/Store.antt); here the call of each is set out, and steps of the code.
 use Prim.Native.Nat.{ℕ}
+use mathlib.Core.Path.{_≡_}
+use mathlib.Core.Bool.{cond}
 use mathlib.Core.List.{List, []}
 use mathlib.Core.Option.{Option, none, some}
+use lib.ListN.{drop}
+use Rattle.record.specs.Codec.{Reading}
+use Rattle.record.specs.Record.{Record, image}
 use Rattle.dialog_id.specs.Ident.{ident}
 use Rattle.book.specs.Calls.{Call, remove, sweep}
-use Rattle.book.specs.Book.{Book, storeImage, living, keep}
+use Rattle.book.specs.Book.{Book, storeImage, isTerminated, living, keep}
 
 -- the calls, of a store of n lent bytes
 abbrev pub removing : ℕ → List ℕ → List ℕ → List ℕ → Call
@@ -19,3 +24,7 @@ sweeping n = sweep n
 abbrev pub livingIn : Option Book → List ℕ
 livingIn none = []
 livingIn (some b) = storeImage (keep living b)
+
+-- so many stay of the n bytes of the record that is read at a place: none if it is Terminated
+abbrev pub StayingAt : List ℕ → ℕ → ℕ → ℕ → Type 0
+StayingAt s at n m = (x : Reading Record) → image .read (drop at s) ≡ some x → m ≡ cond (isTerminated (x .value .numbers .state)) 0 n

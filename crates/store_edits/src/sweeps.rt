@@ -1,21 +1,20 @@
 // All Terminated records taken out of a store.
-use image::RecordReading;
+use distinct::record_end;
 use limits::Refusal;
 use output::Written;
-use record::State;
 use store::Held;
+use store::ids_at;
 ghost use mathlib.Core.Path.{_≡_};
-ghost use mathlib.Core.Bool.{cond};
 ghost use Prim.Native.Nat.{_≤_};
 ghost use lib.ListN.{length, take};
 ghost use Rattle.limits.specs.Limits.{rustLimits};
 ghost use Rattle.edit.specs.Edit.{over};
-ghost use Rattle.record.specs.NumbersForm.{stateIn};
-ghost use Rattle.book.specs.Book.{storeRead, isTerminated};
+ghost use Rattle.distinct.specs.Keys.{At};
+ghost use Rattle.book.specs.Book.{storeRead};
 ghost use Rattle.book.specs.Store.{run};
 ghost use Rattle.book.specs.Returned.{writtenIn};
 ghost use Rattle.dialog_manager.specs.Search.{Stored};
-ghost use Rattle.store_edits.specs.Edits.{sweeping, livingIn};
+ghost use Rattle.store_edits.specs.Edits.{sweeping, livingIn, StayingAt};
 
 // DialogManager::cleanup_terminated: 3. The records that stay keep their order.
 pub fn sweep(bytes: &mut [u8], used: usize) -> Written
@@ -38,26 +37,24 @@ fn close_up(bytes: &mut [u8], used: usize) -> usize
     let mut at = 0;
     let mut to = 0;
     while at < used {
-        let RecordReading::Whole(r) = image::read_record(bytes, at) else {
-            return to;
-        };
-        let numbers = r.numbers;
-        let state = numbers.state;
-        let n = staying(r.end - at, state);
+        let end = record_end(bytes, at);
+        let n = staying(bytes, at, end - at);
         edit::move_left(bytes, at, to, n);
         to += n;
-        at = r.end;
+        at = end;
     }
     to
 }
 
-// How many of a record's bytes stay.
-fn staying(n: usize, state: State) -> usize
-    ensures { λ r. ⌜ r ≡ cond (isTerminated (stateIn state)) 0 n ⌝ }
+// How many stay of the n bytes of the record at a place. Its state byte stands behind its identifier: low two bits 3, Terminated.
+fn staying(bytes: &[u8], at: usize, n: usize) -> usize
+    requires { ⌜ At (now bytes) at ⌝ }
+    ensures { λ r. ⌜ StayingAt (now (bytes .entry)) at n r ⌝ }
 {
-    match state {
-        State::Early => n,
-        State::Confirmed => n,
-        State::Terminated => 0,
+    let ids = ids_at(bytes, at);
+    let state = ids.end;
+    if bytes[state] % 4 == 3 {
+        return 0;
     }
+    n
 }

@@ -19,21 +19,21 @@ use Rattle.record.specs.Record.{Record, image}
 use Rattle.record.proofs.CodecLaws.{Bytes, bytes-drop}
 use Rattle.record.proofs.StoreLaws.{EachFormed, decoded}
 use Rattle.record.proofs.WellFormedLaws.{image-round}
-use Rattle.image.specs.Places.{recordPlaces, recordFrom, idsOf}
-use Rattle.image.specs.declared.RecordAt.{RecordAt}
-use Rattle.image.specs.declared.RecordReading.the-variants.{Whole, Broken}
+use Rattle.image.specs.Places.{recordPlaces, idsOf}
 use Rattle.image.specs.declared.sections.IdsAt.{IdsAt}
-use Rattle.image.proofs.AnswerLaws.{record-got}
 use Rattle.image_writer.proofs.FieldLaws.{text-size}
 use Rattle.image_writer.proofs.LieLaws.{Lie, record-lies}
+use Rattle.distinct.specs.Keys.{At}
+use Rattle.distinct.specs.Ends.{endAt}
 use Rattle.store.specs.Counting.{recordsHeld, countAnswer}
+use Rattle.store.specs.Identifiers.{IdsRead}
 use Rattle.store.specs.declared.Held.the-variants as held
 use Rattle.text.specs.Spans.{partIn}
 use Rattle.book.specs.Calls.{allIds, read, written}
 use Rattle.book.specs.Book.{Book, storeImage, storeRead, identifiersOf, reply, readingCause}
 use Rattle.book.specs.Store.{run}
 use Rattle.dialog_manager.specs.Search.{Stored, IdsWithin}
-use Rattle.dialog_manager.proofs.SearchLaws.{Turn, turn, ids-within}
+use Rattle.dialog_manager.proofs.SearchLaws.{Turn, standing, its-end, ids-within}
 use Rattle.dialog_manager.proofs.LookupLaws.{Kept, store-refuses, replies}
 use Rattle.store_ids.specs.Identifiers.{idsIn, IdsShort, lengthAt, textsAt}
 
@@ -79,14 +79,14 @@ start s hb k =
       few = omega arith;
     }
 
--- a turn: the texts of the identifier that was read, and the identifiers passed with it
-pub record More (s : List ℕ) (at : ℕ) (g : Passed s at) (p : RecordAt) : Type 0 where
-  pub within : IdsWithin s (p .ids)
-  pub short : IdsShort (p .ids)
-  pub size : length (textsAt s (p .ids)) ≡ lengthAt (p .ids)
-  pub moves : at < p .end
-  pub after : Passed s (p .end)
-  pub grown : after .front ≡ g .front ++ textsAt s (p .ids)
+-- a turn: the texts of the identifier of the record at `at`, and the identifiers passed with it
+pub record More (s : List ℕ) (at : ℕ) (g : Passed s at) (i : IdsAt) : Type 0 where
+  pub within : IdsWithin s i
+  pub short : IdsShort i
+  pub size : length (textsAt s i) ≡ lengthAt i
+  pub moves : at < endAt s at
+  pub after : Passed s (endAt s at)
+  pub grown : after .front ≡ g .front ++ textsAt s i
 
 -- the first record of those left, and what is read where they begin
 record First (s : List ℕ) (at : ℕ) (g : Passed s at) : Type 0 where
@@ -130,39 +130,39 @@ module _ (s : List ℕ) (at : ℕ) (g : Passed s at) where
               reads = ap (image .read) (g .ahead ∙ ap storeImage e) ∙ image-round x (w .0) (storeImage more);
             }
 
-    -- a record begins here
-    pub unbroken : recordFrom at (image .read (drop at s)) ≡ Broken → ⊥
-    unbroken e =
-        let k : Whole (recordPlaces at (first .value)) ≡ Broken = sym (ap (recordFrom at) (first .reads)) ∙ e in
-        let z : _≡_ {A = ℕ} 0 1 = cc in omega arith
+    -- a record stands here
+    pub stands : At s at
+    stands = record { reading = record { value = first .value; rest = storeImage (first .more) }; reads = first .reads }
 
     -- its identifier comes next
-    pub next : (p : RecordAt) → Bytes s → recordFrom at (image .read (drop at s)) ≡ Whole p → More s at g p
-    unfolding identifiersOf
-    next p hb e =
+    pub next : (i : IdsAt) → Bytes s → IdsRead s at i → More s at g i
+    unfolding identifiersOf stands
+    next i hb e =
         let f = first in
-        let t : Turn s at p = turn s at hb (g .here) (record-got s at (g .here) e) in
+        let p = recordPlaces at (f .value) in
+        let t : Turn s at p = standing s at hb (g .here) stands in
+        let q : endAt s at ≡ p .end = its-end s at hb (g .here) stands in
         let u : _≡_ {A = Reading Record} (record { value = t .step .value; rest = drop (p .end) s }) (record { value = f .value; rest = storeImage (f .more) }) = Option·some-injective _ _ (sym (t .step .reads) ∙ f .reads) in
-        let placed : p ≡ recordPlaces at (f .value) = t .placed ∙ ap (λ (y : Reading Record). recordPlaces at (y .value)) u in
-        let within : IdsWithin s (p .ids) = ids-within s at p t in
-        let k : Lie s (at + 2) (idsOf (f .value)) = record-lies s at (record { value = f .value; rest = storeImage (f .more) }) (bytes-drop at s hb) (f .reads) in
-        let texts : textsAt s (p .ids) ≡ text .write (f .value .callId) ++ (text .write (f .value .localTag) ++ text .write (f .value .remoteTag)) = rw (placed, k .callId, k .localTag, k .remoteTag) in
-        let n : length (textsAt s (p .ids)) ≡ lengthAt (p .ids) = texts-size s (p .ids) within in
-        let l : at + lengthAt (p .ids) ≤ p .end = rw placed (omega arith) in
+        let placed : i ≡ p .ids = e (stands .reading) (f .reads) in
+        let within : IdsWithin s i = subst (IdsWithin s) (sym placed) (ids-within s at p t) in
+        let k : Lie s (at + 2) (idsOf (f .value)) = record-lies s at (stands .reading) (bytes-drop at s hb) (f .reads) in
+        let texts : textsAt s i ≡ text .write (f .value .callId) ++ (text .write (f .value .localTag) ++ text .write (f .value .remoteTag)) = rw (placed, k .callId, k .localTag, k .remoteTag) in
+        let n : length (textsAt s i) ≡ lengthAt i = texts-size s i within in
+        let l : at + lengthAt i ≤ p .end = rw placed (omega arith) in
         let w = f .formed .0 in
         record {
           within = within;
           short = rw placed (w .callId .0, w .localTag .0, w .remoteTag .0);
           size = n;
-          moves = t .step .moves;
+          moves = omega (arith, q, t .step .moves);
           after = record {
-            front = g .front ++ textsAt s (p .ids);
+            front = g .front ++ textsAt s i;
             rest = f .more;
-            all = g .all ∙ (ap (λ (b : Book). g .front ++ identifiersOf b) (f .splits) ∙ (ap (λ (l : List ℕ). g .front ++ (l ++ identifiersOf (f .more))) (sym texts) ∙ sym (append-assoc (g .front) (textsAt s (p .ids)) (identifiersOf (f .more)))));
+            all = g .all ∙ (ap (λ (b : Book). g .front ++ identifiersOf b) (f .splits) ∙ (ap (λ (l : List ℕ). g .front ++ (l ++ identifiersOf (f .more))) (sym texts) ∙ sym (append-assoc (g .front) (textsAt s i) (identifiersOf (f .more)))));
             formed = f .formed .1;
-            ahead = ap (λ (y : Reading Record). y .rest) u;
-            here = t .step .within;
-            few = omega (arith, g .few, n, l, length-append (g .front) (textsAt s (p .ids)));
+            ahead = ap (λ (m : ℕ). drop m s) q ∙ ap (λ (y : Reading Record). y .rest) u;
+            here = omega (arith, q, t .step .within);
+            few = omega (arith, g .few, n, l, q, length-append (g .front) (textsAt s i));
           };
           grown = refl;
         }
@@ -179,14 +179,14 @@ pub measure : (s : List ℕ) → Bytes s → Stored s → Measured s 0 0
 unfolding start
 measure s hb k = record { passed = start s hb k; size = refl }
 
-module _ (s : List ℕ) (at n : ℕ) (f : Measured s at n) (p : RecordAt) (m : More s at (f .passed) p) {k : ℕ} (e : k ≡ lengthAt (p .ids)) where
+module _ (s : List ℕ) (at n : ℕ) (f : Measured s at n) (i : IdsAt) (m : More s at (f .passed) i) {k : ℕ} (e : k ≡ lengthAt i) where
   -- the identifiers passed, with this one
   one-more : n + k ≡ length (m .after .front)
-  one-more = omega (arith, e, f .size, m .size, ap length (m .grown), length-append (f .passed .front) (textsAt s (p .ids)))
+  one-more = omega (arith, e, f .size, m .size, ap length (m .grown), length-append (f .passed .front) (textsAt s i))
 
   -- one identifier more
-  pub measured : Measured s (p .end) (n + k)
-  measured = record { passed = m .after; size = one-more }
+  pub measured : {next : ℕ} → next ≡ endAt s at → Measured s next (n + k)
+  measured q = rw q (record { passed = m .after; size = one-more })
 
   -- no larger than the bytes
   pub small : n + k ≤ length s
@@ -212,20 +212,20 @@ module _ (s out₀ : List ℕ) (at to : ℕ) (out : List ℕ) (f : Filled s out�
       let l = f .passed .front in
       omega (arith, ap length (f .are), length-append l (drop (length l) out₀), length-drop (length l) out₀, front-fits s at (f .passed))
 
-  module _ (p : RecordAt) (m : More s at (f .passed) p) where
+  module _ (i : IdsAt) (m : More s at (f .passed) i) where
     -- there is room for one identifier more
-    pub free : to + lengthAt (p .ids) ≤ length out
-    free = omega (arith, f .to-is, m .size, ap length (m .grown), length-append (f .passed .front) (textsAt s (p .ids)), front-fits s (p .end) (m .after), same-long)
+    pub free : to + lengthAt i ≤ length out
+    free = omega (arith, f .to-is, m .size, ap length (m .grown), length-append (f .passed .front) (textsAt s i), front-fits s (endAt s at) (m .after), same-long)
 
     -- it is written
-    pub filled : {next : ℕ} {new : List ℕ} → next ≡ to + length (textsAt s (p .ids)) → new ≡ putAt to (textsAt s (p .ids)) out → Filled s out₀ (p .end) next new
-    filled {next} {new} a b = record {
+    pub filled : {end next : ℕ} {new : List ℕ} → end ≡ endAt s at → next ≡ to + length (textsAt s i) → new ≡ putAt to (textsAt s i) out → Filled s out₀ end next new
+    filled {end} {next} {new} q a b = rw q (record {
       passed = m .after;
-      to-is = omega (arith, a, f .to-is, ap length (m .grown), length-append (f .passed .front) (textsAt s (p .ids)));
+      to-is = omega (arith, a, f .to-is, ap length (m .grown), length-append (f .passed .front) (textsAt s i));
       are = b
-          ∙ (ap (putAt to (textsAt s (p .ids))) (f .are)
-          ∙ (put-next (f .passed .front) (textsAt s (p .ids)) out₀ to (sym (f .to-is)) ∙ ap (λ (l : List ℕ). over l out₀) (sym (m .grown))));
-    }
+          ∙ (ap (putAt to (textsAt s i)) (f .are)
+          ∙ (put-next (f .passed .front) (textsAt s i) out₀ to (sym (f .to-is)) ∙ ap (λ (l : List ℕ). over l out₀) (sym (m .grown))));
+    })
 
 -- ---- the whole answer
 

@@ -1,9 +1,10 @@
 // DialogManager::all_ids: the identifiers of all records of a lent store, written to lent output.
+use distinct::record_end;
 use image::IdsAt;
-use image::RecordReading;
 use limits::Refusal;
 use output::Written;
 use store::Held;
+use store::ids_at;
 use text::Span;
 ghost use mathlib.Core.Path.{_≡_};
 ghost use Prim.Native.Nat.{_+_, _≤_, _<_};
@@ -43,12 +44,9 @@ fn ids_size(bytes: &[u8]) -> usize
     let mut at = 0;
     let mut n = 0;
     while at < bytes.len() {
-        let RecordReading::Whole(r) = image::read_record(bytes, at) else {
-            return n;
-        };
-        let ids = r.ids;
+        let ids = ids_at(bytes, at);
         n += id_size(ids);
-        at = r.end;
+        at = record_end(bytes, at);
     }
     n
 }
@@ -73,12 +71,9 @@ fn write_all(bytes: &[u8], out: &mut [u8])
     let mut at = 0;
     let mut to = 0;
     while at < bytes.len() {
-        let RecordReading::Whole(r) = image::read_record(bytes, at) else {
-            return;
-        };
-        let ids = r.ids;
+        let ids = ids_at(bytes, at);
         to = write_id(bytes, ids, out, to);
-        at = r.end;
+        at = record_end(bytes, at);
     }
 }
 

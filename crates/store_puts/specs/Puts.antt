@@ -4,11 +4,11 @@ use mathlib.Core.Path.{_≡_}
 use mathlib.Core.Bool.{Bool, true, false, cond, not, _&&_}
 use mathlib.Core.List.{List}
 use mathlib.Core.Option.{Option, none, some}
-use lib.ListN.{length, take}
+use lib.ListN.{length, take, getD}
 use lib.Dec.{leb}
 use Rattle.limits.specs.Limits.{LimitSet}
 use Rattle.limits.specs.Outcome.{given}
-use Rattle.record.specs.Record.{State, Record, image}
+use Rattle.record.specs.Record.{State, Record, stateByteOf, image}
 use Rattle.record.specs.NumbersForm.{stateIn}
 use Rattle.record.specs.declared.numbers.State.{State as CodeState}
 use Rattle.image.specs.declared.sections.IdsAt.{IdsAt}
@@ -48,6 +48,10 @@ earlyOthers i (some b) = earlyOf (i .callId) (keep (others i) b)
 abbrev pub crowdedIn : LimitSet → State → Ident → Option Book → Bool
 crowdedIn L state i o = isEarly state && leb (L .earlyPerCallId) (earlyOthers i o)
 
--- what one record counts, by the texts at the places of its identifier
-abbrev pub earlyAt : List ℕ → IdsAt → State → List ℕ → List ℕ → List ℕ → ℕ
-earlyAt s i state c l r = cond (isEarly state && (namedAt s i false c l r && not (namedAt s i true c l r))) 1 0
+-- the state that the state byte at a place tells
+abbrev pub stateAt : List ℕ → ℕ → State
+stateAt s at = stateByteOf (getD s at 0) .state
+
+-- what one record counts, by the texts at the places of its identifier and the state byte past them
+abbrev pub earlyAt : List ℕ → IdsAt → List ℕ → List ℕ → List ℕ → ℕ
+earlyAt s i c l r = cond (isEarly (stateAt s (i .end)) && (namedAt s i false c l r && not (namedAt s i true c l r))) 1 0

@@ -4,15 +4,15 @@ use mathlib.Core.Path.{sym, ap, _∙_}
 use mathlib.Core.List.{List}
 use lib.ListN.{length}
 use Rattle.record.proofs.CodecLaws.{Bytes, bytes-all}
-use Rattle.image.specs.declared.RecordAt.{RecordAt}
-use Rattle.store_ids.proofs.IdentifierLaws.{More, done, unbroken, next, Measured, measure, measured, small}
+use Rattle.distinct.specs.Keys.{At}
+use Rattle.store_ids.proofs.IdentifierLaws.{More, done, stands, next, Measured, measure, measured, small}
 use native.Mathlib.Omega.{arith}
-use borrow.Author.Needs.{needs}
 use Rattle.store_ids.proofs.ids_size.Statement.{statement}
 use Rattle.store_ids.proofs.ids_size.Tie as tie
 use Rattle.store_ids.proofs.ids_size.Reads as reads
 use Rattle.store_ids.proofs.ids_size.Lts as lts
-use Rattle.image.proofs.read_record.Reads as read-record-reads
+use Rattle.distinct.proofs.record_end.Reads as record-end-reads
+use Rattle.store.proofs.ids_at.Reads as ids-at-reads
 use Rattle.store_ids.proofs.id_size.Reads as id-size-reads
 
 abbrev Inv-loop : tie.InvT-loop
@@ -28,56 +28,47 @@ s c = c .before .before .before .args .bytes .now
 known : (c : tie.In-loop Inv-loop μ-loop) → Bytes (s c)
 known c = bytes-all (s c) (λ i. c .before .before .shared-slice-known .given i .fits)
 
--- where the turn began, and the record of the turn
-abbrev L : tie.After-ids Inv-loop μ-loop → tie.In-loop Inv-loop μ-loop
-L c = c .before .before .before .before .before
+-- a record stands where the turn begins
+here : (c : tie.In-loop Inv-loop μ-loop) → At (s c) (c .before .loop .at)
+here c = let g = c .before .loop in stands (s c) (g .at) (g .inv .passed) (c .loop-test .taken)
 
-abbrev R : tie.After-ids Inv-loop μ-loop → RecordAt
-R c = c .before .before .r .given .0 .0
-
-adds : (c : tie.After-ids Inv-loop μ-loop) → More (s (L c)) (L c .before .loop .at) (L c .before .loop .inv .passed) (R c)
+-- its identifier is that of the turn
+adds : (c : tie.After-ids-at Inv-loop μ-loop) → More (s (c .before)) (c .before .before .loop .at) (c .before .before .loop .inv .passed) (c .ids-at .result)
 adds c =
-    let g = L c .before .loop in
-    next (s (L c)) (g .at) (g .inv .passed) (L c .loop-test .taken) (R c) (known (L c)) (sym (c .before .before .before .before .read-record .ensures) ∙ c .before .before .r .given .1)
+    let l = c .before in
+    let g = l .before .loop in
+    next (s l) (g .at) (g .inv .passed) (l .loop-test .taken) (c .ids-at .result) (known l) (c .ids-at .ensures)
 
 loop-holds : tie.Need-loop-holds Inv-loop μ-loop
 loop-holds c = let s = c .before .args .bytes .now in measure s (bytes-all s (λ i. c .shared-slice-known .given i .fits)) (c .before .pre)
 
-read-record-requires : tie.Need-read-record-requires Inv-loop μ-loop
-read-record-requires c κs = c .before .loop .inv .passed .here
-
-enum-known-r : tie.Need-enum-known-r Inv-loop μ-loop
-enum-known-r c = search needs
-
-enum-told : tie.Need-enum-told Inv-loop μ-loop
-enum-told c = search needs
-
-returns : tie.Need-returns Inv-loop μ-loop
-returns c =
-    let l = c .before .before .before in
-    let g = l .before .loop in
-    absurd (unbroken (s l) (g .at) (g .inv .passed) (l .loop-test .taken) (sym (c .before .before .read-record .ensures) ∙ c .enum-told .given .1))
+ids-at-requires : tie.Need-ids-at-requires Inv-loop μ-loop
+ids-at-requires c κs = here c
 
 id-size-requires : tie.Need-id-size-requires Inv-loop μ-loop
 id-size-requires c κs = adds c .short
 
 add-n : tie.Need-add-n Inv-loop μ-loop
 add-n c =
-    let l = L (c .before) in
+    let l = c .before .before in
     let g = l .before .loop in
-    omega (arith, small (s l) (g .at) (g .n) (g .inv) (R (c .before)) (adds (c .before)) (c .id-size .ensures))
+    omega (arith, small (s l) (g .at) (g .n) (g .inv) (c .before .ids-at .result) (adds (c .before)) (c .id-size .ensures))
+
+record-end-requires : tie.Need-record-end-requires Inv-loop μ-loop
+record-end-requires c κs = here (c .before .before)
 
 loop-less : tie.Need-loop-less Inv-loop μ-loop
-loop-less c = let m = adds (c .before) in omega (arith, m .moves, m .after .here)
+loop-less c = let m = adds (c .before .before) in omega (arith, c .record-end .ensures, m .moves, m .after .here)
 
 loop-again : tie.Need-loop-again Inv-loop μ-loop
 loop-again c =
-    let l = L (c .before) in
+    let k = c .before .before in
+    let l = k .before in
     let g = l .before .loop in
-    measured (s l) (g .at) (g .n) (g .inv) (R (c .before)) (adds (c .before)) (c .id-size .ensures)
+    measured (s l) (g .at) (g .n) (g .inv) (k .ids-at .result) (adds k) (c .before .id-size .ensures) (c .record-end .ensures)
 
-returns-2 : tie.Need-returns-2 Inv-loop μ-loop
-returns-2 c =
+returns : tie.Need-returns Inv-loop μ-loop
+returns c =
     let g = c .before .loop in
     g .inv .size ∙ ap length (sym (done (c .before .before .before .args .bytes .now) (g .at) (g .inv .passed) (c .loop-test .left)))
 
@@ -88,12 +79,10 @@ ids-size-spec =
     Inv-loop
     μ-loop
     loop-holds
-    read-record-requires
-    enum-known-r
-    enum-told
-    returns
+    ids-at-requires
     id-size-requires
     add-n
+    record-end-requires
     loop-less
     loop-again
-    returns-2)
+    returns)

@@ -1,25 +1,19 @@
 -- `sweeps::close_up` meets its contract: the front is the images that stay, the bytes after it are what they were. Assumes nothing.
 use Prim.Native.Nat.{ℕ, _+_, _-_, _≤_, _<_}
-use mathlib.Core.Path.{_≡_, sym, ap, subst, _∙_}
-use mathlib.Core.Bool.{cond}
+use mathlib.Core.Path.{sym, ap, _∙_}
 use mathlib.Core.List.{List}
 use lib.ListN.{length}
 use Rattle.edit.specs.Edit.{over}
-use Rattle.record.specs.Record.{image}
 use Rattle.record.proofs.CodecLaws.{bytes-all}
-use Rattle.image.specs.Places.{recordPlaces}
-use Rattle.image.specs.declared.RecordAt.{RecordAt}
-use Rattle.book.specs.Book.{isTerminated}
-use Rattle.store_edits.proofs.AheadLaws.{whole-is, not-whole}
-use Rattle.store_edits.proofs.SweepLaws.{Closing, start, Next, next, done, same-long, so-many, piece-small}
+use Rattle.distinct.specs.Keys.{At}
+use Rattle.store_edits.proofs.SweepLaws.{Closing, start, stands, Next, next, done, same-long}
 use native.Mathlib.Omega.{arith}
-use borrow.Author.Needs.{needs}
 use Rattle.store_edits.proofs.sweeps.close_up.Statement.{statement}
 use Rattle.store_edits.proofs.sweeps.close_up.Tie as tie
 use Rattle.store_edits.proofs.sweeps.close_up.Reads as reads
 use Rattle.store_edits.proofs.sweeps.close_up.Lts as lts
+use Rattle.distinct.proofs.record_end.Reads as record-end-reads
 use Rattle.edit.proofs.move_left.Reads as move-left-reads
-use Rattle.image.proofs.read_record.Reads as read-record-reads
 use Rattle.store_edits.proofs.sweeps.staying.Reads as staying-reads
 
 abbrev Inv-loop : tie.InvT-loop
@@ -28,105 +22,80 @@ Inv-loop bytes₀ used at₀ to₀ bytes at to = Closing bytes₀ used bytes at 
 abbrev μ-loop : tie.MeasureT-loop
 μ-loop bytes₀ used at₀ to₀ bytes at to = used - at
 
--- a length is a number of the machine
-bound : (c : tie.After-slice-known Inv-loop μ-loop) → c .before .args .used < 18446744073709551616
-bound c = omega (arith, c .before .pre .0)
+-- a turn: the bytes as they were and as they are, the places, the record
+module _ (c : tie.In-loop Inv-loop μ-loop) where
+  abbrev s : List ℕ
+  s = c .before .before .before .args .bytes .now
 
--- the bytes as they were, and the parts that were read
-abbrev s : tie.After-struct-known Inv-loop μ-loop → List ℕ
-s c = c .before .before .before .before .before .before .before .before .before .before .args .bytes .now
+  abbrev used : ℕ
+  used = c .before .before .before .args .used
 
-abbrev used : tie.After-struct-known Inv-loop μ-loop → ℕ
-used c = c .before .before .before .before .before .before .before .before .before .before .args .used
+  abbrev bytes : List ℕ
+  bytes = c .before .loop .bytes
 
-abbrev R : tie.After-struct-known Inv-loop μ-loop → RecordAt
-R c = c .before .before .before .r .given .0 .0
+  abbrev at : ℕ
+  at = c .before .loop .at
 
--- the record of a turn
-turn : (c : tie.After-struct-known Inv-loop μ-loop) → Next (s c) (used c) (c .before .before .before .before .before .before .before .before .loop .bytes) (c .before .before .before .before .before .before .before .before .loop .at) (c .before .before .before .before .before .before .before .before .loop .to)
-turn c = let g = c .before .before .before .before .before .before .before .before .loop in next (s c) (used c) (g .bytes) (g .at) (g .to) (g .inv) (c .before .before .before .before .before .before .before .loop-test .taken)
+  abbrev to : ℕ
+  to = c .before .loop .to
 
-placed : (c : tie.After-struct-known Inv-loop μ-loop) → R c ≡ recordPlaces (c .before .before .before .before .before .before .before .before .loop .at) (turn c .value)
-placed c = whole-is (sym (c .before .before .before .r .given .1) ∙ c .before .before .before .before .before .read-record .ensures ∙ turn c .reads)
+  abbrev closing : Closing s used bytes at to
+  closing = c .before .loop .inv
 
-ends : (c : tie.After-struct-known Inv-loop μ-loop) → R c .end ≡ c .before .before .before .before .before .before .before .before .loop .at + length (image .write (turn c .value))
-ends c = ap (λ (q : RecordAt). q .end) (placed c) ∙ turn c .ends
+  here : At bytes at
+  here = stands s used bytes at to closing (c .loop-test .taken)
 
-fits : (c : tie.After-struct-known Inv-loop μ-loop) → R c .end ≤ used c
-fits c = let z : R c .end ≡ recordPlaces (c .before .before .before .before .before .before .before .before .loop .at) (turn c .value) .end = ap (λ (q : RecordAt). q .end) (placed c) in omega (arith, z, turn c .fits)
+  -- a length is a number of the machine
+  bound : used < 18446744073709551616
+  bound = omega (arith, c .before .before .before .pre .0)
+
+turn : (c : tie.After-record-end Inv-loop μ-loop) → let l = c .before .before in Next (s l) (used l) (bytes l) (at l) (to l) (c .record-end .result)
+turn c = let l = c .before .before in next (s l) (used l) (bytes l) (at l) (to l) (closing l) (l .loop-test .taken) (c .record-end .result) (c .record-end .ensures)
 
 -- how many bytes stay
-count : (c : tie.After-staying Inv-loop μ-loop) → c .staying .result ≡ cond (isTerminated (turn (c .before) .value .numbers .state)) 0 (length (image .write (turn (c .before) .value)))
-count c = c .staying .ensures ∙ so-many (c .before .before .before .before .before .before .before .before .before .loop .at) (turn (c .before) .value) (R (c .before)) (placed (c .before)) (turn (c .before) .ends)
-
-few : (c : tie.After-staying Inv-loop μ-loop) → c .before .before .before .before .before .before .before .before .before .loop .at + c .staying .result ≤ used (c .before)
-few c = omega (arith, count c, piece-small (isTerminated (turn (c .before) .value .numbers .state)) (length (image .write (turn (c .before) .value))), ends (c .before), fits (c .before))
+few : (c : tie.After-staying Inv-loop μ-loop) → let d = c .before .before in at (d .before .before) + c .staying .result ≤ used (d .before .before)
+few c = let t = turn (c .before .before) in omega (arith, t .few (c .staying .result) (c .staying .ensures), t .moves, t .fits)
 
 loop-holds : tie.Need-loop-holds Inv-loop μ-loop
 loop-holds c = let a = c .before .args in start (a .bytes .now) (a .used) (bytes-all (a .bytes .now) (λ i. c .slice-known .given i .fits)) (c .before .pre .0) (c .before .pre .1)
 
-read-record-requires : tie.Need-read-record-requires Inv-loop μ-loop
-read-record-requires c κs =
-    let g = c .before .before .loop in
-    let a = c .before .before .before .before .args in
-    let z : g .at ≤ length (g .bytes) = omega (arith, g .inv .ahead .left, g .inv .within, same-long (a .bytes .now) (a .used) (g .bytes) (g .at) (g .to) (g .inv)) in z
-
-enum-known-r : tie.Need-enum-known-r Inv-loop μ-loop
-enum-known-r c = search needs
-
-enum-told : tie.Need-enum-told Inv-loop μ-loop
-enum-told c = search needs
-
-same-length : tie.Need-same-length Inv-loop μ-loop
-same-length c = let g = c .before .before .before .before .before .loop in let a = c .before .before .before .before .before .before .before .args in same-long (a .bytes .now) (a .used) (g .bytes) (g .at) (g .to) (g .inv)
-
-returns : tie.Need-returns Inv-loop μ-loop
-returns c =
-    let g = c .before .before .before .before .before .loop in
-    let a = c .before .before .before .before .before .before .before .args in
-    let t = next (a .bytes .now) (a .used) (g .bytes) (g .at) (g .to) (g .inv) (c .before .before .before .before .loop-test .taken) in
-    absurd (not-whole (sym (c .enum-told .given .1) ∙ c .before .before .read-record .ensures ∙ t .reads))
+record-end-requires : tie.Need-record-end-requires Inv-loop μ-loop
+record-end-requires c κs = here (c .before)
 
 sub-staying : tie.Need-sub-staying Inv-loop μ-loop
-sub-staying c = omega (arith, ends c)
+sub-staying c = omega (arith, turn (c .before) .moves)
 
 staying-requires : tie.Need-staying-requires Inv-loop μ-loop
-staying-requires c κs = tt
+staying-requires c κs = here (c .before .before .before)
 
 move-left-requires : tie.Need-move-left-requires Inv-loop μ-loop
 move-left-requires c κs =
     let k = c .before in
-    let g = c .before .before .before .before .before .before .before .before .before .before .loop in
-    let z : g .at + k .staying .result ≤ length (g .bytes) = omega (arith, few k, g .inv .within, same-long (s (k .before)) (used (k .before)) (g .bytes) (g .at) (g .to) (g .inv)) in
-    (g .inv .below, z)
+    let l = k .before .before .before .before in
+    let g = closing l in
+    let z : at l + k .staying .result ≤ length (bytes l) = omega (arith, few k, g .within, same-long (s l) (used l) (bytes l) (at l) (to l) g) in
+    (g .below, z)
 
 add-to : tie.Need-add-to Inv-loop μ-loop
 add-to c =
     let k = c .before .before .before .before in
-    let g = c .before .before .before .before .before .before .before .before .before .before .before .before .before .loop in
-    omega (arith, few k, g .inv .below, bound (c .before .before .before .before .before .before .before .before .before .before .before .before .before .before))
+    let l = k .before .before .before .before in
+    omega (arith, few k, closing l .below, bound l)
 
 loop-less : tie.Need-loop-less Inv-loop μ-loop
-loop-less c =
-    let k = c .before .before .before .before .before in
-    let t = turn k in
-    let e : R k .end ≡ recordPlaces (k .before .before .before .before .before .before .before .before .loop .at) (t .value) .end = ap (λ (q : RecordAt). q .end) (placed k) in
-    omega (arith, e, t .moves, t .fits)
+loop-less c = let t = turn (c .before .before .before .before .before .before) in omega (arith, t .moves, t .fits)
 
 loop-again : tie.Need-loop-again Inv-loop μ-loop
 loop-again c =
-    let k = c .before .before .before .before .before in
-    let g = k .before .before .before .before .before .before .before .before .loop in
-    let t = turn k in
-    let n = c .before .before .before .before .staying .result in
-    let e : R k .end ≡ recordPlaces (g .at) (t .value) .end = ap (λ (q : RecordAt). q .end) (placed k) in
-    subst (λ (m : ℕ). Closing (s k) (used k) (c .before .before .move-left .last .0) m (g .to + n)) (sym e) (t .again n (c .before .before .move-left .last .0) (count (c .before .before .before .before)) (c .before .before .move-left .ensures))
+    let k = c .before .before .before .before in
+    let m = c .before .before .move-left in
+    turn (k .before .before) .again (k .staying .result) (m .last .0) (k .staying .ensures) (m .ensures)
 
-same-length-2 : tie.Need-same-length-2 Inv-loop μ-loop
-same-length-2 c = let g = c .before .loop in let a = c .before .before .before .args in same-long (a .bytes .now) (a .used) (g .bytes) (g .at) (g .to) (g .inv)
+same-length : tie.Need-same-length Inv-loop μ-loop
+same-length c = let g = c .before .loop in let a = c .before .before .before .args in same-long (a .bytes .now) (a .used) (g .bytes) (g .at) (g .to) (g .inv)
 
-returns-2 : tie.Need-returns-2 Inv-loop μ-loop
-returns-2 c =
+returns : tie.Need-returns Inv-loop μ-loop
+returns c =
     let g = c .before .loop in
     let a = c .before .before .before .args in
     let d = done (a .bytes .now) (a .used) (g .bytes) (g .at) (g .to) (g .inv) (c .loop-test .left) in
@@ -139,16 +108,12 @@ close-up-spec =
     Inv-loop
     μ-loop
     loop-holds
-    read-record-requires
-    enum-known-r
-    enum-told
-    same-length
-    returns
+    record-end-requires
     sub-staying
     staying-requires
     move-left-requires
     add-to
     loop-less
     loop-again
-    same-length-2
-    returns-2)
+    same-length
+    returns)
