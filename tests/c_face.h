@@ -1,6 +1,5 @@
 /*
- * What tests/c_face.c, tests/c_face_store.c, tests/c_face_rseq.c and tests/c_face_prack.c share: checks, lent bytes, and three
- * record images with ways to change them.
+ * What tests/c_face.c and the other tests/c_face_*.c share: checks, lent bytes, and three record images with ways to change them.
  */
 #ifndef C_FACE_H
 #define C_FACE_H
@@ -149,5 +148,9 @@ void test_rseq_stores(void);
 /* ---- Tests of the calls on PRACK stores, in tests/c_face_prack.c */
 
 void test_prack_stores(void);
+
+/* ---- Rows of docs/DIFFERENCES.md, in tests/c_face_rfc.c */
+
+void test_rfc_rows(void);
 
 #endif

@@ -1,6 +1,6 @@
 #!/bin/sh
-# The C face: tests/c_face.c, tests/c_face_store.c, tests/c_face_rseq.c and tests/c_face_prack.c against the static library, by
-# themselves and under valgrind; and that the library, the header and the tests have the same functions. Prints one line if all holds.
+# The C face: tests/c_face.c and the other tests/c_face_*.c against the static library, by themselves and under valgrind; and that the
+# library, the header and the tests have the same functions. Prints one line if all holds.
 # PORT_LIB: a folder with libsip_dialog.a (default: built by `rt staticlib sip_dialog`).
 set -eu
 cd "$(dirname "$0")/.."
@@ -18,17 +18,19 @@ fi
 
 mkdir -p "$out"
 [ -n "${PORT_LIB:-}" ] || rt staticlib sip_dialog >&2
-for part in c_face c_face_store c_face_rseq c_face_prack; do
+set --
+for part in c_face c_face_store c_face_rseq c_face_prack c_face_rfc; do
     cc -std=c99 -Wall -Wextra -Werror -pedantic -Iinclude -g -c "tests/$part.c" -o "$out/$part.o"
+    set -- "$@" "$out/$part.o"
 done
-cc "$out/c_face.o" "$out/c_face_store.o" "$out/c_face_rseq.o" "$out/c_face_prack.o" "$archive" -o "$out/c_face"
+cc "$@" "$archive" -o "$out/c_face"
 
 # names FILE: the functions of the library among some words, one to a line.
 names() {
     sed -n 's/^\(.* \)*\(sip_dialog_[A-Za-z0-9_]*\)$/\2/p' "$1" | sort -u
 }
 nm -g --defined-only "$archive" >"$out/defined.nm"
-nm -u "$out/c_face.o" "$out/c_face_store.o" "$out/c_face_rseq.o" "$out/c_face_prack.o" >"$out/called.nm"
+nm -u "$@" >"$out/called.nm"
 cc -std=c99 -E -P "$header" | grep -o 'sip_dialog_[A-Za-z0-9_]* *(' | tr -d ' (' >"$out/declared.c"
 names "$out/defined.nm" >"$out/defined"
 names "$out/declared.c" >"$out/declared"
