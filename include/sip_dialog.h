@@ -8,8 +8,9 @@
  * - A byte run is a pointer and its length in bytes; no zero byte ends it. A null pointer is allowed only with length 0.
  * - Byte runs of one call must not overlap, neither each other nor a lent number. (Runs that are only read do no harm where they
  *   are the same bytes, as a compiler may make of equal literals: no call writes them. The proofs speak of runs apart.)
- * - Stack: a call on a store of records takes about 260 KB of it, however small the store is (tables for the comparison of
- *   identifiers), sip_dialog_listing about 47 KB, every other call less than 4 KB. The archive calls memcpy, memmove and memset.
+ * - Stack, as read off the archive's code: a call on a store of records takes up to 267,000 bytes, however small the store is (tables
+ *   for the comparison of identifiers), sip_dialog_listing up to 48,000, every other call less than 2,500. The archive calls memcpy,
+ *   memmove and memset, whose own are not counted.
  * - A lent number (found, place, ..) is a pointer to a number of its own, never null. It keeps its value except where its
  *   answer is given: a refused call changes none of them (but 13's `least`, and `used` of sip_dialog_prack_validate with 19 to 24),
  *   and with `found` 0 the others keep theirs.
@@ -276,8 +277,9 @@ uint8_t sip_dialog_image_needs_refresh(const uint8_t *image, size_t image_len, u
    and without a readable Session-Expires no interval. Any method is taken. Both functions refuse with 1 (any of the five
    runs); 2 (request, response); 6 (local URI, remote URI); 4 (Call-ID or a tag absent); 5; 7 (estimate of the local URI, the
    remote URI, the target); 7 or 8 in the routes, whichever is met first, as sip_dialog_route_count; 4 (CSeq); 9; 10; 13 below
-   90 and then answer 90 in least, in seconds; 14; 18. But for 13, least keeps its value. An image has as many bytes as its texts and
-   about 40 more; 41,088 are enough for any (four texts and the routes of a block, of 8,192 bytes each). */
+   90 and then answer 90 in least, in seconds; 14; 18. But for 13, least keeps its value. An image has the bytes of
+   its texts, 2 more for each route and up to 28 others; 41,088 are enough for any (the identifier, the three URIs and the routes have at
+   most 8,192 bytes each). */
 
 /* For a request that we sent, and its response: the tag of From is the local one; Contact and Record-Route are the
    response's, the routes reversed over all lines; the request's CSeq is the local number, and there is no remote one. */
