@@ -2,23 +2,35 @@
 -- it says, and the used length, as the last left them. Of a call nothing is known but the contract that its function is proved to keep: `Post` of a function is
 -- what the toolchain makes of its `ensures`. Nothing else is asked of the calls: that no more is lent than there is, and that a put's image is made of bytes,
 -- follows. Assumes nothing.
-use Prim.Native.Nat.{ℕ, _<_}
+use Prim.Native.Nat.{ℕ, _≤_, _<_}
 use native.Mathlib.Omega.{arith}
-use mathlib.Core.Path.{_≡_, refl, ap, ap₂, _∙_}
+use mathlib.Core.Path.{_≡_, refl, sym, ap, ap₂, _∙_}
+use mathlib.Core.Bool.{cond}
 use mathlib.Core.List.{List, [], _∷_, _++_}
-use mathlib.Core.Option.{none, some}
+use mathlib.Core.Option.{Option, none, some}
 use lib.ListN.{length, take, drop, length-take}
+use lib.Dec.{eqb}
+use borrow.Author.Tests.{ne-eqb, le-ltb}
 use contract.Lifetimes.{Lfts}
 use denote.Ref.{RefT}
 use Rattle.limits.specs.Limits.{rustLimits}
+use Rattle.limits.specs.Refusal.{numberOf}
+use Rattle.limits.specs.Outcome.{Outcome, refused, given, numberIn, andThen, orRefuse}
+use Rattle.limits.specs.declared.Refusal.the-variants.{BadStore}
+use Rattle.limits.proofs.Laws.{number-positive}
+use Rattle.output.specs.Output.{fitted, leaves, writtenFrom}
+use Rattle.c_answers.specs.Given.{writtenNumber}
+use Rattle.listing_lines.specs.Listing.{listing, listingOf}
+use Rattle.record.specs.Record.{Record}
 use Rattle.edit.specs.Edit.{over}
-use Rattle.dialog_id.specs.Ident.{ident}
-use Rattle.book.specs.Calls.{request, response, terminate, localNumber, interval, get, findByRequest, findByCallId, count, allIds, Call, put, update, remove, sweep, read, lent, imageIn}
-use Rattle.book.specs.Book.{emptyStore}
-use Rattle.book.specs.Store.{run}
-use Rattle.book.specs.History.{All, World, world, bookLog, Demand3, Sent, Returned, EachShows, Ran, start, called}
+use Rattle.dialog_id.specs.Ident.{Ident, ident}
+use Rattle.book.specs.Calls.{request, response, terminate, localNumber, interval, get, findByRequest, findByCallId, count, allIds, Call, put, update, remove, sweep, read, lent, imageIn, Answer}
+use Rattle.book.specs.Book.{Book, storeRead, emptyStore, find}
+use Rattle.book.specs.Store.{Left, run}
+use Rattle.book.specs.History.{All, Entry, World, isTaken, book, lending, next, world, usedBytes, bookLog, says, orEarlier, remoteBy, Demand3, Sent, Returned, EachShows, Ran, start, called}
+use Rattle.book.specs.Rules.{CallRules}
 use Rattle.book.specs.Returned.{Returns, Lent, lentAfter}
-use Rattle.book.proofs.Demand3.{ran-is, demand3-kept, memory-long}
+use Rattle.book.proofs.Demand3.{ran-is, ruled-holds, demand3-kept, memory-long}
 use Rattle.sip_dialog.proofs.stores.sip_dialog_put.Reads as put-reads
 use Rattle.sip_dialog.proofs.stores.sip_dialog_request.Reads as request-reads
 use Rattle.sip_dialog.proofs.stores.sip_dialog_response.Reads as response-reads
@@ -32,6 +44,7 @@ use Rattle.sip_dialog.proofs.store_readings.sip_dialog_find_by_call_id.
 use Rattle.sip_dialog.proofs.store_readings.sip_dialog_find_by_request.Reads as find-by-request-reads
 use Rattle.sip_dialog.proofs.store_readings.sip_dialog_count.Reads as count-reads
 use Rattle.sip_dialog.proofs.store_readings.sip_dialog_all_ids.Reads as all-ids-reads
+use Rattle.sip_dialog.proofs.store_readings.sip_dialog_listing.Reads as listing-reads
 
 -- ---- what the functions are lent beside the store
 
@@ -185,8 +198,113 @@ made-sent m (one-more {cs} {w} {rs} d c after left number given kept s) =
     let long : length (w .memory) ≡ length m = ap (λ (x : World). length (x .memory)) (ran-is rustLimits m (made-ran m d) .0) ∙ memory-long m cs before in
     (record { lends = omega (arith, lends-all s, length-take (lent c) (w .memory), long); bytes = image-bytes s }, before)
 
--- Demand 3, of the code: it holds of every such list; the memory and the used length are those that it speaks of; and every call returned the book's number, and left
--- the book's values in what was lent for them.
-pub demand3-of-calls : (m : List ℕ) {cs : List Call} {w : World} {rs : List Returned} → Made m cs w rs
+-- the memory and the used length are those that demand 3 speaks of; and every call returned the book's number, and left the book's values in what was lent for them
+pub book-followed : (m : List ℕ) {cs : List Call} {w : World} {rs : List Returned} → Made m cs w rs
     → Demand3 rustLimits m cs × ((w ≡ world rustLimits m cs) × EachShows (bookLog rustLimits cs) rs)
-demand3-of-calls m d = demand3-kept m (made-ran m d) (made-sent m d)
+book-followed m d = demand3-kept m (made-ran m d) (made-sent m d)
+
+-- ---- what a caller sees
+
+-- the remote number by what the caller saw alone: of each call its arguments, and whether it returned 0
+unfoldable pub remoteSeen : Ident → List Returned → Option ℕ
+remoteSeen i [] = none
+remoteSeen i (r ∷ rs) = cond (eqb (r .number) 0) (orEarlier (says i (r .call)) (remoteSeen i rs)) (remoteSeen i rs)
+
+-- `sip_dialog_listing` was called: with these bytes as the store and this output it was entered, with that output it returned, and this number
+pub record Listed (bytes output output′ : List ℕ) (number : ℕ) : Type 0 where
+  pub κs : Lfts 3
+  pub store : RefT (List ℕ)
+  pub out : RefT (List ℕ)
+  pub written : RefT ℕ
+  pub store′ : RefT (List ℕ)
+  pub out′ : RefT (List ℕ)
+  pub written′ : RefT ℕ
+  pub kept : listing-reads.Post κs (store, (out, (written, tt))) number (store′, (out′, (written′, tt)))
+  pub store-is : store .now ≡ bytes
+  pub out-is : out .now ≡ output
+  pub out-then : out′ .now ≡ output′
+
+-- Demand 3, of the C functions, after every list of calls of them
+pub record OfCalls (m : List ℕ) (cs : List Call) (w : World) (rs : List Returned) : Type 0 where
+  -- the demand's sentences, of the book and of the definition of the calls; the memory and the used length are those that it speaks of
+  pub demand3 : Demand3 rustLimits m cs
+  pub world-is : w ≡ world rustLimits m cs
+  -- "the calls refused are those that the book refuses": every call returned the book's number, and left the book's values
+  pub shown : EachShows (bookLog rustLimits cs) rs
+  -- the next call, whichever it is, returns the number and leaves the records and values that the rules say; b and held are read from the store before it and after it
+  pub next-call : (c : Call) (after : List ℕ) (left number : ℕ) (given kept : Lent) → Served c (take (lent c) (w .memory)) (w .used) after left number given kept
+      → (b held : Book) → storeRead (usedBytes w) ≡ some b → storeRead (usedBytes (record { memory = after ++ drop (lent c) (w .memory); used = left })) ≡ some held
+      → CallRules rustLimits b (record { call = c; number = number; lent = given; left = kept }) held
+  -- "the remote number is the last so taken since the dialog's latest accepted put, or else the one put": told from arguments and returned numbers
+  pub remote-seen : (i : Ident) (b : Book) (r : Record) → storeRead (usedBytes w) ≡ some b → find i b ≡ some r → remoteSeen i rs ≡ some (r .numbers .remote)
+  -- the handover listing of the used bytes is the listing of the book's records, in its order
+  pub listing-seen : (output output′ : List ℕ) (number : ℕ) → Listed (usedBytes w) output output′ number → length (usedBytes w) ≤ rustLimits .listedStore
+      → length (listingOf (book rustLimits cs)) ≤ length output → (number ≡ 0) × (output′ ≡ over (listingOf (book rustLimits cs)) output)
+
+number-zero : (a : Answer) → eqb (numberIn a) 0 ≡ isTaken a
+number-zero (refused cause) = ne-eqb (numberOf cause) 0 (λ q. let z = number-positive cause in omega (arith, z, q))
+number-zero (given v) = refl
+
+seen-same : (i : Ident) (es : List Entry) (rs : List Returned) → EachShows es rs → remoteSeen i rs ≡ remoteBy i es
+unfolding remoteBy remoteSeen
+seen-same i [] [] h = refl
+seen-same i [] (r ∷ rs) h = absurd h
+seen-same i (e ∷ es) [] h = absurd h
+seen-same i (e ∷ es) (r ∷ rs) h =
+    let same : eqb (r .number) 0 ≡ isTaken (e .answer) = ap (λ x. eqb x 0) (h .0 .number-is) ∙ number-zero (e .answer) in
+    ap₂ (λ (c : Call) (o : Option ℕ). cond (eqb (r .number) 0) (orEarlier (says i c) o) o) (h .0 .same-call) (seen-same i es rs (h .1))
+    ∙ ap (λ t. cond t (orEarlier (says i (e .call)) (remoteBy i es)) (remoteBy i es)) same
+
+same-book : {x y : Book} → some x ≡ some y → x ≡ y
+same-book e = cc
+
+pub demand3-of-calls : (m : List ℕ) {cs : List Call} {w : World} {rs : List Returned} → Made m cs w rs → OfCalls m cs w rs
+unfolding world listing
+demand3-of-calls m {cs} {w} {rs} d = record {
+  demand3 = k .0;
+  world-is = same;
+  shown = k .1 .1;
+  next-call = λ c after left number given kept s b held was now.
+      let e = one-more d c after left number given kept s in
+      let sent = made-sent m e in
+      let l : lending rustLimits c w ≡ lending rustLimits c (world rustLimits m cs) = ap (lending rustLimits c) same in
+      ruled-holds m cs (sent .1) (record { call = c; number = number; lent = given; left = kept }) b held (sent .0)
+      (record {
+        same-call = refl;
+        number-is = keeps s .number-is ∙ ap (λ (x : Left). numberIn (x .answer)) l;
+        values-are = values s ∙ ap (λ (x : Left). lentAfter (x .answer) given) l;
+      })
+      (ap (λ (x : World). storeRead (usedBytes x)) (sym same) ∙ was)
+      (ap (λ (x : World). storeRead (usedBytes x)) (sym (stepped e)) ∙ now);
+  remote-seen = λ i b r was f.
+      let here : find i (book rustLimits cs) ≡ some r = ap (find i) (sym (reads b was)) ∙ f in
+      seen-same i (bookLog rustLimits cs) rs (k .1 .1) ∙ (ap (remoteBy i) (sym (k .0 .answers)) ∙ k .0 .remote-rule i r here);
+  listing-seen = λ output output′ number l small fits. listed-book output output′ number l small fits;
+}
+  where
+    k : Demand3 rustLimits m cs × ((w ≡ world rustLimits m cs) × EachShows (bookLog rustLimits cs) rs)
+    k = book-followed m d
+
+    same : w ≡ world rustLimits m cs
+    same = k .1 .0
+
+    reads : (b : Book) → storeRead (usedBytes w) ≡ some b → b ≡ book rustLimits cs
+    reads b was = same-book (sym was ∙ (ap (λ (x : World). storeRead (usedBytes x)) same ∙ k .0 .reads))
+
+    -- the world after one more call
+    stepped : {c : Call} {v : World} {e : Returned} → Made m (c ∷ cs) v (e ∷ rs) → v ≡ next rustLimits c (world rustLimits m cs)
+    stepped e = book-followed m e .1 .0
+
+    listed-book : (output output′ : List ℕ) (number : ℕ) → Listed (usedBytes w) output output′ number → length (usedBytes w) ≤ rustLimits .listedStore
+        → length (listingOf (book rustLimits cs)) ≤ length output → (number ≡ 0) × (output′ ≡ over (listingOf (book rustLimits cs)) output)
+    listed-book output output′ number l small fits =
+        let back : storeRead (usedBytes w) ≡ some (book rustLimits cs) = ap (λ (x : World). storeRead (usedBytes x)) same ∙ k .0 .reads in
+        let text : listing rustLimits (usedBytes w) (length output) ≡ given (listingOf (book rustLimits cs)) =
+        rw (le-ltb (rustLimits .listedStore) (length (usedBytes w)) small)
+        (ap (λ o. andThen (orRefuse BadStore o) (λ rs. fitted (length output) (listingOf rs))) back
+        ∙ rw (le-ltb (length output) (length (listingOf (book rustLimits cs))) fits)) in
+        let whole : listing rustLimits (l .store .now) (length (l .out .now)) ≡ given (listingOf (book rustLimits cs)) =
+        ap₂ (λ (s t : List ℕ). listing rustLimits s (length t)) (l .store-is) (l .out-is) ∙ text in (
+          l .kept .0 .0 ∙ ap (λ o. writtenNumber (writtenFrom o)) whole,
+          sym (l .out-then) ∙ (l .kept .1 ∙ ap₂ (λ (o : Outcome (List ℕ)) (t : List ℕ). leaves o t) whole (l .out-is)),
+        )
