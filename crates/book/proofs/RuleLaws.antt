@@ -1,5 +1,5 @@
 -- The book keeps the rules of specs/Rules.antt: each kind of call is taken, refused and answered as they say. Assumes nothing.
-use Prim.Native.Nat.{ℕ, _≤_, _<_}
+use Prim.Native.Nat.{ℕ, _+_, _-_, _≤_, _<_}
 use native.Mathlib.Omega.{arith}
 use native.Mathlib.Nat.{le-trans}
 use mathlib.Core.Path.{_≡_, refl, sym, ap, subst, _∙_}
@@ -17,13 +17,14 @@ use Rattle.limits.specs.declared.Refusal.{Refusal}
 use Rattle.limits.specs.declared.Refusal.the-variants.{TextTooLong, Malformed, BadStore, MissingHeader, InvalidStatus, InvalidUri, UriTooLong, RouteSetTooLarge, CSeqZero, CSeqTooLarge, InvalidCSeq, CSeqJumpTooLarge, SessionExpiresTooSmall, SessionExpiresTooLarge, NotFound, TooManyDialogs, TooManyEarlyDialogs, NoRoom, InvalidRAck, NoPendingList, UnknownRSeq, RAckCSeqMismatch, RAckMethodMismatch, DuplicatePrack, IdentifierEmpty, IdentifierTooLong, ControlCharacters, InvalidMethod}
 use Rattle.limits.proofs.Laws.{number-positive}
 use Rattle.text.specs.Text.{equal}
-use Rattle.msg.specs.Block.{blockCause}
+use Rattle.text.specs.Answers.{lengthCause}
+use Rattle.msg.specs.Block.{linesAfter, isBlock, blockCause}
 use Rattle.output.specs.Output.{fitted}
 use Rattle.prack_headers.specs.Sequence.{cseqNumber}
 use Rattle.session_timer_manager.specs.Intervals.{secondsCause}
 use Rattle.record.specs.Record.{Record, Numbers, image}
 use Rattle.record.specs.Changes.{withNumbers}
-use Rattle.record.specs.Rules.{Kind, ack, other, withAck, withSeconds, ackStep, requestStep, intervalStep}
+use Rattle.record.specs.Rules.{Kind, ack, other, withRemote, withAck, withSeconds, ackStep, requestStep, intervalStep}
 use Rattle.dialog.specs.OneImage.{onlyOne, oneRecord}
 use Rattle.dialog.specs.Updates.{kindOf, retargeted, requestUpdate, responseUpdate, terminateUpdate, localUpdate, intervalUpdate}
 use Rattle.dialog.proofs.StepLaws.{given-same, never-given, past-test}
@@ -33,8 +34,8 @@ use Rattle.dialog_id.specs.Ident.{Ident, identCause}
 use Rattle.book.specs.Calls.{Update, request, response, terminate, localNumber, interval, Reading, get, findByRequest, findByCallId, count, allIds, Call, put, update, remove, sweep, read, lent, Value, noValue, number, imageAt, written}
 use Rattle.book.specs.Book.{Book, size, identOf, isOf, firstPlace, namedIn, nameOf, find, findNamed, place, others, Staying, living, stays, isTerminated, keep, isEarly, isFull, isCrowded, updateCause, readingCause, argumentCause, revised, toldBy, placeOf, placeNamed, identifiersOf, reply, Change, set, alter, only, unchanged, apply, Taken, taking, judge, fitting, decide, after, answerOf}
 use Rattle.book.specs.Returned.{Lent, lentAfter}
-use Rattle.book.specs.History.{All, Readable, heard, InWindow, Returned}
-use Rattle.book.specs.Rules.{those, replacing, putIn, acknowledged, lasting, isEarlyOther, Free, Equals, Short, Formed, Sound, Done, TakenIf, CallRules}
+use Rattle.book.specs.History.{All, heard, InWindow, Returned}
+use Rattle.book.specs.Rules.{those, replacing, putIn, acknowledged, lasting, isEarlyOther, Free, Equals, textsIn, textsAsked, textsOf, blockIn, blockAsked, blockOf, Admitted, Done, TakenIf, CallRules}
 use Rattle.book.proofs.BookLaws.{Distinct}
 use Rattle.book.proofs.WindowLaws.{no-refusal, window-taken, taken-window}
 use Rattle.book.proofs.ChangeLaws.{full-off, crowded-off, Accepted, accepted}
@@ -177,33 +178,82 @@ module _ (L : LimitSet) (b : Book) (c : Call) (e : Returned) (held : Book) (s : 
 
 -- ---- the arguments
 
-short-none : (L : LimitSet) (i : Ident) → Short L i → identCause L i ≡ none
-short-none L i s = rw (le-ltb (L .text) (length (i .callId)) (s .callId), le-ltb (L .text) (length (i .localTag)) (s .localTag), le-ltb (L .text) (length (i .remoteTag)) (s .remoteTag))
+-- 1 of the first text that is too long
+abbrev longCause : LimitSet → List (List ℕ) → Option Refusal
+longCause L [] = none
+longCause L (t ∷ ts) = orElse (lengthCause L t) (longCause L ts)
 
-formed-none : (L : LimitSet) (block : List ℕ) → Formed L block → blockCause L block ≡ none
-unfolding blockCause
-formed-none L block f = rw (le-ltb (L .text) (length block) (f .fits), f .formed)
+abbrev malformed : List ℕ → Option Refusal
+malformed block = causeIf (not (isBlock block)) Malformed
 
-sound-none : (L : LimitSet) (u : Update) → Sound L u → updateCause L u ≡ none
-unfolding updateCause
-sound-none L (request method block) k = rw (le-ltb (L .text) (length method) (k .0)) (formed-none L block (k .1))
-sound-none L (response id status block) k = ap (λ o. orElse o (blockCause L block)) (short-none L id (k .0)) ∙ formed-none L block (k .1)
-sound-none L (terminate id) k = short-none L id k
-sound-none L (localNumber id) k = short-none L id k
-sound-none L (interval id s) k = short-none L id k
+else-again : (a b c : Option Refusal) → orElse a (orElse b c) ≡ orElse (orElse a b) c
+else-again none b c = refl
+else-again (some x) b c = refl
 
-readable-sound : (L : LimitSet) (method block : List ℕ) (n : ℕ) → Readable L method block n → Sound L (request method block)
-readable-sound L method block n r = (r .method-fits, record { fits = r .block-fits; formed = r .formed })
+else-none : (a : Option Refusal) → orElse a none ≡ a
+else-none none = refl
+else-none (some x) = refl
+
+named-cause : (L : LimitSet) (i : Ident) → identCause L i ≡ orElse (longCause L (i .callId ∷ i .localTag ∷ i .remoteTag ∷ [])) none
+named-cause L i =
+    ap (λ o. orElse (lengthCause L (i .callId)) (orElse (lengthCause L (i .localTag)) o)) (sym (else-none (lengthCause L (i .remoteTag)))) ∙ sym (else-none _)
+
+update-causes : (L : LimitSet) (u : Update) → updateCause L u ≡ orElse (longCause L (textsIn u)) (malformed (blockIn u))
+unfolding updateCause blockCause linesAfter
+update-causes L (request method block) =
+    ap (λ o. orElse (lengthCause L method) (orElse o (malformed block))) (sym (else-none (lengthCause L block))) ∙ else-again (lengthCause L method) (orElse (lengthCause L block) none) (malformed block)
+update-causes L (response id status block) =
+    by (lengthCause L (id .callId)) (lengthCause L (id .localTag)) (lengthCause L (id .remoteTag)) (lengthCause L block) (malformed block)
+  where
+    by : (p q r s t : Option Refusal) → orElse (orElse p (orElse q r)) (orElse s t) ≡ orElse (orElse p (orElse q (orElse r (orElse s none)))) t
+    by none none none s t = ap (λ o. orElse o t) (sym (else-none s))
+    by none none (some x) s t = refl
+    by none (some x) r s t = refl
+    by (some x) q r s t = refl
+update-causes L (terminate id) = named-cause L id
+update-causes L (localNumber id) = named-cause L id
+update-causes L (interval id s) = named-cause L id
+
+reading-causes : (L : LimitSet) (q : Reading) → readingCause L q ≡ orElse (longCause L (textsAsked q)) (malformed (blockAsked q))
+unfolding readingCause blockCause linesAfter
+reading-causes L (get id) = named-cause L id
+reading-causes L (findByRequest block) = ap (λ o. orElse o (malformed block)) (sym (else-none (lengthCause L block)))
+reading-causes L (findByCallId t) = sym (else-none (orElse (lengthCause L t) none) ∙ else-none (lengthCause L t))
+reading-causes L count = refl
+reading-causes L (allIds room) = refl
+
+-- 1 of the texts, then 2 of the block
+argument-causes : (L : LimitSet) (c : Call) → argumentCause L c ≡ orElse (longCause L (textsOf c)) (malformed (blockOf c))
+unfolding argumentCause linesAfter
+argument-causes L (put n s) = refl
+argument-causes L (update n u) = update-causes L u
+argument-causes L (remove n id) = named-cause L id
+argument-causes L (sweep n) = refl
+argument-causes L (read n q) = reading-causes L q
+
+none-long : (L : LimitSet) (ts : List (List ℕ)) → All (λ t. length t ≤ L .text) ts → longCause L ts ≡ none
+none-long L [] a = refl
+none-long L (t ∷ ts) a = rw (le-ltb (L .text) (length t) (a .0)) (none-long L ts (a .1))
+
+one-long : (L : LimitSet) (before rest : List (List ℕ)) (t : List ℕ) → L .text < length t → longCause L (before ++ (t ∷ rest)) ≡ some TextTooLong
+one-long L [] rest t h = rw (lt-ltb (L .text) (length t) h)
+one-long L (x ∷ before) rest t h = by (ltb (L .text) (length x)) (one-long L before rest t h)
+  where
+    by : (p : Bool) → longCause L (before ++ (t ∷ rest)) ≡ some TextTooLong → orElse (causeIf p TextTooLong) (longCause L (before ++ (t ∷ rest))) ≡ some TextTooLong
+    by true ih = refl
+    by false ih = ih
+
+no-argument : (L : LimitSet) (c : Call) → All (λ t. length t ≤ L .text) (textsOf c) → isBlock (blockOf c) ≡ true → argumentCause L c ≡ none
+no-argument L c a f = argument-causes L c ∙ (ap (λ o. orElse o (malformed (blockOf c))) (none-long L (textsOf c) a) ∙ ap (λ p. causeIf (not p) Malformed) f)
+
+admits : (L : LimitSet) (b : Book) (c : Call) → Admitted L b c → argumentCause L c ≡ none
+admits L b c k = no-argument L c (k .fits) (k .formed)
 
 -- ---- put
 
 module _ (L : LimitSet) (b : Book) (n : ℕ) (s : List ℕ) where
   abbrev onRecord : Record → Outcome Taken
   onRecord r = refuseIf (isFull L b) TooManyDialogs (refuseIf (isCrowded L r b) TooManyEarlyDialogs (taking (set r) noValue))
-
-  no-argument : argumentCause L (put n s) ≡ none
-  unfolding argumentCause
-  no-argument = refl
 
   put-read : (r : Record) → oneRecord s ≡ given r → judge L (put n s) b ≡ onRecord r
   unfolding judge
@@ -264,10 +314,6 @@ module _ (L : LimitSet) (b : Book) (n : ℕ) (u : Update) where
   abbrev onFound : Option Record → Outcome Taken
   onFound o = andThen (orRefuse NotFound o) (λ r. andThen (revised L u r) (λ now. taking (alter now) (toldBy u now)))
 
-  no-update-cause : Sound L u → argumentCause L (update n u) ≡ none
-  unfolding argumentCause
-  no-update-cause k = sound-none L u k
-
   update-unfound : findNamed (nameOf u) b ≡ none → judge L (update n u) b ≡ refused NotFound
   unfolding judge
   update-unfound f = ap onFound f
@@ -322,6 +368,35 @@ module _ (L : LimitSet) (block : List ℕ) (n : ℕ) (r : Record) (reads : cseqN
       by true q h = eqb-true n (r .numbers .remote) q
       by false q h = absurd (let z : _≡_ {A = ℕ} 0 1 = cc in omega arith)
 
+  -- the refusals of a number
+  zero-step : (kind : Kind) → n ≡ 0 → requestStep L kind n (r .numbers) ≡ refused CSeqZero
+  unfolding requestStep
+  zero-step kind z = rw (eq-eqb n 0 z)
+
+  large-step : 0 < n → L .cseq < n → requestStep L other n (r .numbers) ≡ refused CSeqTooLarge
+  unfolding requestStep
+  large-step p h = rw (ne-eqb n 0 (λ z. omega (arith, p, z)), lt-ltb (L .cseq) n h)
+
+  low-step : 0 < n → n ≤ L .cseq → n ≤ r .numbers .remote → requestStep L other n (r .numbers) ≡ refused InvalidCSeq
+  unfolding requestStep
+  low-step p s h =
+      rw (ne-eqb n 0 (λ z. omega (arith, p, z)), le-ltb (L .cseq) n s, ne-eqb (r .numbers .remote) 0 (λ z. omega (arith, p, h, z)), le-leb n (r .numbers .remote) h)
+
+  far-step : n ≤ L .cseq → 0 < r .numbers .remote → r .numbers .remote + L .cseqJump < n → requestStep L other n (r .numbers) ≡ refused CSeqJumpTooLarge
+  unfolding requestStep
+  far-step s p h =
+      rw (
+        ne-eqb n 0 (λ z. omega (arith, h, z)),
+        le-ltb (L .cseq) n s,
+        ne-eqb (r .numbers .remote) 0 (λ z. omega (arith, p, z)),
+        lt-leb n (r .numbers .remote) (omega (arith, h)),
+        lt-ltb (L .cseqJump) (n - r .numbers .remote) (omega (arith, h)),
+      )
+
+  unequal-step : 0 < n → n ≢ r .numbers .remote → requestStep L ack n (r .numbers) ≡ refused InvalidCSeq
+  unfolding requestStep
+  unequal-step p h = rw (ne-eqb n 0 (λ z. omega (arith, p, z)), ne-eqb n (r .numbers .remote) h)
+
 -- ---- intervals
 
 module _ (L : LimitSet) (s : ℕ) (r : Record) where
@@ -354,110 +429,165 @@ module _ (L : LimitSet) (b : Book) (d : Distinct b) (e : Returned) (held : Book)
   at-call : (c : Call) → e .call ≡ c → Saw L b c e held
   at-call c q = subst (λ x. Saw L b x e held) q s
 
+  -- the verdict refuses, or takes what fits
+  turned-back : (c : Call) (cause : Refusal) → e .call ≡ c → Admitted L b c → judge L c b ≡ refused cause → e .number ≡ numberOf cause
+  turned-back c cause q k j = refused-number L b c e held (at-call c q) (admits L b c k) (k .lends) cause j
+
+  taken-whole : (c : Call) (x : Change) (v : Value) (now : Book) → e .call ≡ c → Admitted L b c → apply x b ≡ now → judge L c b ≡ taking x v → size now ≤ lent c → Done e held now v
+  taken-whole c x v now q k a j f = done L b c e held (at-call c q) (admits L b c k) (k .lends) x v now a j f
+
+  -- ---- 1, 2, 3
+
+  argument-number : (cause : Refusal) → argumentCause L (e .call) ≡ some cause → e .number ≡ numberOf cause
+  unfolding decide
+  argument-number cause a =
+      saw-refused L b (e .call) e held s cause
+      (ap (λ o. refuseBy o (refuseIf (ltb (lent (e .call)) (size b)) BadStore (andThen (judge L (e .call) b) (λ t. fitting (lent (e .call)) b t)))) a)
+
+  too-long : (before rest : List (List ℕ)) (t : List ℕ) → textsOf (e .call) ≡ before ++ (t ∷ rest) → L .text < length t → e .number ≡ 1
+  too-long before rest t q h =
+      argument-number TextTooLong
+      (argument-causes L (e .call) ∙ ap (λ o. orElse o (malformed (blockOf (e .call)))) (ap (longCause L) q ∙ one-long L before rest t h))
+
+  not-formed : All (λ t. length t ≤ L .text) (textsOf (e .call)) → isBlock (blockOf (e .call)) ≡ false → e .number ≡ 2
+  not-formed a f =
+      argument-number Malformed
+      (argument-causes L (e .call)
+      ∙ (ap (λ o. orElse o (malformed (blockOf (e .call)))) (none-long L (textsOf (e .call)) a) ∙ ap (λ p. causeIf (not p) Malformed) f))
+
+  not-lent : All (λ t. length t ≤ L .text) (textsOf (e .call)) → isBlock (blockOf (e .call)) ≡ true → lent (e .call) < size b → e .number ≡ 3
+  unfolding decide
+  not-lent a f h =
+      saw-refused L b (e .call) e held s BadStore
+      (ap (λ o. refuseBy o (refuseIf (ltb (lent (e .call)) (size b)) BadStore (andThen (judge L (e .call) b) (λ t. fitting (lent (e .call)) b t)))) (no-argument L (e .call) a f)
+      ∙ ap (λ p. refuseIf p BadStore (andThen (judge L (e .call) b) (λ t. fitting (lent (e .call)) b t))) (lt-ltb (lent (e .call)) (size b) h))
+
+  -- ---- updates and readings
+
   -- an update of a record that is found
-  changes : (n : ℕ) (u : Update) (r : Record) (Condition : Type 0) (now : Record) → e .call ≡ update n u → size b ≤ n → Sound L u → findNamed (nameOf u) b ≡ some r
+  changes : (n : ℕ) (u : Update) (r : Record) (Condition : Type 0) (now : Record) → e .call ≡ update n u → Admitted L b (update n u) → findNamed (nameOf u) b ≡ some r
       → (Condition → revised L u r ≡ given now) → ((x : Record) → revised L u r ≡ given x → Condition) → TakenIf n e held Condition (replacing now b) (toldBy u now)
-  changes n u r Condition now q h k f to from =
-      taken-if L b (update n u) e held (at-call (update n u) q) (no-update-cause L b n u k) h Condition (alter now) (toldBy u now) (replacing now b) (amend-replaces now b d)
+  changes n u r Condition now q k f to from =
+      taken-if L b (update n u) e held (at-call (update n u) q) (admits L b (update n u) k) (k .lends) Condition (alter now) (toldBy u now) (replacing now b) (amend-replaces now b d)
       (λ c. update-given L b n u r now f (to c)) (λ t j. let g = given-update L b n u r f t j in from (g .0) (g .1))
 
   -- one that is refused
-  turns-back : (n : ℕ) (u : Update) (r : Record) (cause : Refusal) → e .call ≡ update n u → size b ≤ n → Sound L u → findNamed (nameOf u) b ≡ some r
+  turns-back : (n : ℕ) (u : Update) (r : Record) (cause : Refusal) → e .call ≡ update n u → Admitted L b (update n u) → findNamed (nameOf u) b ≡ some r
       → revised L u r ≡ refused cause → e .number ≡ numberOf cause
-  turns-back n u r cause q h k f v = refused-number L b (update n u) e held (at-call (update n u) q) (no-update-cause L b n u k) h cause (update-refused L b n u r cause f v)
+  turns-back n u r cause q k f v = turned-back (update n u) cause q k (update-refused L b n u r cause f v)
 
   -- a reading that is answered, and one that is refused
-  answers : (n : ℕ) (q : Reading) (v : Value) → e .call ≡ read n q → size b ≤ n → readingCause L q ≡ none → reply q b ≡ given v → Done e held b v
-  unfolding judge argumentCause
-  answers n q v p h k w = done L b (read n q) e held (at-call (read n q) p) k h unchanged v b refl (ap (λ o. andThen o (λ x. taking unchanged x)) w) h
+  answers : (n : ℕ) (q : Reading) (v : Value) → e .call ≡ read n q → Admitted L b (read n q) → reply q b ≡ given v → Done e held b v
+  unfolding judge
+  answers n q v p k w = taken-whole (read n q) unchanged v b p k refl (ap (λ o. andThen o (λ x. taking unchanged x)) w) (k .lends)
 
-  answers-not : (n : ℕ) (q : Reading) (cause : Refusal) → e .call ≡ read n q → size b ≤ n → readingCause L q ≡ none → reply q b ≡ refused cause → e .number ≡ numberOf cause
-  unfolding judge argumentCause
-  answers-not n q cause p h k w = refused-number L b (read n q) e held (at-call (read n q) p) k h cause (ap (λ o. andThen o (λ x. taking unchanged x)) w)
+  answers-not : (n : ℕ) (q : Reading) (cause : Refusal) → e .call ≡ read n q → Admitted L b (read n q) → reply q b ≡ refused cause → e .number ≡ numberOf cause
+  unfolding judge
+  answers-not n q cause p k w = turned-back (read n q) cause p k (ap (λ o. andThen o (λ x. taking unchanged x)) w)
 
-  request-taken-if : (n : ℕ) (method block : List ℕ) (cseq : ℕ) (r : Record) → e .call ≡ update n (request method block) → size b ≤ n → Readable L method block cseq
-      → kindOf method ≡ other → findNamed (namedIn block) b ≡ some r → TakenIf n e held (InWindow L (r .numbers .remote) cseq) (replacing (heard block cseq r) b) noValue
-  unfolding revised
-  request-taken-if n method block cseq r q h k o f =
-      changes n (request method block) r (InWindow L (r .numbers .remote) cseq) (heard block cseq r) q h (readable-sound L method block cseq k) f
-      (λ w. ap (λ x. requestUpdate L x block r) o ∙ (request-stepped L block cseq r (k .cseq) other ∙ ap (onStep L block cseq r (k .cseq)) (window-taken L cseq (r .numbers) w)))
-      (λ x v. let y = step-of L block cseq r (k .cseq) other x (sym (ap (λ z. requestUpdate L z block r) o) ∙ v) in taken-window L cseq (r .numbers) (y .0) (y .1) .0)
+  -- ---- requests
 
-  ack-taken-if : (n : ℕ) (method block : List ℕ) (cseq : ℕ) (r : Record) → e .call ≡ update n (request method block) → size b ≤ n → Readable L method block cseq
-      → kindOf method ≡ ack → findNamed (namedIn block) b ≡ some r → TakenIf n e held (Equals (r .numbers .remote) cseq) (replacing (acknowledged block cseq r) b) noValue
-  unfolding revised
-  ack-taken-if n method block cseq r q h k o f =
-      changes n (request method block) r (Equals (r .numbers .remote) cseq) (acknowledged block cseq r) q h (readable-sound L method block cseq k) f
-      (λ w. ap (λ x. requestUpdate L x block r) o ∙ (request-stepped L block cseq r (k .cseq) ack ∙ ap (onStep L block cseq r (k .cseq)) (equals-taken L block cseq r (k .cseq) w)))
-      (λ x v. let y = step-of L block cseq r (k .cseq) ack x (sym (ap (λ z. requestUpdate L z block r) o) ∙ v) in taken-equals L block cseq r (k .cseq) (y .0) (y .1))
+  module _ (n : ℕ) (method block : List ℕ) (cseq : ℕ) (r : Record) (q : e .call ≡ update n (request method block)) (k : Admitted L b (update n (request method block)))
+      (f : findNamed (namedIn block) b ≡ some r) (c : cseqNumber block ≡ some cseq) where
+    stepped : (kind : Kind) → kindOf method ≡ kind → revised L (request method block) r ≡ onStep L block cseq r c (requestStep L kind cseq (r .numbers))
+    unfolding revised
+    stepped kind o = ap (λ x. requestUpdate L x block r) o ∙ request-stepped L block cseq r c kind
 
-  request-unread : (n : ℕ) (method block : List ℕ) (r : Record) → e .call ≡ update n (request method block) → size b ≤ n → Sound L (request method block)
+    step-refused : (kind : Kind) (cause : Refusal) → kindOf method ≡ kind → requestStep L kind cseq (r .numbers) ≡ refused cause → e .number ≡ numberOf cause
+    step-refused kind cause o v = turns-back n (request method block) r cause q k f (stepped kind o ∙ ap (onStep L block cseq r c) v)
+
+    step-taken-if : (kind : Kind) (Condition : Type 0) (y : Numbers) → kindOf method ≡ kind → (Condition → requestStep L kind cseq (r .numbers) ≡ given y)
+        → ((x : Numbers) → requestStep L kind cseq (r .numbers) ≡ given x → Condition) → TakenIf n e held Condition (replacing (retargeted block (withNumbers y r)) b) noValue
+    step-taken-if kind Condition y o to from =
+        changes n (request method block) r Condition (retargeted block (withNumbers y r)) q k f (λ w. stepped kind o ∙ ap (onStep L block cseq r c) (to w))
+        (λ x v. let g = both-given (requestStep L kind cseq (r .numbers)) (λ z. given (retargeted block (withNumbers z r))) (sym (stepped kind o) ∙ v) in from (g .0) (g .1))
+
+    zero : cseq ≡ 0 → e .number ≡ 9
+    zero z = by (kindOf method) refl
+      where
+        by : (kind : Kind) → kindOf method ≡ kind → e .number ≡ 9
+        by ack o = step-refused ack CSeqZero o (zero-step L block cseq r c ack z)
+        by other o = step-refused other CSeqZero o (zero-step L block cseq r c other z)
+
+  request-unread : (n : ℕ) (method block : List ℕ) (r : Record) → e .call ≡ update n (request method block) → Admitted L b (update n (request method block))
       → findNamed (namedIn block) b ≡ some r → cseqNumber block ≡ none → e .number ≡ 4
   unfolding revised requestUpdate
-  request-unread n method block r q h k f z =
-      turns-back n (request method block) r MissingHeader q h k f
+  request-unread n method block r q k f z =
+      turns-back n (request method block) r MissingHeader q k f
       (ap (λ o. andThen (orRefuse MissingHeader o) (λ x. andThen (requestStep L (kindOf method) x (r .numbers)) (λ y. given (retargeted block (withNumbers y r))))) z)
 
+  -- ---- look-ups
+
+  lies : (test : Record → Bool) (front rest : Book) (r : Record) → b ≡ front ++ (r ∷ rest) → All (λ x. test x ≡ false) front → test r ≡ true
+      → placeOf test firstPlace b ≡ some (imageAt (size front) (length (image .write r)))
+  lies test front rest r w a i =
+      ap (placeOf test firstPlace) w ∙ (place-behind test firstPlace front rest r a i ∙ ap (λ k. some (imageAt k (length (image .write r)))) (omega arith))
+
+  before : (front rest : Book) (r : Record) → b ≡ front ++ (r ∷ rest) → All (λ x. isOf (identOf r) x ≡ false) front
+  before front rest r w = none-before front rest r (subst Distinct w d)
+
+  unnamed : (o : Option Ident) → findNamed o b ≡ none → placeNamed o b ≡ none
+  unnamed none f = refl
+  unnamed (some i) f = place-nowhere (isOf i) firstPlace b (not-held i b f)
+
+  smaller : (k : Staying) (n : ℕ) → size b ≤ n → size (those (stays k) b) ≤ n
+  smaller k n h = subst (λ x. size x ≤ n) (keep-those k b) (le-trans (kept-size k b) h)
+
   pub rules : CallRules L b e held
-  unfolding revised judge argumentCause readingCause reply
+  unfolding revised judge reply
   rules = record {
     refused-keeps = saw-keeps L b (e .call) e held s;
     refused-gives = saw-gives-none L b (e .call) e held s;
-    put-rule = λ n i r q h w.
-        taken-if L b (put n i) e held (at-call (put n i) q) (no-argument L b n i) h (Free L r b) (set r) noValue (putIn (find (identOf r) b) r b) (place-puts r b d)
+    long-1 = too-long;
+    malformed-2 = not-formed;
+    unlent-3 = not-lent;
+    put-rule = λ n i r q k w.
+        taken-if L b (put n i) e held (at-call (put n i) q) (admits L b (put n i) k) (k .lends) (Free L r b) (set r) noValue (putIn (find (identOf r) b) r b) (place-puts r b d)
         (put-free L b n i r w) (free-put L b n i r w);
-    put-3 = λ n i cause q h w. refused-number L b (put n i) e held (at-call (put n i) q) (no-argument L b n i) h BadStore (put-unread L b n i cause w);
-    put-16 = λ n i r q h w f. refused-number L b (put n i) e held (at-call (put n i) q) (no-argument L b n i) h TooManyDialogs (put-full L b n i r w f);
-    put-17 = λ n i r q h w f t m. refused-number L b (put n i) e held (at-call (put n i) q) (no-argument L b n i) h TooManyEarlyDialogs (put-crowded L b n i r w f t m);
-    request-rule = request-taken-if;
-    ack-rule = ack-taken-if;
+    put-3 = λ n i cause q k w. turned-back (put n i) BadStore q k (put-unread L b n i cause w);
+    put-16 = λ n i r q k w f. turned-back (put n i) TooManyDialogs q k (put-full L b n i r w f);
+    put-17 = λ n i r q k w f t m. turned-back (put n i) TooManyEarlyDialogs q k (put-crowded L b n i r w f t m);
+    request-rule = λ n method block cseq r q k f c o.
+        step-taken-if n method block cseq r q k f c other (InWindow L (r .numbers .remote) cseq) (withRemote cseq (r .numbers)) o (window-taken L cseq (r .numbers)) (λ x v. taken-window L cseq (r .numbers) x v .0);
+    ack-rule = λ n method block cseq r q k f c o.
+        step-taken-if n method block cseq r q k f c ack (Equals (r .numbers .remote) cseq) (withAck cseq (r .numbers)) o (equals-taken L block cseq r c) (taken-equals L block cseq r c);
     request-4 = request-unread;
-    response-rule = λ n id status block r q h k f. changes n (response id status block) r (Unit {0}) (responseUpdate L status block r) q h k f (λ u. refl) (λ x v. tt);
-    terminate-rule = λ n id r q h k f. changes n (terminate id) r (Unit {0}) (terminateUpdate r) q h k f (λ u. refl) (λ x v. tt);
-    local-rule = λ n id r q h k f. changes n (localNumber id) r (Unit {0}) (localUpdate r) q h k f (λ u. refl) (λ x v. tt);
-    interval-rule = λ n id t r q h k f. changes n (interval id t) r ((L .minExpires ≤ t) × (t ≤ L .maxExpires)) (lasting t r) q h k f (interval-in L t r) (interval-out L t r);
-    interval-13 = λ n id t r q h k f l.
-        let j = update-refused L b n (interval id t) r (SessionExpiresTooSmall (L .minExpires)) f (interval-short L t r l) in
-        let g = at-call (update n (interval id t)) q in
-        let v = judged-refused L b (update n (interval id t)) e held g (sound-none L (interval id t) k) h (SessionExpiresTooSmall (L .minExpires)) j in
-        (saw-refused L b (update n (interval id t)) e held g (SessionExpiresTooSmall (L .minExpires)) v, g .left-is ∙ ap (λ x. lentAfter (answerOf x) (e .lent)) v);
-    interval-14 = λ n id t r q h k f l m. turns-back n (interval id t) r SessionExpiresTooLarge q h k f (interval-long L t r l m);
-    update-15 = λ n u q h k f. refused-number L b (update n u) e held (at-call (update n u) q) (no-update-cause L b n u k) h NotFound (update-unfound L b n u f);
-    remove-rule = λ n id r q h k f.
-        done L b (remove n id) e held (at-call (remove n id) q) (short-none L id k) h (only (others id)) noValue (those (λ x. not (isOf id x)) b) (keep-those (others id) b)
-        (ap (λ o. andThen (orRefuse NotFound o) (λ x. taking (only (others id)) noValue)) f) (smaller (others id) n h);
-    remove-15 = λ n id q h k f.
-        refused-number L b (remove n id) e held (at-call (remove n id) q) (short-none L id k) h NotFound (ap (λ o. andThen (orRefuse NotFound o) (λ x. taking (only (others id)) noValue)) f);
-    sweep-rule = λ n q h.
-        done L b (sweep n) e held (at-call (sweep n) q) refl h (only living) noValue (those (λ x. not (isTerminated (x .numbers .state))) b) (keep-those living b) refl (smaller living n h);
-    get-rule = λ n id front rest r q h k w i.
-        answers n (get id) _ q h (short-none L id k) (ap (orRefuse NotFound) (lies (isOf id) front rest r w (subst (λ x. All (λ y. isOf x y ≡ false) front) i (before front rest r w)) (same-ident (identOf r) id i)));
-    get-15 = λ n id q h k f. answers-not n (get id) NotFound q h (short-none L id k) (ap (orRefuse NotFound) (place-nowhere (isOf id) firstPlace b (not-held id b f)));
-    find-by-request-rule = λ n block front rest r q h k w i.
-        answers n (findByRequest block) _ q h (formed-none L block k)
+    request-9 = λ n method block r q k f c. zero n method block 0 r q k f c refl;
+    request-10 = λ n method block cseq r q k f c o p h. step-refused n method block cseq r q k f c other CSeqTooLarge o (large-step L block cseq r c p h);
+    request-11 = λ n method block cseq r q k f c o p m h. step-refused n method block cseq r q k f c other InvalidCSeq o (low-step L block cseq r c p m h);
+    request-12 = λ n method block cseq r q k f c o m p h. step-refused n method block cseq r q k f c other CSeqJumpTooLarge o (far-step L block cseq r c m p h);
+    ack-11 = λ n method block cseq r q k f c o p h. step-refused n method block cseq r q k f c ack InvalidCSeq o (unequal-step L block cseq r c p h);
+    response-rule = λ n id status block r q k f. changes n (response id status block) r (Unit {0}) (responseUpdate L status block r) q k f (λ u. refl) (λ x v. tt);
+    terminate-rule = λ n id r q k f. changes n (terminate id) r (Unit {0}) (terminateUpdate r) q k f (λ u. refl) (λ x v. tt);
+    local-rule = λ n id r q k f. changes n (localNumber id) r (Unit {0}) (localUpdate r) q k f (λ u. refl) (λ x v. tt);
+    interval-rule = λ n id t r q k f. changes n (interval id t) r ((L .minExpires ≤ t) × (t ≤ L .maxExpires)) (lasting t r) q k f (interval-in L t r) (interval-out L t r);
+    interval-13 = λ n id t r q k f l.
+        let c = update n (interval id t) in
+        let least = SessionExpiresTooSmall (L .minExpires) in
+        let g = at-call c q in
+        let v = judged-refused L b c e held g (admits L b c k) (k .lends) least (update-refused L b n (interval id t) r least f (interval-short L t r l)) in
+        (saw-refused L b c e held g least v, g .left-is ∙ ap (λ x. lentAfter (answerOf x) (e .lent)) v);
+    interval-14 = λ n id t r q k f l m. turns-back n (interval id t) r SessionExpiresTooLarge q k f (interval-long L t r l m);
+    update-15 = λ n u q k f. turned-back (update n u) NotFound q k (update-unfound L b n u f);
+    remove-rule = λ n id r q k f.
+        taken-whole (remove n id) (only (others id)) noValue (those (λ x. not (isOf id x)) b) q k (keep-those (others id) b)
+        (ap (λ o. andThen (orRefuse NotFound o) (λ x. taking (only (others id)) noValue)) f) (smaller (others id) n (k .lends));
+    remove-15 = λ n id q k f. turned-back (remove n id) NotFound q k (ap (λ o. andThen (orRefuse NotFound o) (λ x. taking (only (others id)) noValue)) f);
+    sweep-rule = λ n q k. taken-whole (sweep n) (only living) noValue (those (λ x. not (isTerminated (x .numbers .state))) b) q k (keep-those living b) refl (smaller living n (k .lends));
+    get-rule = λ n id front rest r q k w i.
+        answers n (get id) _ q k
+        (ap (orRefuse NotFound) (lies (isOf id) front rest r w (subst (λ x. All (λ y. isOf x y ≡ false) front) i (before front rest r w)) (same-ident (identOf r) id i)));
+    get-15 = λ n id q k f. answers-not n (get id) NotFound q k (ap (orRefuse NotFound) (place-nowhere (isOf id) firstPlace b (not-held id b f)));
+    find-by-request-rule = λ n block front rest r q k w i.
+        answers n (findByRequest block) _ q k
         (ap (λ o. orRefuse NotFound (placeNamed o b)) i ∙ ap (orRefuse NotFound) (lies (isOf (identOf r)) front rest r w (before front rest r w) (same-ident (identOf r) (identOf r) refl)));
-    find-by-request-15 = λ n block q h k f. answers-not n (findByRequest block) NotFound q h (formed-none L block k) (ap (orRefuse NotFound) (unnamed (namedIn block) f));
-    find-by-call-id-rule = λ n t front rest r q h k w a i.
-        answers n (findByCallId t) _ q h (rw (le-ltb (L .text) (length t) k))
+    find-by-request-15 = λ n block q k f. answers-not n (findByRequest block) NotFound q k (ap (orRefuse NotFound) (unnamed (namedIn block) f));
+    find-by-call-id-rule = λ n t front rest r q k w a i.
+        answers n (findByCallId t) _ q k
         (ap (orRefuse NotFound) (lies (λ x. equal (x .callId) t) front rest r w (all-unequal t front a) (ap (λ x. equal x t) i ∙ equal-same t)));
-    find-by-call-id-15 = λ n t q h k a.
-        answers-not n (findByCallId t) NotFound q h (rw (le-ltb (L .text) (length t) k)) (ap (orRefuse NotFound) (place-nowhere (λ x. equal (x .callId) t) firstPlace b (all-unequal t b a)));
-    count-rule = λ n q h. answers n count (number (length b)) q h refl refl;
-    all-ids-rule = λ n room q h f. answers n (allIds room) (written (identifiersOf b)) q h refl (rw (le-ltb room (length (identifiersOf b)) f));
-    all-ids-18 = λ n room q h f. answers-not n (allIds room) NoRoom q h refl (rw (lt-ltb room (length (identifiersOf b)) f));
+    find-by-call-id-15 = λ n t q k a.
+        answers-not n (findByCallId t) NotFound q k (ap (orRefuse NotFound) (place-nowhere (λ x. equal (x .callId) t) firstPlace b (all-unequal t b a)));
+    count-rule = λ n q k. answers n count (number (length b)) q k refl;
+    all-ids-rule = λ n room q k f. answers n (allIds room) (written (identifiersOf b)) q k (rw (le-ltb room (length (identifiersOf b)) f));
+    all-ids-18 = λ n room q k f. answers-not n (allIds room) NoRoom q k (rw (lt-ltb room (length (identifiersOf b)) f));
   }
-    where
-      smaller : (k : Staying) (n : ℕ) → size b ≤ n → size (those (stays k) b) ≤ n
-      smaller k n h = subst (λ x. size x ≤ n) (keep-those k b) (le-trans (kept-size k b) h)
-
-      before : (front rest : Book) (r : Record) → b ≡ front ++ (r ∷ rest) → All (λ x. isOf (identOf r) x ≡ false) front
-      before front rest r w = none-before front rest r (subst Distinct w d)
-
-      lies : (test : Record → Bool) (front rest : Book) (r : Record) → b ≡ front ++ (r ∷ rest) → All (λ x. test x ≡ false) front → test r ≡ true
-          → placeOf test firstPlace b ≡ some (imageAt (size front) (length (image .write r)))
-      lies test front rest r w a i =
-          ap (placeOf test firstPlace) w ∙ (place-behind test firstPlace front rest r a i ∙ ap (λ k. some (imageAt k (length (image .write r)))) (omega arith))
-
-      unnamed : (o : Option Ident) → findNamed o b ≡ none → placeNamed o b ≡ none
-      unnamed none f = refl
-      unnamed (some i) f = place-nowhere (isOf i) firstPlace b (not-held i b f)
