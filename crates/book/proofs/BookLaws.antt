@@ -13,7 +13,7 @@ use Rattle.record.specs.Record.{Record}
 use Rattle.record.specs.Store.{sameId, lacks, distinct}
 use Rattle.dialog_id.specs.Ident.{Ident, sameIdent}
 use Rattle.book.specs.Book.{Book, identOf, find, place, amend, Staying, others, stays, keep, earlyIn, earlyOf}
-use Rattle.book.specs.History.{All}
+use Rattle.book.specs.Trace.{All}
 use Rattle.book.proofs.IdentLaws.{same-ident, other-ident, here, there, id-cases}
 
 -- ---- a record that may be held

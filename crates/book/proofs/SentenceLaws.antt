@@ -25,8 +25,8 @@ use Rattle.dialog.specs.Matching.{namedBy}
 use Rattle.dialog.proofs.StepLaws.{given-same, never-given}
 use Rattle.dialog_id.specs.Ident.{Ident}
 use Rattle.book.specs.Calls.{Reading, Call, put, remove, read, lent, Value, imageAt, noValue}
-use Rattle.book.specs.Book.{Book, storeImage, size, identOf, isOf, swapped, namedIn, find, findNamed, place, Staying, others, living, isTerminated, stays, keep, isEarly, isEarlyOf, earlyIn, earlyOf, isFull, isCrowded, argumentCause, placeOf, reply, set, only, unchanged, apply, Taken, taking, judge, fitting, decide, after}
-use Rattle.book.specs.History.{All}
+use Rattle.book.specs.Book.{Book, Contents, recordsImage, size, identOf, isOf, swapped, namedIn, find, findNamed, place, Staying, others, living, isTerminated, stays, keep, isEarly, isEarlyOf, earlyIn, earlyOf, isFull, isCrowded, argumentCause, placeOf, reply, set, only, unchanged, revise, apply, Taken, taking, judge, fitting, decide, after}
+use Rattle.book.specs.Trace.{All}
 use Rattle.book.proofs.IdentLaws.{id-cases}
 use Rattle.book.proofs.BookLaws.{some-is, no-record, not-none, Distinct, find-here, find-there, place-here, place-there, keep-here, keep-there, others-here, others-there, others-all, others-gone, find-ident}
 use Rattle.book.proofs.WindowLaws.{no-refusal}
@@ -90,13 +90,13 @@ crowded-refused L r b e h = ap₂ (λ p q. p && q) e (le-leb (L .earlyPerCallId)
 pub removed : (i : Ident) (b : Book) → find i (keep (others i) b) ≡ none
 removed i b = others-gone i b
 
-pub removal-drops : (L : LimitSet) (n : ℕ) (i : Ident) (b : Book) (t : Taken) → judge L (remove n i) b ≡ given t → apply (t .change) b ≡ keep (others i) b
+pub removal-drops : (L : LimitSet) (n : ℕ) (i : Ident) (b : Book) (t : Taken) → judge L (remove n i) b ≡ given t → revise (t .change) b ≡ keep (others i) b
 unfolding judge
 removal-drops L n i b t h = by (find i b) h
   where
-    by : (o : Option Record) → andThen (orRefuse NotFound o) (λ r. taking (only (others i)) noValue) ≡ given t → apply (t .change) b ≡ keep (others i) b
+    by : (o : Option Record) → andThen (orRefuse NotFound o) (λ r. taking (only (others i)) noValue) ≡ given t → revise (t .change) b ≡ keep (others i) b
     by none e = absurd (never-given e)
-    by (some r) e = sym (ap (λ (y : Taken). apply (y .change) b) (given-same e))
+    by (some r) e = sym (ap (λ (y : Taken). revise (y .change) b) (given-same e))
 
 pub others-found : (i j : Ident) (b : Book) → j ≢ i → find j (keep (others i) b) ≡ find j b
 others-found i j [] n = refl
@@ -144,36 +144,39 @@ living-found i r (x ∷ b) h l = by (isTerminated (x .numbers .state)) refl (λ 
 
 -- ---- "Look-ups, other readings and refused calls change nothing"
 
-pub reading-keeps : (L : LimitSet) (n : ℕ) (q : Reading) (b : Book) (t : Taken) → judge L (read n q) b ≡ given t → apply (t .change) b ≡ b
+pub reading-keeps : (L : LimitSet) (n : ℕ) (q : Reading) (b : Book) (t : Taken) → judge L (read n q) b ≡ given t → revise (t .change) b ≡ b
 unfolding judge
 reading-keeps L n q b t h = by (reply q b) h
   where
-    by : (o : Outcome Value) → andThen o (λ v. taking unchanged v) ≡ given t → apply (t .change) b ≡ b
+    by : (o : Outcome Value) → andThen o (λ v. taking unchanged v) ≡ given t → revise (t .change) b ≡ b
     by (refused cause) e = absurd (never-given e)
-    by (given v) e = sym (ap (λ (y : Taken). apply (y .change) b) (given-same e))
+    by (given v) e = sym (ap (λ (y : Taken). revise (y .change) b) (given-same e))
 
-pub refusal-keeps : (b : Book) (cause : Refusal) → after (refused cause) b ≡ b
+pub refusal-keeps : (b : Contents) (cause : Refusal) → after (refused cause) b ≡ b
 refusal-keeps b cause = refl
 
 -- ---- 18 "result larger than its lent bytes": only then
 
-pub fits-taken : (L : LimitSet) (c : Call) (b : Book) (t : Taken) → argumentCause L c ≡ none → size b ≤ lent c → judge L c b ≡ given t → size (apply (t .change) b) ≤ lent c → decide L c b ≡ given t
+pub fits-taken : (L : LimitSet) (c : Call) (x : Contents) (t : Taken) → argumentCause L c ≡ none → size x ≤ lent c → judge L c (x .records) ≡ given t → size (apply (t .change) x) ≤ lent c → decide L c x ≡ given t
 unfolding decide fitting
-fits-taken L c b t a h j f =
-    ap (λ x. refuseBy x (refuseIf (ltb (lent c) (size b)) BadStore (andThen (judge L c b) (λ s. fitting (lent c) b s)))) a
-    ∙ (no-refusal (ltb (lent c) (size b)) BadStore _ (le-ltb (lent c) (size b) h)
-    ∙ (ap (λ v. andThen v (λ s. fitting (lent c) b s)) j
-    ∙ no-refusal (ltb (lent c) (size (apply (t .change) b))) NoRoom _ (le-ltb (lent c) (size (apply (t .change) b)) f)))
+fits-taken L c x t a h j f =
+    ap (λ y. refuseBy y (refuseIf (ltb (lent c) (size x)) BadStore (andThen (judge L c (x .records)) (λ s. fitting (lent c) x s)))) a
+    ∙ (no-refusal (ltb (lent c) (size x)) BadStore _ (le-ltb (lent c) (size x) h)
+    ∙ (ap (λ v. andThen v (λ s. fitting (lent c) x s)) j
+    ∙ no-refusal (ltb (lent c) (size (apply (t .change) x))) NoRoom _ (le-ltb (lent c) (size (apply (t .change) x)) f)))
 
 -- dropping records takes no more bytes: a removal and a sweep never get 18
-pub kept-size : (k : Staying) (b : Book) → size (keep k b) ≤ size b
+pub kept-size : (k : Staying) (b : Book) → length (recordsImage (keep k b)) ≤ length (recordsImage b)
 unfolding writeAll
 kept-size k [] = le-refl _
 kept-size k (r ∷ b) = by (stays k r) (kept-size k b)
   where
-    by : (t : Bool) → size (keep k b) ≤ size b → size (cond t (r ∷ keep k b) (keep k b)) ≤ size (r ∷ b)
-    by true h = omega (arith, length-append (image .write r) (storeImage (keep k b)), length-append (image .write r) (storeImage b), h)
-    by false h = omega (arith, length-append (image .write r) (storeImage b), h)
+    by : (t : Bool) → length (recordsImage (keep k b)) ≤ length (recordsImage b) → length (recordsImage (cond t (r ∷ keep k b) (keep k b))) ≤ length (recordsImage (r ∷ b))
+    by true h = omega (arith, length-append (image .write r) (recordsImage (keep k b)), length-append (image .write r) (recordsImage b), h)
+    by false h = omega (arith, length-append (image .write r) (recordsImage b), h)
+
+pub only-size : (k : Staying) (x : Contents) → size (apply (only k) x) ≤ size x
+only-size k x = kept-size k (x .records)
 
 -- ---- the place that a look-up answers
 
@@ -181,7 +184,7 @@ kept-size k (r ∷ b) = by (stays k r) (kept-size k b)
 pub record Lies (i : Ident) (r : Record) (at : ℕ) (b : Book) : Type 0 where
   pub before : ℕ
   pub answer : placeOf (isOf i) at b ≡ some (imageAt (at + before) (length (image .write r)))
-  pub lies : take (length (image .write r)) (drop before (storeImage b)) ≡ image .write r
+  pub lies : take (length (image .write r)) (drop before (recordsImage b)) ≡ image .write r
 
 pub lies-there : (i : Ident) (r : Record) (at : ℕ) (b : Book) → find i b ≡ some r → Lies i r at b
 unfolding placeOf writeAll
@@ -195,7 +198,7 @@ lies-there i r at (x ∷ b) h = by (isOf i x) refl (λ e. lies-there i r (at + l
         (record {
           before = 0;
           answer = ap (λ t. cond t (some (imageAt at (length (image .write x)))) (placeOf (isOf i) (at + length (image .write x)) b)) e ∙ ap (λ k. some (imageAt k (length (image .write x)))) (omega arith);
-          lies = take-append-seam (image .write x) (storeImage b);
+          lies = take-append-seam (image .write x) (recordsImage b);
         })
     by false e ih =
         let l = ih (sym (ap (λ t. cond t (some x) (find i b)) e) ∙ h) in
@@ -204,7 +207,7 @@ lies-there i r at (x ∷ b) h = by (isOf i x) refl (λ e. lies-there i r (at + l
           answer =
               ap (λ t. cond t (some (imageAt at (length (image .write x)))) (placeOf (isOf i) (at + length (image .write x)) b)) e
               ∙ (l .answer ∙ ap (λ k. some (imageAt k (length (image .write r)))) (omega arith));
-          lies = ap (take (length (image .write r))) (drop-append-add (image .write x) (storeImage b) (l .before)) ∙ l .lies;
+          lies = ap (take (length (image .write r))) (drop-append-add (image .write x) (recordsImage b) (l .before)) ∙ l .lies;
         }
 
 -- ---- the record that `find_by_request` finds is the one that `matches_request` says yes to

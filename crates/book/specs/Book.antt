@@ -30,14 +30,32 @@ use Rattle.book.specs.Calls.{Call, put, update, remove, sweep, read, len
 abbrev pub Book : Type 0
 Book = List Record
 
+-- what a store holds
+pub record Contents : Type 0 where
+  pub records : Book
+
+abbrev pub empty : Contents
+empty = record { records = [] }
+
 -- ---- its bytes
 
--- a store written from the book, and the records read from a store's used bytes
-abbrev pub storeImage : Book → List ℕ
-storeImage b = encodeAll b
+-- the images of records, one after another
+abbrev pub recordsImage : Book → List ℕ
+recordsImage b = encodeAll b
 
-abbrev pub storeRead : List ℕ → Option Book
-storeRead bytes = decodeAll bytes
+abbrev pub recordsSize : Book → ℕ
+recordsSize b = length (recordsImage b)
+
+-- a store written from the book, and what a store's used bytes are read as
+abbrev pub storeImage : Contents → List ℕ
+storeImage x = recordsImage (x .records)
+
+abbrev pub contentsOf : Option Book → Option Contents
+contentsOf none = none
+contentsOf (some b) = some (record { records = b })
+
+abbrev pub storeRead : List ℕ → Option Contents
+storeRead bytes = contentsOf (decodeAll bytes)
 
 -- the used bytes of an empty store
 abbrev pub emptyStore : List ℕ
@@ -48,8 +66,8 @@ abbrev pub firstPlace : ℕ
 firstPlace = length emptyStore
 
 -- how many bytes the book takes
-abbrev pub size : Book → ℕ
-size b = length (storeImage b)
+abbrev pub size : Contents → ℕ
+size x = length (storeImage x)
 
 -- ---- identifiers
 
@@ -144,7 +162,7 @@ isFull L b = leb (L .dialogs) (length b)
 unfoldable pub isCrowded : LimitSet → Record → Book → Bool
 isCrowded L r b = isEarly (r .numbers .state) && leb (L .earlyPerCallId) (earlyOf (r .callId) (keep (others (identOf r)) b))
 
--- ---- 1 and 2: what the arguments alone refuse
+-- ---- 1, 2, and 3 of a put's image: what the arguments alone refuse
 
 unfoldable pub updateCause : LimitSet → Update → Option Refusal
 updateCause L (request method block) = orElse (lengthCause L method) (blockCause L block)
@@ -160,8 +178,13 @@ readingCause L (findByCallId t) = lengthCause L t
 readingCause L count = none
 readingCause L (allIds room) = none
 
+-- 3 of a put's image; 3 of the store and this one are the same refusal
+abbrev pub causeIn : {A : Type 0} → Outcome A → Option Refusal
+causeIn (refused cause) = some cause
+causeIn (given a) = none
+
 unfoldable pub argumentCause : LimitSet → Call → Option Refusal
-argumentCause L (put n image) = none
+argumentCause L (put n image) = causeIn (oneRecord image)
 argumentCause L (update n u) = updateCause L u
 argumentCause L (remove n id) = identCause L id
 argumentCause L (sweep n) = none
@@ -218,11 +241,14 @@ pub data Change : Type 0 where
   only : Staying → Change
   unchanged : Change
 
-abbrev pub apply : Change → Book → Book
-apply (set r) b = place r b
-apply (alter r) b = amend r b
-apply (only k) b = keep k b
-apply unchanged b = b
+abbrev pub revise : Change → Book → Book
+revise (set r) b = place r b
+revise (alter r) b = amend r b
+revise (only k) b = keep k b
+revise unchanged b = b
+
+abbrev pub apply : Change → Contents → Contents
+apply d x = record { records = revise d (x .records) }
 
 -- an accepted call: its change, and the value that it answers
 pub record Taken : Type 0 where
@@ -244,17 +270,17 @@ judge L (sweep n) b = taking (only living) noValue
 judge L (read n q) b = andThen (reply q b) (λ v. taking unchanged v)
 
 -- 18, last: the store written from the book with the change is larger than the lent bytes
-unfoldable pub fitting : ℕ → Book → Taken → Outcome Taken
-fitting n b t = refuseIf (ltb n (size (apply (t .change) b))) NoRoom (given t)
+unfoldable pub fitting : ℕ → Contents → Taken → Outcome Taken
+fitting n x t = refuseIf (ltb n (size (apply (t .change) x))) NoRoom (given t)
 
 -- the book's verdict: 1, 2; 3 where the used length is over the lent; then the causes over the records; 18
-unfoldable pub decide : LimitSet → Call → Book → Outcome Taken
-decide L c b = refuseBy (argumentCause L c) (refuseIf (ltb (lent c) (size b)) BadStore (andThen (judge L c b) (λ t. fitting (lent c) b t)))
+unfoldable pub decide : LimitSet → Call → Contents → Outcome Taken
+decide L c x = refuseBy (argumentCause L c) (refuseIf (ltb (lent c) (size x)) BadStore (andThen (judge L c (x .records)) (λ t. fitting (lent c) x t)))
 
 -- the book after the verdict, and the answer
-abbrev pub after : Outcome Taken → Book → Book
-after (refused cause) b = b
-after (given t) b = apply (t .change) b
+abbrev pub after : Outcome Taken → Contents → Contents
+after (refused cause) x = x
+after (given t) x = apply (t .change) x
 
 abbrev pub answerOf : Outcome Taken → Answer
 answerOf (refused cause) = refused cause

@@ -19,7 +19,8 @@ use Rattle.output.specs.declared.Written.the-variants as written
 use Rattle.record.proofs.CodecLaws.{Bytes, bytes-take}
 use Rattle.record.proofs.StoreLaws.{decoded}
 use Rattle.book.specs.Calls.{Call, read, Reading, Value, Answer}
-use Rattle.book.specs.Book.{Book, storeImage, storeRead, size, Taken, taking, unchanged, apply, argumentCause, judge, reply}
+use Rattle.record.specs.Store.{decodeAll}
+use Rattle.book.specs.Book.{Book, Contents, contentsOf, recordsImage, recordsSize, size, Taken, taking, unchanged, apply, argumentCause, judge, reply}
 use Rattle.book.specs.Store.{Left, Result, resultOf, verdict, leave, run}
 use Rattle.book.specs.Returned.{Returns, countAfter, writtenBy, writtenIn}
 use Rattle.c_answers.specs.Given.{WrittenGives, writtenNumber, writtenAfter}
@@ -77,30 +78,30 @@ pub record Unmoved (l : Left) (bytes : List ℕ) (used : ℕ) : Type 0 where
   pub used-same : used ≡ l .used
 
 module _ (L : LimitSet) (n : ℕ) (q : Reading) (bytes : List ℕ) (used : ℕ) (h : Bytes bytes) where
-  abbrev replied : Book → Outcome Value → Outcome Result
-  replied b o = andThen (andThen o (λ v. taking unchanged v)) (λ t. refuseIf (ltb (length bytes) (size (apply (t .change) b))) NoRoom (given (resultOf b t)))
+  abbrev replied : Contents → Outcome Value → Outcome Result
+  replied x o = andThen (andThen o (λ v. taking unchanged v)) (λ t. refuseIf (ltb (length bytes) (size (apply (t .change) x))) NoRoom (given (resultOf x t)))
 
   -- the images over the bytes that they were read from
-  back : (b : Book) → used ≤ length bytes → storeRead (take used bytes) ≡ some b → (o : Outcome Value) → Unmoved (leave bytes used (replied b o)) bytes used
+  back : (b : Book) → used ≤ length bytes → decodeAll (take used bytes) ≡ some b → (o : Outcome Value) → Unmoved (leave bytes used (replied (record { records = b }) o)) bytes used
   back b w e (refused cause) = record { bytes-same = refl; used-same = refl }
-  back b w e (given v) = by (ltb (length bytes) (size b))
+  back b w e (given v) = by (ltb (length bytes) (recordsSize b))
     where
-      d : take used bytes ≡ storeImage b
+      d : take used bytes ≡ recordsImage b
       d = decoded (take used bytes) b (bytes-take used bytes h) e .0
 
-      long : used ≡ size b
+      long : used ≡ recordsSize b
       long = omega (arith, ap length d, length-take-le used bytes w)
 
-      by : (t : Bool) → Unmoved (leave bytes used (refuseIf t NoRoom (given (resultOf b (record { change = unchanged; value = v }))))) bytes used
+      by : (t : Bool) → Unmoved (leave bytes used (refuseIf t NoRoom (given (resultOf (record { records = b }) (record { change = unchanged; value = v }))))) bytes used
       by true = record { bytes-same = refl; used-same = refl }
       by false = record { bytes-same = sym (take-append-drop used bytes) ∙ ap₂ (λ (x : List ℕ) (k : ℕ). x ++ drop k bytes) d long; used-same = long }
 
   pub reading-keeps : Unmoved (run L (read n q) bytes used) bytes used
   unfolding run verdict judge
-  reading-keeps = by (argumentCause L (read n q)) (ltb (length bytes) used) refl (storeRead (take used bytes)) refl
+  reading-keeps = by (argumentCause L (read n q)) (ltb (length bytes) used) refl (decodeAll (take used bytes)) refl
     where
-      by : (a : Option Refusal) (t : Bool) → ltb (length bytes) used ≡ t → (o : Option Book) → storeRead (take used bytes) ≡ o
-          → Unmoved (leave bytes used (refuseBy a (refuseIf t BadStore (andThen (orRefuse BadStore o) (λ b. replied b (reply q b)))))) bytes used
+      by : (a : Option Refusal) (t : Bool) → ltb (length bytes) used ≡ t → (o : Option Book) → decodeAll (take used bytes) ≡ o
+          → Unmoved (leave bytes used (refuseBy a (refuseIf t BadStore (andThen (orRefuse BadStore (contentsOf o)) (λ x. replied x (reply q (x .records))))))) bytes used
       by (some cause) t e o p = record { bytes-same = refl; used-same = refl }
       by none true e o p = record { bytes-same = refl; used-same = refl }
       by none false e none p = record { bytes-same = refl; used-same = refl }

@@ -25,7 +25,8 @@ use Rattle.dialog_changes.specs.declared.Raised.the-variants as raised
 use Rattle.dialog_id.specs.Ident.{Ident}
 use Rattle.book.specs.Calls.{localNumber, Call, update, read, count, allIds, Value, noValue, number, imageAt, Answer}
 use Rattle.book.specs.Calls as calls
-use Rattle.book.specs.Book.{Book, storeRead, size, find, alter, unchanged, Taken, apply, argumentCause, readingCause, revised, judge, reply, identifiersOf}
+use Rattle.record.specs.Store.{decodeAll}
+use Rattle.book.specs.Book.{Book, Contents, contentsOf, size, find, alter, unchanged, Taken, apply, argumentCause, readingCause, revised, judge, reply, identifiersOf}
 use Rattle.book.specs.Store.{Left, Result, resultOf, verdict, leave, run}
 use Rattle.book.specs.Returned.{Returns, numberAfter, lengthAfter, leastAfter, writtenBy, writtenIn, raisedBy, raisedIn, idsWritten}
 use Rattle.dialog_manager.proofs.LookupLaws.{Kept, kept, store-refuses, replies}
@@ -71,23 +72,23 @@ module _ (L : LimitSet) (n : ℕ) (i : Ident) (bytes : List ℕ) (used : ℕ) wh
 
   numbered : Numbered (run L the-call bytes used .answer)
   unfolding run verdict judge revised
-  numbered = by (argumentCause L the-call) (ltb (length bytes) used) (storeRead (take used bytes))
+  numbered = by (argumentCause L the-call) (ltb (length bytes) used) (decodeAll (take used bytes))
     where
-      full : (b : Book) (now : Record) (t : Bool) → Numbered (leave bytes used (refuseIf t NoRoom (given (resultOf b (told now)))) .answer)
+      full : (b : Contents) (now : Record) (t : Bool) → Numbered (leave bytes used (refuseIf t NoRoom (given (resultOf b (told now)))) .answer)
       full b now true = tt
       full b now false = λ old. refl
 
-      on : (b : Book) (o : Option Record)
+      on : (b : Contents) (o : Option Record)
           → Numbered (leave bytes used (andThen (andThen (orRefuse NotFound o) (λ r. given (told (localUpdate r)))) (λ t. refuseIf (ltb (length bytes) (size (apply (t .change) b))) NoRoom (given (resultOf b t)))) .answer)
       on b none = tt
       on b (some r) = full b (localUpdate r) (ltb (length bytes) (size (apply (alter (localUpdate r)) b)))
 
       by : (a : Option Refusal) (t : Bool) (o : Option Book)
-          → Numbered (leave bytes used (refuseBy a (refuseIf t BadStore (andThen (orRefuse BadStore o) (λ b. andThen (andThen (orRefuse NotFound (find i b)) (λ r. given (told (localUpdate r)))) (λ t. refuseIf (ltb (length bytes) (size (apply (t .change) b))) NoRoom (given (resultOf b t))))))) .answer)
+          → Numbered (leave bytes used (refuseBy a (refuseIf t BadStore (andThen (orRefuse BadStore (contentsOf o)) (λ b. andThen (andThen (orRefuse NotFound (find i (b .records))) (λ r. given (told (localUpdate r)))) (λ t. refuseIf (ltb (length bytes) (size (apply (t .change) b))) NoRoom (given (resultOf b t))))))) .answer)
       by (some cause) t o = tt
       by none true o = tt
       by none false none = tt
-      by none false (some b) = on b (find i b)
+      by none false (some b) = on (record { records = b }) (find i b)
 
   pub raised-returns : (w : Raised) (after : List ℕ) (old : ℕ) (left : RaisedNumbers) (r : ℕ) → w ≡ raisedIn (run L the-call bytes used)
       → after ≡ run L the-call bytes used .bytes → RaisedGives w (record { used = used; number = old }) r left
@@ -119,14 +120,14 @@ module _ (L : LimitSet) (n : ℕ) (bytes : List ℕ) (used : ℕ) (h : Bytes byt
   unfolding readingCause
   none-asked = refl
 
-  counts : (k : Kept bytes used) → given (number (length (k .records))) ≡ run L (read n count) bytes used .answer
+  counts : (k : Kept bytes used) → given (number (length (k .contents .records))) ≡ run L (read n count) bytes used .answer
   unfolding reply
-  counts k = replies L n count bytes used h none-asked k (given (number (length (k .records)))) refl
+  counts k = replies L n count bytes used h none-asked k (given (number (length (k .contents .records)))) refl
 
   -- 3 is the only cause
   only : {c : Refusal} → countAnswer (recordsHeld bytes used) ≡ held.Refused c → c ≡ BadStore
   unfolding recordsHeld
-  only {c} e = from (ltb (length bytes) used) (storeRead (take used bytes)) e
+  only {c} e = from (ltb (length bytes) used) (decodeAll (take used bytes)) e
     where
       from : (t : Bool) (o : Option Book) → countAnswer (refuseIf t BadStore (orRefuse BadStore o)) ≡ held.Refused c → c ≡ BadStore
       from true o e = cc
@@ -145,7 +146,7 @@ module _ (L : LimitSet) (n : ℕ) (bytes : List ℕ) (used : ℕ) (h : Bytes byt
       by (held.Records m) e =
           let k = kept bytes used e in
           let x = counts k in
-          let y : m ≡ length (k .records) = let u : held.Records m ≡ held.Records (length (k .records)) = sym e ∙ ap countAnswer (k .held) in cc in
+          let y : m ≡ length (k .contents .records) = let u : held.Records m ≡ held.Records (length (k .contents .records)) = sym e ∙ ap countAnswer (k .held) in cc in
           (g .number-is ∙ (ap heldNumber e ∙ ap numberIn x), g .left-is ∙ (ap (λ (z : Held). heldAfter z old) e ∙ (y ∙ ap (λ (a : Answer). numberAfter a old) x)))
 
 -- ---- the identifiers
@@ -156,26 +157,26 @@ Sized (refused cause) = Unit {0}
 Sized (given v) = (old : ℕ) → lengthAfter (given v) 0 ≡ lengthAfter (given v) old
 
 module _ (L : LimitSet) (n room : ℕ) (bytes : List ℕ) (used : ℕ) where
-  abbrev ended : Book → Outcome (List ℕ) → Outcome Result
+  abbrev ended : Contents → Outcome (List ℕ) → Outcome Result
   ended b o = andThen (andThen (andThen o (λ s. given (calls.written s))) (λ v. given (record { change = unchanged; value = v }))) (λ t. refuseIf (ltb (length bytes) (size (apply (t .change) b))) NoRoom (given (resultOf b t)))
 
   sized : Sized (run L (read n (allIds room)) bytes used .answer)
   unfolding run verdict judge reply
-  sized = by (argumentCause L (read n (allIds room))) (ltb (length bytes) used) (storeRead (take used bytes))
+  sized = by (argumentCause L (read n (allIds room))) (ltb (length bytes) used) (decodeAll (take used bytes))
     where
-      full : (b : Book) (s : List ℕ) (t : Bool) → Sized (leave bytes used (refuseIf t NoRoom (given (resultOf b (record { change = unchanged; value = calls.written s })))) .answer)
+      full : (b : Contents) (s : List ℕ) (t : Bool) → Sized (leave bytes used (refuseIf t NoRoom (given (resultOf b (record { change = unchanged; value = calls.written s })))) .answer)
       full b s true = tt
       full b s false = λ old. refl
 
-      on : (b : Book) (o : Outcome (List ℕ)) → Sized (leave bytes used (ended b o) .answer)
+      on : (b : Contents) (o : Outcome (List ℕ)) → Sized (leave bytes used (ended b o) .answer)
       on b (refused cause) = tt
       on b (given s) = full b s (ltb (length bytes) (size b))
 
-      by : (a : Option Refusal) (t : Bool) (o : Option Book) → Sized (leave bytes used (refuseBy a (refuseIf t BadStore (andThen (orRefuse BadStore o) (λ b. ended b (fitted room (identifiersOf b)))))) .answer)
+      by : (a : Option Refusal) (t : Bool) (o : Option Book) → Sized (leave bytes used (refuseBy a (refuseIf t BadStore (andThen (orRefuse BadStore (contentsOf o)) (λ b. ended b (fitted room (identifiersOf (b .records))))))) .answer)
       by (some cause) t o = tt
       by none true o = tt
       by none false none = tt
-      by none false (some b) = on b (fitted room (identifiersOf b))
+      by none false (some b) = on (record { records = b }) (fitted room (identifiersOf b))
 
   pub ids-answers : (w : Written) (old r left : ℕ) → w ≡ idsWritten (run L (read n (allIds room)) bytes used .answer) → WrittenGives w old r left
       → (r ≡ numberIn (run L (read n (allIds room)) bytes used .answer)) × (left ≡ lengthAfter (run L (read n (allIds room)) bytes used .answer) old)

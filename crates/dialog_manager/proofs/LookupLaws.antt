@@ -30,7 +30,7 @@ use Rattle.text.specs.Spans.{partIn}
 use Rattle.dialog.proofs.MatchLaws.{Asked}
 use Rattle.dialog_id.specs.Ident.{Ident, ident, identCause}
 use Rattle.book.specs.Calls.{Reading, findByCallId, findByRequest, read, Value, imageAt}
-use Rattle.book.specs.Book.{Book, storeImage, storeRead, isOf, find, namedIn, size, firstPlace, placeOf, reply, readingCause, argumentCause, judge, taking, unchanged, apply}
+use Rattle.book.specs.Book.{Book, Contents, contentsOf, recordsImage, storeRead, isOf, find, namedIn, size, firstPlace, placeOf, reply, readingCause, argumentCause, judge, taking, unchanged, apply}
 use Rattle.book.specs.Store.{Result, resultOf, verdict, leave, run}
 use Rattle.dialog_manager.specs.Search.{named, Spot, first, foundOf, foundIn, Stored, Stands}
 use Rattle.dialog_manager.specs.Lookups.{getting, placeIn}
@@ -72,16 +72,16 @@ first-find i at (r ∷ b) = by (isOf i r) (first-find i (at + length (image .wri
     by false e = e
 
 module _ (test : Record → Bool) (s : List ℕ) (k : Stored s) where
-  placed : placeIn test (storeRead s) ≡ orRefuse NotFound (valueAt (first test firstPlace (k .records)))
+  placed : placeIn test (decodeAll s) ≡ orRefuse NotFound (valueAt (first test firstPlace (k .records)))
   placed = ap (placeIn test) (k .are) ∙ ap (orRefuse NotFound) (first-place test firstPlace (k .records))
 
-  asked : foundIn test (storeRead s) ≡ foundOf (first test firstPlace (k .records))
+  asked : foundIn test (decodeAll s) ≡ foundOf (first test firstPlace (k .records))
   asked = ap (foundIn test) (k .are)
 
-  pub none-found : found.Nothing ≡ foundIn test (storeRead s) → refused NotFound ≡ placeIn test (storeRead s)
+  pub none-found : found.Nothing ≡ foundIn test (decodeAll s) → refused NotFound ≡ placeIn test (decodeAll s)
   none-found e = by (first test firstPlace (k .records)) refl (e ∙ asked)
     where
-      by : (o : Option Spot) → first test firstPlace (k .records) ≡ o → found.Nothing ≡ foundOf o → refused NotFound ≡ placeIn test (storeRead s)
+      by : (o : Option Spot) → first test firstPlace (k .records) ≡ o → found.Nothing ≡ foundOf o → refused NotFound ≡ placeIn test (decodeAll s)
       by none q h = sym (placed ∙ ap (λ (x : Option Spot). orRefuse NotFound (valueAt x)) q)
       by (some x) q h = absurd (let z : _≡_ {A = ℕ} 0 1 = cc in omega arith)
 
@@ -92,10 +92,10 @@ module _ (test : Record → Bool) (s : List ℕ) (k : Stored s) where
     pub ends-after : at ≤ r .end
     ends-after = omega (arith, stood .step .moves)
 
-    pub one-found : found.At at r ≡ foundIn test (storeRead s) → given (imageAt at (r .end - at)) ≡ placeIn test (storeRead s)
+    pub one-found : found.At at r ≡ foundIn test (decodeAll s) → given (imageAt at (r .end - at)) ≡ placeIn test (decodeAll s)
     one-found e = by (first test firstPlace (k .records)) refl (e ∙ asked)
       where
-        by : (o : Option Spot) → first test firstPlace (k .records) ≡ o → found.At at r ≡ foundOf o → given (imageAt at (r .end - at)) ≡ placeIn test (storeRead s)
+        by : (o : Option Spot) → first test firstPlace (k .records) ≡ o → found.At at r ≡ foundOf o → given (imageAt at (r .end - at)) ≡ placeIn test (decodeAll s)
         by none q h = absurd (let z : _≡_ {A = ℕ} 0 1 = cc in omega arith)
         by (some x) q h =
             let l = spot-reads test s k x b q in
@@ -110,10 +110,11 @@ module _ (test : Record → Bool) (s : List ℕ) (k : Stored s) where
 
 -- the records of a lent store
 pub record Kept (bytes : List ℕ) (used : ℕ) : Type 0 where
-  pub records : Book
+  pub contents : Contents
   pub within : used ≤ length bytes
-  pub are : storeRead (take used bytes) ≡ some records
-  pub held : recordsHeld bytes used ≡ given records
+  pub read : storeRead (take used bytes) ≡ some contents
+  pub are : decodeAll (take used bytes) ≡ some (contents .records)
+  pub held : recordsHeld bytes used ≡ given (contents .records)
 
 -- what the count of a store says
 pub kept : (bytes : List ℕ) (used : ℕ) {n : ℕ} → countAnswer (recordsHeld bytes used) ≡ held.Records n → Kept bytes used
@@ -124,10 +125,10 @@ kept bytes used {n} e = by (ltb (length bytes) used) refl (decodeAll (take used 
         → Kept bytes used
     by true q o p e = absurd (let z : _≡_ {A = ℕ} 0 1 = cc in omega arith)
     by false q none p e = absurd (let z : _≡_ {A = ℕ} 0 1 = cc in omega arith)
-    by false q (some b) p e = record { records = b; within = ltb-false (length bytes) used q; are = p; held = rw (q, p) }
+    by false q (some b) p e = record { contents = record { records = b }; within = ltb-false (length bytes) used q; read = ap contentsOf p; are = p; held = rw (q, p) }
 
 pub stored : (bytes : List ℕ) (used : ℕ) → Kept bytes used → Stored (take used bytes)
-stored bytes used k = record { records = k .records; are = k .are }
+stored bytes used k = record { records = k .contents .records; are = k .are }
 
 not-kept : (bytes : List ℕ) (used : ℕ) {cause : Refusal} → countAnswer (recordsHeld bytes used) ≡ held.Refused cause → recordsHeld bytes used ≡ refused BadStore
 unfolding recordsHeld
@@ -140,31 +141,31 @@ not-kept bytes used {cause} e = by (ltb (length bytes) used) (decodeAll (take us
 
 module _ (L : LimitSet) (n : ℕ) (q : Reading) (bytes : List ℕ) (used : ℕ) (h : Bytes bytes) where
   -- a store that was read is no larger than its lent bytes
-  fits : (b : Book) → ltb (length bytes) used ≡ false → storeRead (take used bytes) ≡ some b → ltb (length bytes) (size b) ≡ false
+  fits : (b : Book) → ltb (length bytes) used ≡ false → decodeAll (take used bytes) ≡ some b → ltb (length bytes) (size (record { records = b })) ≡ false
   fits b t e =
-      let d : take used bytes ≡ storeImage b = decoded (take used bytes) b (bytes-take used bytes h) e .0 in
+      let d : take used bytes ≡ recordsImage b = decoded (take used bytes) b (bytes-take used bytes h) e .0 in
       let l : used ≤ length bytes = ltb-false (length bytes) used t in
-      le-ltb (length bytes) (size b) (omega (arith, ap length d, length-take-le used bytes l))
+      le-ltb (length bytes) (size (record { records = b })) (omega (arith, ap length d, length-take-le used bytes l))
 
-  abbrev onRecords : Book → Outcome Result
-  onRecords b = andThen (andThen (reply q b) (λ v. taking unchanged v)) (λ t. refuseIf (ltb (length bytes) (size (apply (t .change) b))) NoRoom (given (resultOf b t)))
+  abbrev onRecords : Contents → Outcome Result
+  onRecords x = andThen (andThen (reply q (x .records)) (λ v. taking unchanged v)) (λ t. refuseIf (ltb (length bytes) (size (apply (t .change) x))) NoRoom (given (resultOf x t)))
 
-  on-records : (b : Book) → ltb (length bytes) (size b) ≡ false → leave bytes used (onRecords b) .answer ≡ reply q b
-  on-records b e = by (reply q b)
+  on-records : (x : Contents) → ltb (length bytes) (size x) ≡ false → leave bytes used (onRecords x) .answer ≡ reply q (x .records)
+  on-records x e = by (reply q (x .records))
     where
-      by : (v : Outcome Value) → leave bytes used (andThen (andThen v (λ x. taking unchanged x)) (λ t. refuseIf (ltb (length bytes) (size (apply (t .change) b))) NoRoom (given (resultOf b t)))) .answer ≡ v
+      by : (v : Outcome Value) → leave bytes used (andThen (andThen v (λ y. taking unchanged y)) (λ t. refuseIf (ltb (length bytes) (size (apply (t .change) x))) NoRoom (given (resultOf x t)))) .answer ≡ v
       by (refused cause) = refl
       by (given v) = rw e
 
   on-store : leave bytes used (refuseIf (ltb (length bytes) used) BadStore (andThen (orRefuse BadStore (storeRead (take used bytes))) onRecords)) .answer ≡ andThen (recordsHeld bytes used) (λ b. reply q b)
   unfolding recordsHeld
-  on-store = by (ltb (length bytes) used) refl (storeRead (take used bytes)) refl
+  on-store = by (ltb (length bytes) used) refl (decodeAll (take used bytes)) refl
     where
-      by : (t : Bool) → ltb (length bytes) used ≡ t → (o : Option Book) → storeRead (take used bytes) ≡ o
-          → leave bytes used (refuseIf t BadStore (andThen (orRefuse BadStore o) onRecords)) .answer ≡ andThen (refuseIf t BadStore (orRefuse BadStore o)) (λ b. reply q b)
+      by : (t : Bool) → ltb (length bytes) used ≡ t → (o : Option Book) → decodeAll (take used bytes) ≡ o
+          → leave bytes used (refuseIf t BadStore (andThen (orRefuse BadStore (contentsOf o)) onRecords)) .answer ≡ andThen (refuseIf t BadStore (orRefuse BadStore o)) (λ b. reply q b)
       by true e o p = refl
       by false e none p = refl
-      by false e (some b) p = on-records b (fits b e p)
+      by false e (some b) p = on-records (record { records = b }) (fits b e p)
 
   -- the causes of the arguments, 3, then the reply
   answered : run L (read n q) bytes used .answer ≡ refuseBy (readingCause L q) (andThen (recordsHeld bytes used) (λ b. reply q b))
@@ -186,7 +187,7 @@ module _ (L : LimitSet) (n : ℕ) (q : Reading) (bytes : List ℕ) (used : ℕ) 
     pub store-refuses : {cause : Refusal} → countAnswer (recordsHeld bytes used) ≡ held.Refused cause → refused BadStore ≡ run L (read n q) bytes used .answer
     store-refuses e = sym (passed-on ∙ ap (λ (o : Outcome Book). andThen o (λ b. reply q b)) (not-kept bytes used e))
 
-    pub replies : (k : Kept bytes used) (v : Outcome Value) → v ≡ reply q (k .records) → v ≡ run L (read n q) bytes used .answer
+    pub replies : (k : Kept bytes used) (v : Outcome Value) → v ≡ reply q (k .contents .records) → v ≡ run L (read n q) bytes used .answer
     replies k v e = e ∙ sym (passed-on ∙ ap (λ (o : Outcome Book). andThen o (λ b. reply q b)) (k .held))
 
 -- ---- each look-up
@@ -204,20 +205,20 @@ unfolding readingCause
 call-cause L c t e = ap (λ (x : Bool). causeIf x TextTooLong) e
 
 module _ (bytes : List ℕ) (used : ℕ) (k : Kept bytes used) where
-  pub get-reply : (c l r : List ℕ) → placeIn (named true c l r) (storeRead (take used bytes)) ≡ reply (getting c l r) (k .records)
+  pub get-reply : (c l r : List ℕ) → placeIn (named true c l r) (decodeAll (take used bytes)) ≡ reply (getting c l r) (k .contents .records)
   unfolding reply
   get-reply c l r = ap (placeIn (named true c l r)) (k .are)
 
-  pub call-reply : (c l r : List ℕ) → placeIn (named false c l r) (storeRead (take used bytes)) ≡ reply (findByCallId c) (k .records)
+  pub call-reply : (c l r : List ℕ) → placeIn (named false c l r) (decodeAll (take used bytes)) ≡ reply (findByCallId c) (k .contents .records)
   unfolding reply
   call-reply c l r = ap (placeIn (named false c l r)) (k .are)
 
   -- the identifier that a request names, its tags swapped
   pub named-reply : (block : List ℕ) (i : DialogId) → Asked block i
-      → placeIn (named true (partIn block (i .«call_id»)) (partIn block (i .«remote_tag»)) (partIn block (i .«local_tag»))) (storeRead (take used bytes)) ≡ reply (findByRequest block) (k .records)
+      → placeIn (named true (partIn block (i .«call_id»)) (partIn block (i .«remote_tag»)) (partIn block (i .«local_tag»))) (decodeAll (take used bytes)) ≡ reply (findByRequest block) (k .contents .records)
   unfolding reply namedIn
   named-reply block i a = rw (k .are, a .reads, a .spans, a .placed .callId .there, a .placed .localTag .there, a .placed .remoteTag .there)
 
-  pub unnamed-reply : (block : List ℕ) → identifierOf fromName toName block ≡ none → refused NotFound ≡ reply (findByRequest block) (k .records)
+  pub unnamed-reply : (block : List ℕ) → identifierOf fromName toName block ≡ none → refused NotFound ≡ reply (findByRequest block) (k .contents .records)
   unfolding reply namedIn
   unnamed-reply block e = rw e

@@ -25,14 +25,14 @@ use Rattle.distinct.specs.Keys.{At}
 use Rattle.distinct.specs.Ends.{endAt}
 use Rattle.store.proofs.WalkLaws.{Step, step}
 use Rattle.dialog_id.specs.Ident.{sameIdent}
-use Rattle.book.specs.Book.{Book, storeRead}
+use Rattle.book.specs.Book.{Book}
 use Rattle.dialog_manager.specs.Search.{named, Spot, first, foundOf, foundIn, Stored, IdsWithin, namedAt}
 use Rattle.dialog_manager.specs.declared.finding.Found.the-variants as found
 
 -- ---- records of bytes
 
 -- the records of a store, identifiers not compared
-whole : (s : List ℕ) (b : Book) → storeRead s ≡ some b → recordsIn (length s) s ≡ some b
+whole : (s : List ℕ) (b : Book) → decodeAll s ≡ some b → recordsIn (length s) s ≡ some b
 unfolding decodeAll
 whole s b e = by (recordsIn (length s) s) refl e
   where
@@ -86,7 +86,7 @@ pub record Left (test : Record → Bool) (s : List ℕ) (at : ℕ) : Type 0 wher
   pub enough : length s - at ≤ fuel
   pub here : at ≤ length s
   pub are : recordsIn fuel (drop at s) ≡ some rest
-  pub same : foundIn test (storeRead s) ≡ foundOf (first test at rest)
+  pub same : foundIn test (decodeAll s) ≡ foundOf (first test at rest)
 
 pub start : (test : Record → Bool) (s : List ℕ) → Stored s → Left test s 0
 start test s k = record {
@@ -99,7 +99,7 @@ start test s k = record {
 }
 
 module _ (test : Record → Bool) (s : List ℕ) (at : ℕ) (g : Left test s at) where
-  pub nothing : length s ≤ at → found.Nothing ≡ foundIn test (storeRead s)
+  pub nothing : length s ≤ at → found.Nothing ≡ foundIn test (decodeAll s)
   unfolding first
   nothing h =
       let k : [] ≡ g .rest = ended (g .fuel) (g .rest) (ap (recordsIn (g .fuel)) (sym (drop-of-length-le s h)) ∙ g .are) in
@@ -124,11 +124,11 @@ module _ (test : Record → Bool) (s : List ℕ) (at : ℕ) (g : Left test s at)
       after : Others (g .fuel) (record { value = r .value; rest = drop (p .end) s }) (g .rest)
       after = others (g .fuel) (drop at s) (g .rest) (record { value = r .value; rest = drop (p .end) s }) filled (omega (arith, g .enough, length-drop at s)) (g .are) (r .reads)
 
-      split : foundIn test (storeRead s) ≡ foundOf (cond (test (r .value)) (some (record { place = at; value = r .value })) (first test (at + length (image .write (r .value))) (after .rest)))
+      split : foundIn test (decodeAll s) ≡ foundOf (cond (test (r .value)) (some (record { place = at; value = r .value })) (first test (at + length (image .write (r .value))) (after .rest)))
       unfolding first
       split = g .same ∙ ap (λ (b : Book). foundOf (first test at b)) (after .all)
 
-      pub met : p ≡ recordPlaces at (r .value) → test (r .value) ≡ true → found.At at p ≡ foundIn test (storeRead s)
+      pub met : p ≡ recordPlaces at (r .value) → test (r .value) ≡ true → found.At at p ≡ foundIn test (decodeAll s)
       met w e =
           ap (found.At at) w ∙ sym (split ∙ ap (λ (t : Bool). foundOf (cond t (some (record { place = at; value = r .value })) (first test (at + length (image .write (r .value))) (after .rest)))) e)
 

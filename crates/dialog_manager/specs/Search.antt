@@ -12,7 +12,8 @@ use Rattle.image.specs.Places.{recordPlaces, recordFrom}
 use Rattle.image.specs.declared.RecordReading.the-variants.{Whole}
 use Rattle.image.specs.declared.sections.IdsAt.{IdsAt}
 use Rattle.text.specs.Spans.{partIn}
-use Rattle.book.specs.Book.{Book, storeRead, isOf, firstPlace}
+use Rattle.record.specs.Store.{decodeAll}
+use Rattle.book.specs.Book.{Book, isOf, firstPlace}
 use Rattle.dialog_manager.specs.declared.finding.Found.{Found}
 use Rattle.dialog_manager.specs.declared.finding.Found.the-variants as found
 
@@ -43,7 +44,7 @@ foundIn test (some b) = foundOf (first test firstPlace b)
 -- the bytes are read as a store
 pub record Stored (s : List ℕ) : Type 0 where
   pub records : Book
-  pub are : storeRead s ≡ some records
+  pub are : decodeAll s ≡ some records
 
 -- the record that was found is what is read at its place
 abbrev pub Stands : List ℕ → Found → Type 0

@@ -10,7 +10,7 @@ ghost use Prim.Native.Nat.{_+_, _≤_};
 ghost use lib.ListN.{length};
 ghost use Rattle.text.specs.Text.{equal};
 ghost use Rattle.text.specs.Spans.{partIn};
-ghost use Rattle.book.specs.Book.{storeRead};
+ghost use Rattle.record.specs.Store.{decodeAll};
 ghost use Rattle.dialog_manager.specs.Search.{named, namedAt, IdsWithin, Stored, foundIn, Stands};
 
 // Where its image begins, and its parts.
@@ -28,7 +28,7 @@ pub fn search(
     remote_tag: &[u8],
 ) -> Found
     requires { ⌜ Stored (now bytes) ⌝ }
-    ensures { λ r. ⌜ r ≡ foundIn (named «by_tags» (now («call_id» .entry)) (now («local_tag» .entry)) (now («remote_tag» .entry))) (storeRead (now (bytes .entry))) ⌝ }
+    ensures { λ r. ⌜ r ≡ foundIn (named «by_tags» (now («call_id» .entry)) (now («local_tag» .entry)) (now («remote_tag» .entry))) (decodeAll (now (bytes .entry))) ⌝ }
     ensures { λ r. ⌜ Stands (now (bytes .entry)) r ⌝ }
 {
     let mut at = 0;

@@ -8,7 +8,7 @@ ghost use mathlib.Core.Bool.{true};
 ghost use Prim.Native.Nat.{_+_, _≤_};
 ghost use lib.ListN.{length};
 ghost use Rattle.text.specs.Spans.{partIn};
-ghost use Rattle.book.specs.Book.{storeRead};
+ghost use Rattle.record.specs.Store.{decodeAll};
 ghost use Rattle.dialog_manager.specs.Search.{named, Stored};
 ghost use Rattle.dialog_manager.specs.Lookups.{answerIn, placeIn};
 
@@ -27,7 +27,7 @@ pub fn place_of(
     remote_tag: &[u8],
 ) -> Place
     requires { ⌜ Stored (now bytes) ⌝ }
-    ensures { λ r. ⌜ answerIn r ≡ placeIn (named «by_tags» (now («call_id» .entry)) (now («local_tag» .entry)) (now («remote_tag» .entry))) (storeRead (now (bytes .entry))) ⌝ }
+    ensures { λ r. ⌜ answerIn r ≡ placeIn (named «by_tags» (now («call_id» .entry)) (now («local_tag» .entry)) (now («remote_tag» .entry))) (decodeAll (now (bytes .entry))) ⌝ }
 {
     let Found::At(at, r) = search(bytes, by_tags, call_id, local_tag, remote_tag) else {
         return Place::Refused(Refusal::NotFound);
@@ -39,7 +39,7 @@ pub fn place_of(
 pub fn place_of_request(block: &[u8], i: DialogId, bytes: &[u8]) -> Place
     requires { ⌜ (i .«call_id» .start + i .«call_id» .length ≤ length (now block)) × (i .«local_tag» .start + i .«local_tag» .length ≤ length (now block)) × (i .«remote_tag» .start + i .«remote_tag» .length ≤ length (now block)) ⌝ }
     requires { ⌜ Stored (now bytes) ⌝ }
-    ensures { λ r. ⌜ answerIn r ≡ placeIn (named true (partIn (now (block .entry)) (i .«call_id»)) (partIn (now (block .entry)) (i .«remote_tag»)) (partIn (now (block .entry)) (i .«local_tag»))) (storeRead (now (bytes .entry))) ⌝ }
+    ensures { λ r. ⌜ answerIn r ≡ placeIn (named true (partIn (now (block .entry)) (i .«call_id»)) (partIn (now (block .entry)) (i .«remote_tag»)) (partIn (now (block .entry)) (i .«local_tag»))) (decodeAll (now (bytes .entry))) ⌝ }
 {
     let call_id = i.call_id;
     let local = i.remote_tag;

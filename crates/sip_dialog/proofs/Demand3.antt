@@ -2,33 +2,35 @@
 -- it says, and the used length, as the last left them. Of a call nothing is known but the contract that its function is proved to keep: `Post` of a function is
 -- what the toolchain makes of its `ensures`. Nothing else is asked of the calls: that no more is lent than there is, and that a put's image is made of bytes,
 -- follows. Assumes nothing.
-use Prim.Native.Nat.{ℕ, _≤_, _<_}
+use Prim.Native.Nat.{ℕ, _≤_, _<_, zero-le}
 use native.Mathlib.Omega.{arith}
-use mathlib.Core.Path.{_≡_, refl, sym, ap, ap₂, _∙_}
+use mathlib.Core.Path.{_≡_, refl, sym, ap, ap₂, subst, subst₂, _∙_}
 use mathlib.Core.Bool.{cond}
 use mathlib.Core.List.{List, [], _∷_, _++_}
 use mathlib.Core.Option.{Option, none, some}
 use lib.ListN.{length, take, drop, length-take}
 use lib.Dec.{eqb}
-use borrow.Author.Tests.{ne-eqb, le-ltb}
+use borrow.Author.Tests.{ne-eqb, le-ltb, lt-ltb}
 use contract.Lifetimes.{Lfts}
 use denote.Ref.{RefT}
 use Rattle.limits.specs.Limits.{rustLimits}
 use Rattle.limits.specs.Refusal.{numberOf}
 use Rattle.limits.specs.Outcome.{Outcome, refused, given, numberIn, andThen, orRefuse}
-use Rattle.limits.specs.declared.Refusal.the-variants.{BadStore}
+use Rattle.limits.specs.declared.Refusal.the-variants.{TextTooLong, BadStore, NoRoom}
 use Rattle.limits.proofs.Laws.{number-positive}
 use Rattle.output.specs.Output.{fitted, leaves, writtenFrom}
-use Rattle.c_answers.specs.Given.{writtenNumber}
+use Rattle.c_answers.specs.Given.{writtenNumber, writtenAfter}
 use Rattle.listing_lines.specs.Listing.{listing, listingOf}
 use Rattle.record.specs.Record.{Record}
+use Rattle.record.specs.Store.{decodeAll}
 use Rattle.edit.specs.Edit.{over}
 use Rattle.dialog_id.specs.Ident.{Ident, ident}
 use Rattle.book.specs.Calls.{request, response, terminate, localNumber, interval, get, findByRequest, findByCallId, count, allIds, Call, put, update, remove, sweep, read, lent, imageIn, Answer}
-use Rattle.book.specs.Book.{Book, storeRead, emptyStore, find}
+use Rattle.book.specs.Book.{Book, Contents, contentsOf, storeRead, emptyStore}
 use Rattle.book.specs.Store.{Left, run}
-use Rattle.book.specs.History.{All, Entry, World, isTaken, book, lending, next, world, usedBytes, bookLog, says, orEarlier, remoteBy, Demand3, Sent, Returned, EachShows, Ran, start, called}
-use Rattle.book.specs.Rules.{CallRules}
+use Rattle.book.specs.Trace.{All, orEarlier, remoteBy}
+use Rattle.book.specs.Rules.{NextCall}
+use Rattle.book.specs.History.{World, isTaken, lending, world, storeLog, bookLog, usedBytes, says, course, heldAt, storeTrace, Demand3, Sent, Returned, EachShows, Ran, start, called}
 use Rattle.book.specs.Returned.{Returns, Lent, lentAfter}
 use Rattle.book.proofs.Demand3.{ran-is, ruled-holds, demand3-kept, memory-long}
 use Rattle.sip_dialog.proofs.stores.sip_dialog_put.Reads as put-reads
@@ -58,12 +60,12 @@ numbered n = record { number = some n; place = none; length = none; least = none
 abbrev pub placed : ℕ → ℕ → Lent
 placed place size = record { number = none; place = some place; length = some size; least = none; count = none; output = none }
 
-abbrev pub atLeast : ℕ → Lent
-atLeast n = record { number = none; place = none; length = none; least = some n; count = none; output = none }
+abbrev pub withLeast : ℕ → Lent
+withLeast n = record { number = none; place = none; length = none; least = some n; count = none; output = none }
 
 -- the created or the terminated count
-abbrev pub counting : ℕ → Lent
-counting n = record { number = none; place = none; length = none; least = none; count = some n; output = none }
+abbrev pub withCount : ℕ → Lent
+withCount n = record { number = none; place = none; length = none; least = none; count = some n; output = none }
 
 abbrev pub listed : List ℕ → ℕ → Lent
 listed output size = record { number = none; place = none; length = some size; least = none; count = none; output = some output }
@@ -72,10 +74,10 @@ listed output size = record { number = none; place = none; length = some size; l
 
 -- A C function was called: with these bytes lent for the store and this used length it was entered, with those it returned, and this number; beside the store it
 -- was lent these numbers and this output, and left those.
-pub data Served : Call → (bytes : List ℕ) (used : ℕ) (after : List ℕ) (left number : ℕ) (given kept : Lent) → Type 0 where
+pub data Served : Call → (bytes : List ℕ) (used : ℕ) (after : List ℕ) (left number : ℕ) (entered kept : Lent) → Type 0 where
   by-put : (κs : Lfts 4) (image store : RefT (List ℕ)) (used created : RefT ℕ) (r : ℕ) (image′ store′ : RefT (List ℕ)) (used′ created′ : RefT ℕ)
       → put-reads.Post κs (image, (store, (used, (created, tt)))) r (image′, (store′, (used′, (created′, tt))))
-      → Served (put (length (store .now)) (image .now)) (store .now) (used .now) (store′ .now) (used′ .now) r (counting (created .now)) (counting (created′ .now))
+      → Served (put (length (store .now)) (image .now)) (store .now) (used .now) (store′ .now) (used′ .now) r (withCount (created .now)) (withCount (created′ .now))
   by-request : (κs : Lfts 4) (method block store : RefT (List ℕ)) (used : RefT ℕ) (r : ℕ) (method′ block′ store′ : RefT (List ℕ)) (used′ : RefT ℕ)
       → request-reads.Post κs (method, (block, (store, (used, tt)))) r (method′, (block′, (store′, (used′, tt))))
       → Served (update (length (store .now)) (request (method .now) (block .now))) (store .now) (used .now) (store′ .now) (used′ .now) r nothing nothing
@@ -90,10 +92,10 @@ pub data Served : Call → (bytes : List ℕ) (used : ℕ) (after : List ℕ) (l
       → Served (update (length (store .now)) (localNumber (ident (callId .now) (localTag .now) (remoteTag .now)))) (store .now) (used .now) (store′ .now) (used′ .now) r (numbered (number .now)) (numbered (number′ .now))
   by-set-session-expires : (κs : Lfts 6) (callId localTag remoteTag : RefT (List ℕ)) (seconds : ℕ) (store : RefT (List ℕ)) (used least : RefT ℕ) (r : ℕ) (callId′ localTag′ remoteTag′ store′ : RefT (List ℕ)) (used′ least′ : RefT ℕ)
       → set-session-expires-reads.Post κs (callId, (localTag, (remoteTag, (seconds, (store, (used, (least, tt))))))) r (callId′, (localTag′, (remoteTag′, (seconds, (store′, (used′, (least′, tt)))))))
-      → Served (update (length (store .now)) (interval (ident (callId .now) (localTag .now) (remoteTag .now)) seconds)) (store .now) (used .now) (store′ .now) (used′ .now) r (atLeast (least .now)) (atLeast (least′ .now))
+      → Served (update (length (store .now)) (interval (ident (callId .now) (localTag .now) (remoteTag .now)) seconds)) (store .now) (used .now) (store′ .now) (used′ .now) r (withLeast (least .now)) (withLeast (least′ .now))
   by-remove : (κs : Lfts 6) (callId localTag remoteTag store : RefT (List ℕ)) (used terminated : RefT ℕ) (r : ℕ) (callId′ localTag′ remoteTag′ store′ : RefT (List ℕ)) (used′ terminated′ : RefT ℕ)
       → remove-reads.Post κs (callId, (localTag, (remoteTag, (store, (used, (terminated, tt)))))) r (callId′, (localTag′, (remoteTag′, (store′, (used′, (terminated′, tt))))))
-      → Served (remove (length (store .now)) (ident (callId .now) (localTag .now) (remoteTag .now))) (store .now) (used .now) (store′ .now) (used′ .now) r (counting (terminated .now)) (counting (terminated′ .now))
+      → Served (remove (length (store .now)) (ident (callId .now) (localTag .now) (remoteTag .now))) (store .now) (used .now) (store′ .now) (used′ .now) r (withCount (terminated .now)) (withCount (terminated′ .now))
   by-sweep : (κs : Lfts 2) (store : RefT (List ℕ)) (used : RefT ℕ) (r : ℕ) (store′ : RefT (List ℕ)) (used′ : RefT ℕ)
       → sweep-reads.Post κs (store, (used, tt)) r (store′, (used′, tt))
       → Served (sweep (length (store .now))) (store .now) (used .now) (store′ .now) (used′ .now) r nothing nothing
@@ -114,7 +116,7 @@ pub data Served : Call → (bytes : List ℕ) (used : ℕ) (after : List ℕ) (l
       → Served (read (length (store .now)) (allIds (length (output .now)))) (store .now) used (store .now) used r (listed (output .now) (size .now)) (listed (output′ .now) (size′ .now))
 
 -- each contract says what `run` leaves of the call, lent all of the bytes
-pub keeps : {c : Call} {bytes : List ℕ} {used : ℕ} {after : List ℕ} {left number : ℕ} {given kept : Lent} → Served c bytes used after left number given kept
+pub keeps : {c : Call} {bytes : List ℕ} {used : ℕ} {after : List ℕ} {left number : ℕ} {entered kept : Lent} → Served c bytes used after left number entered kept
     → Returns (run rustLimits c bytes used) after left number
 keeps (by-put κs image store used created r image′ store′ used′ created′ p) = p .0
 keeps (by-request κs method block store used r method′ block′ store′ used′ p) = p
@@ -131,15 +133,15 @@ keeps (by-count κs store used held r store′ held′ p) = p .0
 keeps (by-all-ids κs store used output size r store′ output′ size′ p) = p .0
 
 -- and what its answer leaves of the numbers and the output that were lent
-pub values : {c : Call} {bytes : List ℕ} {used : ℕ} {after : List ℕ} {left number : ℕ} {given kept : Lent} → Served c bytes used after left number given kept
-    → kept ≡ lentAfter (run rustLimits c bytes used .answer) given
-values (by-put κs image store used created r image′ store′ used′ created′ p) = ap counting (p .1 .0)
+pub values : {c : Call} {bytes : List ℕ} {used : ℕ} {after : List ℕ} {left number : ℕ} {entered kept : Lent} → Served c bytes used after left number entered kept
+    → kept ≡ lentAfter (run rustLimits c bytes used .answer) entered
+values (by-put κs image store used created r image′ store′ used′ created′ p) = ap withCount (p .1 .0)
 values (by-request κs method block store used r method′ block′ store′ used′ p) = refl
 values (by-response κs callId localTag remoteTag status block store used r callId′ localTag′ remoteTag′ block′ store′ used′ p) = refl
 values (by-terminate κs callId localTag remoteTag store used r callId′ localTag′ remoteTag′ store′ used′ p) = refl
 values (by-next-local-cseq κs callId localTag remoteTag store used number r callId′ localTag′ remoteTag′ store′ used′ number′ p) = ap numbered (p .1)
-values (by-set-session-expires κs callId localTag remoteTag seconds store used least r callId′ localTag′ remoteTag′ store′ used′ least′ p) = ap atLeast (p .1)
-values (by-remove κs callId localTag remoteTag store used terminated r callId′ localTag′ remoteTag′ store′ used′ terminated′ p) = ap counting (p .1)
+values (by-set-session-expires κs callId localTag remoteTag seconds store used least r callId′ localTag′ remoteTag′ store′ used′ least′ p) = ap withLeast (p .1)
+values (by-remove κs callId localTag remoteTag store used terminated r callId′ localTag′ remoteTag′ store′ used′ terminated′ p) = ap withCount (p .1)
 values (by-sweep κs store used r store′ used′ p) = refl
 values (by-get κs callId localTag remoteTag store used place size r callId′ localTag′ remoteTag′ store′ place′ size′ p) = ap₂ placed (p .1 .0) (p .1 .1)
 values (by-find-by-call-id κs callId store used place size r callId′ store′ place′ size′ p) = ap₂ placed (p .1 .0) (p .1 .1)
@@ -148,7 +150,7 @@ values (by-count κs store used held r store′ held′ p) = ap numbered (p .1)
 values (by-all-ids κs store used output size r store′ output′ size′ p) = ap₂ listed (p .1 .0) (p .1 .1)
 
 -- a call is lent the bytes that it is entered with, all of them
-lends-all : {c : Call} {bytes : List ℕ} {used : ℕ} {after : List ℕ} {left number : ℕ} {given kept : Lent} → Served c bytes used after left number given kept → lent c ≡ length bytes
+lends-all : {c : Call} {bytes : List ℕ} {used : ℕ} {after : List ℕ} {left number : ℕ} {entered kept : Lent} → Served c bytes used after left number entered kept → lent c ≡ length bytes
 lends-all (by-put κs image store used created r image′ store′ used′ created′ p) = refl
 lends-all (by-request κs method block store used r method′ block′ store′ used′ p) = refl
 lends-all (by-response κs callId localTag remoteTag status block store used r callId′ localTag′ remoteTag′ block′ store′ used′ p) = refl
@@ -164,7 +166,7 @@ lends-all (by-count κs store used held r store′ held′ p) = refl
 lends-all (by-all-ids κs store used output size r store′ output′ size′ p) = refl
 
 -- a put's image is made of bytes, as its contract says; no other call has one
-image-bytes : {c : Call} {bytes : List ℕ} {used : ℕ} {after : List ℕ} {left number : ℕ} {given kept : Lent} → Served c bytes used after left number given kept → All (λ b. b < 256) (imageIn c)
+image-bytes : {c : Call} {bytes : List ℕ} {used : ℕ} {after : List ℕ} {left number : ℕ} {entered kept : Lent} → Served c bytes used after left number entered kept → All (λ b. b < 256) (imageIn c)
 image-bytes (by-put κs image store used created r image′ store′ used′ created′ p) = p .1 .1
 image-bytes (by-request κs method block store used r method′ block′ store′ used′ p) = tt
 image-bytes (by-response κs callId localTag remoteTag status block store used r callId′ localTag′ remoteTag′ block′ store′ used′ p) = tt
@@ -183,25 +185,25 @@ image-bytes (by-all-ids κs store used output size r store′ output′ size′ 
 pub data Made (m : List ℕ) : List Call → World → List Returned → Type 0 where
   none-made : Made m [] (record { memory = over emptyStore m; used = length emptyStore }) []
   one-more : {cs : List Call} {w : World} {rs : List Returned} → Made m cs w rs
-      → (c : Call) (after : List ℕ) (left number : ℕ) (given kept : Lent) → Served c (take (lent c) (w .memory)) (w .used) after left number given kept
-      → Made m (c ∷ cs) (record { memory = after ++ drop (lent c) (w .memory); used = left }) (record { call = c; number = number; lent = given; left = kept } ∷ rs)
+      → (c : Call) (after : List ℕ) (left number : ℕ) (entered kept : Lent) → Served c (take (lent c) (w .memory)) (w .used) after left number entered kept
+      → Made m (c ∷ cs) (record { memory = after ++ drop (lent c) (w .memory); used = left }) (record { call = c; number = number; lent = entered; left = kept } ∷ rs)
 
 made-ran : (m : List ℕ) {cs : List Call} {w : World} {rs : List Returned} → Made m cs w rs → Ran rustLimits m cs w rs
 made-ran m none-made = start
-made-ran m (one-more d c after left number given kept s) = called (made-ran m d) c after left number given kept (keeps s) (values s)
+made-ran m (one-more d c after left number entered kept s) = called (made-ran m d) c after left number entered kept (keeps s) (values s)
 
 -- no more is lent than there is, and images are made of bytes
 made-sent : (m : List ℕ) {cs : List Call} {w : World} {rs : List Returned} → Made m cs w rs → All (Sent m) cs
 made-sent m none-made = tt
-made-sent m (one-more {cs} {w} {rs} d c after left number given kept s) =
+made-sent m (one-more {cs} {w} {rs} d c after left number entered kept s) =
     let before = made-sent m d in
-    let long : length (w .memory) ≡ length m = ap (λ (x : World). length (x .memory)) (ran-is rustLimits m (made-ran m d) .0) ∙ memory-long m cs before in
+    let long : length (w .memory) ≡ length m = ap (λ (x : World). length (x .memory)) (ran-is rustLimits m (made-ran m d) .0) ∙ memory-long m zero-le cs before in
     (record { lends = omega (arith, lends-all s, length-take (lent c) (w .memory), long); bytes = image-bytes s }, before)
 
 -- the memory and the used length are those that demand 3 speaks of; and every call returned the book's number, and left the book's values in what was lent for them
 pub book-followed : (m : List ℕ) {cs : List Call} {w : World} {rs : List Returned} → Made m cs w rs
     → Demand3 rustLimits m cs × ((w ≡ world rustLimits m cs) × EachShows (bookLog rustLimits cs) rs)
-book-followed m d = demand3-kept m (made-ran m d) (made-sent m d)
+book-followed m d = demand3-kept m zero-le (made-ran m d) (made-sent m d)
 
 -- ---- what a caller sees
 
@@ -210,8 +212,8 @@ unfoldable pub remoteSeen : Ident → List Returned → Option ℕ
 remoteSeen i [] = none
 remoteSeen i (r ∷ rs) = cond (eqb (r .number) 0) (orEarlier (says i (r .call)) (remoteSeen i rs)) (remoteSeen i rs)
 
--- `sip_dialog_listing` was called: with these bytes as the store and this output it was entered, with that output it returned, and this number
-pub record Listed (bytes output output′ : List ℕ) (number : ℕ) : Type 0 where
+-- `sip_dialog_listing` was called: with these bytes as the store, this output and this number lent for its length it was entered, with those it returned, and this number
+pub record Listed (bytes output output′ : List ℕ) (size size′ number : ℕ) : Type 0 where
   pub κs : Lfts 3
   pub store : RefT (List ℕ)
   pub out : RefT (List ℕ)
@@ -223,6 +225,15 @@ pub record Listed (bytes output output′ : List ℕ) (number : ℕ) : Type 0 wh
   pub store-is : store .now ≡ bytes
   pub out-is : out .now ≡ output
   pub out-then : out′ .now ≡ output′
+  pub size-is : written .now ≡ size
+  pub size-then : written′ .now ≡ size′
+
+-- what it is of records: 1 over 65,536 bytes, 18 where the text is larger than the output, and otherwise the text
+pub record ListingOf (b : Book) (bytes output output′ : List ℕ) (size size′ number : ℕ) : Type 0 where
+  pub long-1 : rustLimits .listedStore < length bytes → (number ≡ 1) × ((output′ ≡ output) × (size′ ≡ size))
+  pub full-18 : length bytes ≤ rustLimits .listedStore → length output < length (listingOf b) → (number ≡ 18) × ((output′ ≡ output) × (size′ ≡ size))
+  pub listed : length bytes ≤ rustLimits .listedStore → length (listingOf b) ≤ length output
+      → (number ≡ 0) × ((output′ ≡ over (listingOf b) output) × (size′ ≡ length (listingOf b)))
 
 -- Demand 3, of the C functions, after every list of calls of them
 pub record OfCalls (m : List ℕ) (cs : List Call) (w : World) (rs : List Returned) : Type 0 where
@@ -231,55 +242,86 @@ pub record OfCalls (m : List ℕ) (cs : List Call) (w : World) (rs : List Return
   pub world-is : w ≡ world rustLimits m cs
   -- "the calls refused are those that the book refuses": every call returned the book's number, and left the book's values
   pub shown : EachShows (bookLog rustLimits cs) rs
-  -- the next call, whichever it is, returns the number and leaves the records and values that the rules say; b and held are read from the store before it and after it
-  pub next-call : (c : Call) (after : List ℕ) (left number : ℕ) (given kept : Lent) → Served c (take (lent c) (w .memory)) (w .used) after left number given kept
-      → (b held : Book) → storeRead (usedBytes w) ≡ some b → storeRead (usedBytes (record { memory = after ++ drop (lent c) (w .memory); used = left })) ≡ some held
-      → CallRules rustLimits b (record { call = c; number = number; lent = given; left = kept }) held
+  -- the next call, of whichever of the thirteen functions, returns the number and leaves the records, the values and the bytes that the rules say
+  pub next-call : (c : Call) (after : List ℕ) (left number : ℕ) (entered kept : Lent) → Served c (take (lent c) (w .memory)) (w .used) after left number entered kept
+      → NextCall rustLimits w (record { call = c; number = number; lent = entered; left = kept }) (record { memory = after ++ drop (lent c) (w .memory); used = left })
   -- "the remote number is the last so taken since the dialog's latest accepted put, or else the one put": told from arguments and returned numbers
-  pub remote-seen : (i : Ident) (b : Book) (r : Record) → storeRead (usedBytes w) ≡ some b → find i b ≡ some r → remoteSeen i rs ≡ some (r .numbers .remote)
-  -- the handover listing of the used bytes is the listing of the book's records, in its order
-  pub listing-seen : (output output′ : List ℕ) (number : ℕ) → Listed (usedBytes w) output output′ number → length (usedBytes w) ≤ rustLimits .listedStore
-      → length (listingOf (book rustLimits cs)) ≤ length output → (number ≡ 0) × (output′ ≡ over (listingOf (book rustLimits cs)) output)
+  pub remote-seen : (i : Ident) (r : Record) → heldAt w i ≡ some r → remoteSeen i rs ≡ some (r .numbers .remote)
+  -- the handover listing of the used bytes is that of the records they are read as, in their order
+  pub listing-seen : (x : Contents) (output output′ : List ℕ) (size size′ number : ℕ) → storeRead (usedBytes w) ≡ some x → Listed (usedBytes w) output output′ size size′ number
+      → ListingOf (x .records) (usedBytes w) output output′ size size′ number
 
 number-zero : (a : Answer) → eqb (numberIn a) 0 ≡ isTaken a
 number-zero (refused cause) = ne-eqb (numberOf cause) 0 (λ q. let z = number-positive cause in omega (arith, z, q))
 number-zero (given v) = refl
 
-seen-same : (i : Ident) (es : List Entry) (rs : List Returned) → EachShows es rs → remoteSeen i rs ≡ remoteBy i es
-unfolding remoteBy remoteSeen
-seen-same i [] [] h = refl
-seen-same i [] (r ∷ rs) h = absurd h
-seen-same i (e ∷ es) [] h = absurd h
-seen-same i (e ∷ es) (r ∷ rs) h =
-    let same : eqb (r .number) 0 ≡ isTaken (e .answer) = ap (λ x. eqb x 0) (h .0 .number-is) ∙ number-zero (e .answer) in
-    ap₂ (λ (c : Call) (o : Option ℕ). cond (eqb (r .number) 0) (orEarlier (says i c) o) o) (h .0 .same-call) (seen-same i es rs (h .1))
-    ∙ ap (λ t. cond t (orEarlier (says i (e .call)) (remoteBy i es)) (remoteBy i es)) same
+seen-same : (m : List ℕ) (i : Ident) (cs : List Call) (rs : List Returned) → EachShows (storeLog rustLimits m cs) rs → remoteSeen i rs ≡ remoteBy course i (storeTrace rustLimits m cs)
+unfolding remoteBy remoteSeen storeLog storeTrace
+seen-same m i [] [] h = refl
+seen-same m i [] (r ∷ rs) h = absurd h
+seen-same m i (c ∷ cs) [] h = absurd h
+seen-same m i (c ∷ cs) (r ∷ rs) h =
+    let a = lending rustLimits c (world rustLimits m cs) .answer in
+    let same : eqb (r .number) 0 ≡ isTaken a = ap (λ n. eqb n 0) (h .0 .number-is) ∙ number-zero a in
+    ap₂ (λ (d : Call) (o : Option ℕ). cond (eqb (r .number) 0) (orEarlier (says i d) o) o) (h .0 .same-call) (seen-same m i cs rs (h .1))
+    ∙ ap (λ t. cond t (orEarlier (says i c) (remoteBy course i (storeTrace rustLimits m cs))) (remoteBy course i (storeTrace rustLimits m cs))) same
 
-same-book : {x y : Book} → some x ≡ some y → x ≡ y
-same-book e = cc
+-- a store that is read as records, as the listing reads it
+records-read : (s : List ℕ) (x : Contents) → storeRead s ≡ some x → decodeAll s ≡ some (x .records)
+records-read s x e = by (decodeAll s) refl e
+  where
+    same : {y z : Contents} → some y ≡ some z → y ≡ z
+    same q = cc
+
+    by : (o : Option Book) → decodeAll s ≡ o → contentsOf o ≡ some x → o ≡ some (x .records)
+    by none p q = absurd (let z : _≡_ {A = ℕ} 0 1 = cc in omega arith)
+    by (some b) p q = ap (λ (y : Contents). some (y .records)) (same q)
+
+-- the contract of `sip_dialog_listing`, of bytes that are read as records
+listing-kept : (bytes output output′ : List ℕ) (size size′ number : ℕ) (x : Contents) → storeRead bytes ≡ some x → Listed bytes output output′ size size′ number
+    → ListingOf (x .records) bytes output output′ size size′ number
+unfolding listing
+listing-kept bytes output output′ size size′ number x read l = record {
+  long-1 = λ h. by (refused TextTooLong) (rw (lt-ltb (rustLimits .listedStore) (length bytes) h));
+  full-18 = λ h f. by (refused NoRoom) (read-as h ∙ rw (lt-ltb (length output) (length (listingOf (x .records))) f));
+  listed = λ h f. by (given (listingOf (x .records))) (read-as h ∙ rw (le-ltb (length output) (length (listingOf (x .records))) f));
+}
+  where
+    read-as : length bytes ≤ rustLimits .listedStore → listing rustLimits bytes (length output) ≡ fitted (length output) (listingOf (x .records))
+    read-as h =
+        rw (le-ltb (rustLimits .listedStore) (length bytes) h)
+        (ap (λ o. andThen (orRefuse BadStore o) (λ rs. fitted (length output) (listingOf rs))) (records-read bytes x read))
+
+    by : (o : Outcome (List ℕ)) → listing rustLimits bytes (length output) ≡ o → (number ≡ numberIn o) × ((output′ ≡ leaves o output) × (size′ ≡ writtenAfter (writtenFrom o) size))
+    by o e =
+        let whole : listing rustLimits (l .store .now) (length (l .out .now)) ≡ o = ap₂ (λ (s t : List ℕ). listing rustLimits s (length t)) (l .store-is) (l .out-is) ∙ e in (
+          l .kept .0 .number-is ∙ (ap (λ v. writtenNumber (writtenFrom v)) whole ∙ number-of o),
+          (
+            sym (l .out-then) ∙ (l .kept .1 ∙ ap₂ (λ (v : Outcome (List ℕ)) (t : List ℕ). leaves v t) whole (l .out-is)),
+            sym (l .size-then) ∙ (l .kept .0 .left-is ∙ ap₂ (λ (v : Outcome (List ℕ)) (n : ℕ). writtenAfter (writtenFrom v) n) whole (l .size-is)),
+          ),
+        )
+      where
+        number-of : (v : Outcome (List ℕ)) → writtenNumber (writtenFrom v) ≡ numberIn v
+        number-of (refused cause) = refl
+        number-of (given s) = refl
 
 pub demand3-of-calls : (m : List ℕ) {cs : List Call} {w : World} {rs : List Returned} → Made m cs w rs → OfCalls m cs w rs
-unfolding world listing
+unfolding world
 demand3-of-calls m {cs} {w} {rs} d = record {
   demand3 = k .0;
   world-is = same;
   shown = k .1 .1;
-  next-call = λ c after left number given kept s b held was now.
-      let e = one-more d c after left number given kept s in
+  next-call = λ c after left number entered kept s.
+      let e = one-more d c after left number entered kept s in
       let sent = made-sent m e in
+      let r : Returned = record { call = c; number = number; lent = entered; left = kept } in
       let l : lending rustLimits c w ≡ lending rustLimits c (world rustLimits m cs) = ap (lending rustLimits c) same in
-      ruled-holds m cs (sent .1) (record { call = c; number = number; lent = given; left = kept }) b held (sent .0)
-      (record {
-        same-call = refl;
-        number-is = keeps s .number-is ∙ ap (λ (x : Left). numberIn (x .answer)) l;
-        values-are = values s ∙ ap (λ (x : Left). lentAfter (x .answer) given) l;
-      })
-      (ap (λ (x : World). storeRead (usedBytes x)) (sym same) ∙ was)
-      (ap (λ (x : World). storeRead (usedBytes x)) (sym (stepped e)) ∙ now);
-  remote-seen = λ i b r was f.
-      let here : find i (book rustLimits cs) ≡ some r = ap (find i) (sym (reads b was)) ∙ f in
-      seen-same i (bookLog rustLimits cs) rs (k .1 .1) ∙ (ap (remoteBy i) (sym (k .0 .answers)) ∙ k .0 .remote-rule i r here);
-  listing-seen = λ output output′ number l small fits. listed-book output output′ number l small fits;
+      let shows = record { same-call = refl; number-is = keeps s .number-is ∙ ap (λ (x : Left). numberIn (x .answer)) l; values-are = values s ∙ ap (λ (x : Left). lentAfter (x .answer) entered) l } in
+      subst₂ (λ (x y : World). NextCall rustLimits x r y) (sym same) (sym (book-followed m e .1 .0)) (ruled-holds m zero-le cs (sent .1) r (sent .0) shows);
+  remote-seen = λ i r h.
+      seen-same m i cs rs (subst (λ es. EachShows es rs) (sym (k .0 .answers)) (k .1 .1)) ∙ k .0 .told i .remote-rule r (ap (λ (x : World). heldAt x i) (sym same) ∙ h);
+  listing-seen = λ x output output′ size size′ number read l. listing-kept (usedBytes w) output output′ size size′ number x read l;
 }
   where
     k : Demand3 rustLimits m cs × ((w ≡ world rustLimits m cs) × EachShows (bookLog rustLimits cs) rs)
@@ -287,24 +329,3 @@ demand3-of-calls m {cs} {w} {rs} d = record {
 
     same : w ≡ world rustLimits m cs
     same = k .1 .0
-
-    reads : (b : Book) → storeRead (usedBytes w) ≡ some b → b ≡ book rustLimits cs
-    reads b was = same-book (sym was ∙ (ap (λ (x : World). storeRead (usedBytes x)) same ∙ k .0 .reads))
-
-    -- the world after one more call
-    stepped : {c : Call} {v : World} {e : Returned} → Made m (c ∷ cs) v (e ∷ rs) → v ≡ next rustLimits c (world rustLimits m cs)
-    stepped e = book-followed m e .1 .0
-
-    listed-book : (output output′ : List ℕ) (number : ℕ) → Listed (usedBytes w) output output′ number → length (usedBytes w) ≤ rustLimits .listedStore
-        → length (listingOf (book rustLimits cs)) ≤ length output → (number ≡ 0) × (output′ ≡ over (listingOf (book rustLimits cs)) output)
-    listed-book output output′ number l small fits =
-        let back : storeRead (usedBytes w) ≡ some (book rustLimits cs) = ap (λ (x : World). storeRead (usedBytes x)) same ∙ k .0 .reads in
-        let text : listing rustLimits (usedBytes w) (length output) ≡ given (listingOf (book rustLimits cs)) =
-        rw (le-ltb (rustLimits .listedStore) (length (usedBytes w)) small)
-        (ap (λ o. andThen (orRefuse BadStore o) (λ rs. fitted (length output) (listingOf rs))) back
-        ∙ rw (le-ltb (length output) (length (listingOf (book rustLimits cs))) fits)) in
-        let whole : listing rustLimits (l .store .now) (length (l .out .now)) ≡ given (listingOf (book rustLimits cs)) =
-        ap₂ (λ (s t : List ℕ). listing rustLimits s (length t)) (l .store-is) (l .out-is) ∙ text in (
-          l .kept .0 .0 ∙ ap (λ o. writtenNumber (writtenFrom o)) whole,
-          sym (l .out-then) ∙ (l .kept .1 ∙ ap₂ (λ (o : Outcome (List ℕ)) (t : List ℕ). leaves o t) whole (l .out-is)),
-        )

@@ -7,7 +7,7 @@ ghost use mathlib.Core.Path.{_≡_};
 ghost use Prim.Native.Nat.{_<_};
 ghost use Rattle.dialog_id.specs.Ident.{ident};
 ghost use Rattle.book.specs.Calls.{request, response, terminate, localNumber, interval, put, update, remove, sweep};
-ghost use Rattle.book.specs.History.{All};
+ghost use Rattle.book.specs.Trace.{All};
 ghost use Rattle.book.specs.Returned.{Returns, numberAfter, leastAfter, countAfter};
 ghost use Rattle.c_store_answers.specs.Given.{leftBy};
 

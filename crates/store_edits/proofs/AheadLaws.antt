@@ -13,7 +13,8 @@ use Rattle.record.proofs.StoreLaws.{EachFormed, decoded}
 use Rattle.record.proofs.WellFormedLaws.{image-round}
 use Rattle.image.specs.Places.{recordPlaces}
 use Rattle.image.proofs.SizeLaws.{recordSize, record-sized}
-use Rattle.book.specs.Book.{Book, storeImage, storeRead, size}
+use Rattle.record.specs.Store.{decodeAll}
+use Rattle.book.specs.Book.{Book, recordsImage, recordsSize}
 
 -- how long an image is
 written-size : (r : Record) → WellFormed r → length (image .write r) ≡ recordSize r
@@ -24,11 +25,11 @@ written-size r w =
 -- the bytes from `at` to the end of the used ones are the images of these records
 pub record Ahead (s : List ℕ) (used at : ℕ) (rest : Book) : Type 0 where
   pub formed : EachFormed rest
-  pub left : at + size rest ≡ used
-  pub images : drop at s ≡ storeImage rest ++ drop used s
+  pub left : at + recordsSize rest ≡ used
+  pub images : drop at s ≡ recordsImage rest ++ drop used s
 
 -- all records of a store
-pub all-ahead : (s : List ℕ) (used : ℕ) (b : Book) → Bytes s → used ≤ length s → storeRead (take used s) ≡ some b → Ahead s used 0 b
+pub all-ahead : (s : List ℕ) (used : ℕ) (b : Book) → Bytes s → used ≤ length s → decodeAll (take used s) ≡ some b → Ahead s used 0 b
 all-ahead s used b hb h e =
     let d = decoded (take used s) b (bytes-take used s hb) e in
     record { formed = d .1; left = omega (arith, ap length (d .0), length-take-le used s h); images = sym (take-append-drop used s) ∙ ap (λ (t : List ℕ). t ++ drop used s) (d .0) }
@@ -50,10 +51,10 @@ unfolding writeAll
 front s used at [] g h = absurd (let z : at + 0 ≡ used = g .left in omega (arith, h, z))
 front s used at (x ∷ more) g h =
     let i : List ℕ = image .write x in
-    let after : List ℕ = storeImage more ++ drop used s in
-    let d : drop at s ≡ i ++ after = g .images ∙ append-assoc i (storeImage more) (drop used s) in
+    let after : List ℕ = recordsImage more ++ drop used s in
+    let d : drop at s ≡ i ++ after = g .images ∙ append-assoc i (recordsImage more) (drop used s) in
     let z : length i ≡ recordSize x = written-size x (g .formed .0) in
-    let l : at + (length i + size more) ≡ used = ap (λ (n : ℕ). at + n) (sym (length-append i (storeImage more))) ∙ g .left in
+    let l : at + (length i + recordsSize more) ≡ used = ap (λ (n : ℕ). at + n) (sym (length-append i (recordsImage more))) ∙ g .left in
     let k : recordPlaces at x .end ≡ at + length i = omega (arith, z) in
     let n : drop (recordPlaces at x .end) s ≡ after = ap (λ (m : ℕ). drop m s) k ∙ (sym (drop-drop (length i) at s) ∙ (ap (drop (length i)) d ∙ drop-append-seam i after)) in
     record {
@@ -72,4 +73,4 @@ front s used at (x ∷ more) g h =
 pub none-ahead : (s : List ℕ) (used at : ℕ) (rest : Book) → Ahead s used at rest → used ≤ at → rest ≡ []
 unfolding writeAll
 none-ahead s used at [] g h = refl
-none-ahead s used at (x ∷ more) g h = absurd (omega (arith, h, g .left, length-append (image .write x) (storeImage more), written-size x (g .formed .0)))
+none-ahead s used at (x ∷ more) g h = absurd (omega (arith, h, g .left, length-append (image .write x) (recordsImage more), written-size x (g .formed .0)))

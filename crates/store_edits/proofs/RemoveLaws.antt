@@ -26,7 +26,7 @@ use Rattle.store.specs.declared.Held.{Held}
 use Rattle.store.specs.declared.Held.the-variants as held
 use Rattle.dialog_id.specs.Ident.{Ident, ident, sameIdent, identCause}
 use Rattle.book.specs.Calls.{Call, read, remove, Value, noValue, imageAt}
-use Rattle.book.specs.Book.{Book, storeImage, size, identOf, isOf, find, keep, others, only, Taken, firstPlace, placeOf, reply, argumentCause, judge}
+use Rattle.book.specs.Book.{Book, contentsOf, recordsImage, recordsSize, identOf, isOf, find, keep, others, only, Taken, firstPlace, placeOf, reply, argumentCause, judge}
 use Rattle.book.specs.Store.{Left, run}
 use Rattle.book.proofs.SentenceLaws.{kept-size}
 use Rattle.book.proofs.SpliceLaws.{Stands, images-append, removed-bytes}
@@ -41,14 +41,14 @@ use Rattle.store_edits.specs.Edits.{removing}
 
 -- the used bytes are the images of the records, one for each identifier
 pub record Images (s : List ℕ) (used : ℕ) (b : Book) : Type 0 where
-  pub are : take used s ≡ storeImage b
+  pub are : take used s ≡ recordsImage b
   pub formed : EachFormed b
   pub one-each : distinct b ≡ true
-  pub long : used ≡ size b
+  pub long : used ≡ recordsSize b
 
-pub images : (s : List ℕ) (used : ℕ) → Bytes s → (k : Kept s used) → Images s used (k .records)
+pub images : (s : List ℕ) (used : ℕ) → Bytes s → (k : Kept s used) → Images s used (k .contents .records)
 images s used hb k =
-    let d = decoded (take used s) (k .records) (bytes-take used s hb) (k .are) in
+    let d = decoded (take used s) (k .contents .records) (bytes-take used s hb) (k .are) in
     record { are = d .0; formed = d .1; one-each = d .2; long = omega (arith, ap length (d .0), length-take-le used s (k .within)) }
 
 -- 3, of a call whose arguments are in order
@@ -60,7 +60,7 @@ unheld L c s used {cause} a e = by (ltb (length s) used) refl (decodeAll (take u
     by : (t : Bool) → ltb (length s) used ≡ t → (o : Option (List Record)) → decodeAll (take used s) ≡ o → countAnswer (refuseIf t BadStore (orRefuse BadStore o)) ≡ held.Refused cause
         → run L c s used ≡ keptWith L c s used BadStore
     by true q o p e = way-over L c s used a (ltb-true (length s) used q)
-    by false q none p e = way-unread L c s used a (ltb-false (length s) used q) p
+    by false q none p e = way-unread L c s used a (ltb-false (length s) used q) (ap contentsOf p)
     by false q (some b) p e = absurd (let z : _≡_ {A = ℕ} 0 1 = cc in omega arith)
 
 -- what a refused call answers and leaves
@@ -90,7 +90,7 @@ pub record Standing (i : Ident) (at : ℕ) (b : Book) (p n : ℕ) : Type 0 where
   pub was : Record
   pub found : find i b ≡ some was
   pub there : Stands i was b
-  pub place-is : p ≡ at + size (there .front)
+  pub place-is : p ≡ at + recordsSize (there .front)
   pub size-is : n ≡ length (image .write was)
 
 pub standing : (i : Ident) (at : ℕ) (b : Book) (p n : ℕ) → placeOf (isOf i) at b ≡ some (imageAt p n) → Standing i at b p n
@@ -122,7 +122,7 @@ standing i at (x ∷ b) p n h = by (isOf i x) refl h (standing i (at + length (i
             first = ap (λ t. cond t (some x) (find i (d .there .front))) e ∙ d .there .first;
             ident-is = d .there .ident-is;
           };
-          place-is = omega (arith, d .place-is, length-append (image .write x) (storeImage (d .there .front)));
+          place-is = omega (arith, d .place-is, length-append (image .write x) (recordsImage (d .there .front)));
           size-is = d .size-is;
         }
 
@@ -138,10 +138,10 @@ absent i at (x ∷ b) h = by (isOf i x) refl h (absent i (at + length (image .wr
 
 -- ---- sizes
 
-whole-size : (b front : Book) (r : Record) (back : Book) → b ≡ front ++ (r ∷ back) → size b ≡ size front + (length (image .write r) + size back)
+whole-size : (b front : Book) (r : Record) (back : Book) → b ≡ front ++ (r ∷ back) → recordsSize b ≡ recordsSize front + (length (image .write r) + recordsSize back)
 unfolding writeAll
 whole-size b front r back e =
-    ap size e ∙ (ap length (images-append front (r ∷ back)) ∙ (length-append (storeImage front) (image .write r ++ storeImage back) ∙ ap (λ (k : ℕ). size front + k) (length-append (image .write r) (storeImage back))))
+    ap recordsSize e ∙ (ap length (images-append front (r ∷ back)) ∙ (length-append (recordsImage front) (image .write r ++ recordsImage back) ∙ ap (λ (k : ℕ). recordsSize front + k) (length-append (image .write r) (recordsImage back))))
 
 -- with n elements at a place replaced
 pub spliced-length : (at n : ℕ) (new t : List ℕ) → at + n ≤ length t → length (spliced at n new t) ≡ length t - n + length new
@@ -188,13 +188,13 @@ module _ (L : LimitSet) (m : ℕ) (c l r : List ℕ) (s : List ℕ) (used : ℕ)
       same : (x : Refusal) → refused x ≡ looked → x ≡ cause
       same x w = let z : _≡_ {A = Outcome Value} (refused x) (refused cause) = w ∙ sym e in cc
 
-      on : (k : Kept s used) → identCause L (ident c l r) ≡ none → (o : Option Value) → placeOf (isOf (ident c l r)) firstPlace (k .records) ≡ o → run L gone s used ≡ keptWith L gone s used cause
+      on : (k : Kept s used) → identCause L (ident c l r) ≡ none → (o : Option Value) → placeOf (isOf (ident c l r)) firstPlace (k .contents .records) ≡ o → run L gone s used ≡ keptWith L gone s used cause
       on k p none f =
-          let z : NotFound ≡ cause = same NotFound (replies L m (getting c l r) s used hb (get-cause L c l r ∙ p) k (refused NotFound) (sym (reply-is c l r (k .records) ∙ ap (orRefuse NotFound) f))) in
+          let z : NotFound ≡ cause = same NotFound (replies L m (getting c l r) s used hb (get-cause L c l r ∙ p) k (refused NotFound) (sym (reply-is c l r (k .contents .records) ∙ ap (orRefuse NotFound) f))) in
           subst (λ (y : Refusal). run L gone s used ≡ keptWith L gone s used y) z
-          (way-judged L gone s used (cause-same L m (ident c l r) ∙ p) (k .within) (k .records) (k .are) NotFound (judged-none L m (ident c l r) (k .records) (absent (ident c l r) firstPlace (k .records) f)))
+          (way-judged L gone s used (cause-same L m (ident c l r) ∙ p) (k .within) (k .contents) (k .read) NotFound (judged-none L m (ident c l r) (k .contents .records) (absent (ident c l r) firstPlace (k .contents .records) f)))
       on k p (some v) f =
-          let z : given v ≡ refused cause = replies L m (getting c l r) s used hb (get-cause L c l r ∙ p) k (given v) (sym (reply-is c l r (k .records) ∙ ap (orRefuse NotFound) f)) ∙ sym e in
+          let z : given v ≡ refused cause = replies L m (getting c l r) s used hb (get-cause L c l r ∙ p) k (given v) (sym (reply-is c l r (k .contents .records) ∙ ap (orRefuse NotFound) f)) ∙ sym e in
           absurd (let y : _≡_ {A = ℕ} 0 1 = cc in omega arith)
 
       by : (o : Option Refusal) → identCause L (ident c l r) ≡ o → (a : Held) → countAnswer (recordsHeld s used) ≡ a → run L gone s used ≡ keptWith L gone s used cause
@@ -202,27 +202,27 @@ module _ (L : LimitSet) (m : ℕ) (c l r : List ℕ) (s : List ℕ) (used : ℕ)
       by none p (held.Refused x) w =
           let z : BadStore ≡ cause = same BadStore (store-refuses L m (getting c l r) s used hb (get-cause L c l r ∙ p) w) in
           subst (λ (y : Refusal). run L gone s used ≡ keptWith L gone s used y) z (unheld L gone s used (cause-same L m (ident c l r) ∙ p) w)
-      by none p (held.Records x) w = let k = kept s used w in on k p (placeOf (isOf (ident c l r)) firstPlace (k .records)) refl
+      by none p (held.Records x) w = let k = kept s used w in on k p (placeOf (isOf (ident c l r)) firstPlace (k .contents .records)) refl
 
   module _ (at n : ℕ) (e : given (imageAt at n) ≡ looked) where
-    cut : (k : Kept s used) → identCause L (ident c l r) ≡ none → Standing (ident c l r) firstPlace (k .records) at n → Removes (run L gone s used) s used at n
+    cut : (k : Kept s used) → identCause L (ident c l r) ≡ none → Standing (ident c l r) firstPlace (k .contents .records) at n → Removes (run L gone s used) s used at n
     unfolding writeAll
     cut k p d =
         let i : Ident = ident c l r in
-        let b : Book = k .records in
+        let b : Book = k .contents .records in
         let g = images s used hb k in
         let none-behind : find i (d .there .back) ≡ none =
         subst (λ (j : Ident). find j (d .there .back) ≡ none) (d .there .ident-is) (behind (d .there .front) (d .was) (d .there .back) (ap distinct (sym (d .there .split)) ∙ g .one-each)) in
-        let small : size (keep (others i) b) ≤ size b = kept-size (others i) b in
-        let q : run L gone s used ≡ record { bytes = over (storeImage (keep (others i) b)) s; used = size (keep (others i) b); answer = given noValue } =
-        way-taken L gone s used (cause-same L m i ∙ p) (k .within) b (k .are) (taken i) (judged-some L m i b (d .was) (d .found)) (omega (arith, small, g .long, k .within)) in
-        let x : storeImage (keep (others i) b) ≡ spliced (size (d .there .front)) (length (image .write (d .was))) [] (storeImage b) = removed-bytes i (d .was) b (d .there) none-behind in
-        let at-is : at ≡ size (d .there .front) = omega (arith, d .place-is) in
-        let y : spliced at n [] (take used s) ≡ storeImage (keep (others i) b) =
-        ap (spliced at n []) (g .are) ∙ (ap₂ (λ (j w : ℕ). spliced j w [] (storeImage b)) at-is (d .size-is) ∙ sym x) in
-        let w : size b ≡ size (d .there .front) + (length (image .write (d .was)) + size (d .there .back)) = whole-size b (d .there .front) (d .was) (d .there .back) (d .there .split) in
+        let small : recordsSize (keep (others i) b) ≤ recordsSize b = kept-size (others i) b in
+        let q : run L gone s used ≡ record { bytes = over (recordsImage (keep (others i) b)) s; used = recordsSize (keep (others i) b); answer = given noValue } =
+        way-taken L gone s used (cause-same L m i ∙ p) (k .within) (k .contents) (k .read) (taken i) (judged-some L m i b (d .was) (d .found)) (omega (arith, small, g .long, k .within)) in
+        let x : recordsImage (keep (others i) b) ≡ spliced (recordsSize (d .there .front)) (length (image .write (d .was))) [] (recordsImage b) = removed-bytes i (d .was) b (d .there) none-behind in
+        let at-is : at ≡ recordsSize (d .there .front) = omega (arith, d .place-is) in
+        let y : spliced at n [] (take used s) ≡ recordsImage (keep (others i) b) =
+        ap (spliced at n []) (g .are) ∙ (ap₂ (λ (j w : ℕ). spliced j w [] (recordsImage b)) at-is (d .size-is) ∙ sym x) in
+        let w : recordsSize b ≡ recordsSize (d .there .front) + (length (image .write (d .was)) + recordsSize (d .there .back)) = whole-size b (d .there .front) (d .was) (d .there .back) (d .there .split) in
         let ends : at + n ≤ used = omega (arith, w, g .long, d .place-is, d .size-is) in
-        let len : used - n + 0 ≡ size (keep (others i) b) = omega (arith, sym (ap length y), spliced-length at n [] (take used s) (omega (arith, ends, length-take-le used s (k .within))), length-take-le used s (k .within)) in
+        let len : used - n + 0 ≡ recordsSize (keep (others i) b) = omega (arith, sym (ap length y), spliced-length at n [] (take used s) (omega (arith, ends, length-take-le used s (k .within))), length-take-le used s (k .within)) in
         record {
           within = k .within;
           inside = ends;
@@ -233,14 +233,14 @@ module _ (L : LimitSet) (m : ℕ) (c l r : List ℕ) (s : List ℕ) (used : ℕ)
     pub removes : Removes (run L gone s used) s used at n
     removes = by (identCause L (ident c l r)) refl (countAnswer (recordsHeld s used)) refl
       where
-        on : (k : Kept s used) → identCause L (ident c l r) ≡ none → (o : Option Value) → placeOf (isOf (ident c l r)) firstPlace (k .records) ≡ o → Removes (run L gone s used) s used at n
+        on : (k : Kept s used) → identCause L (ident c l r) ≡ none → (o : Option Value) → placeOf (isOf (ident c l r)) firstPlace (k .contents .records) ≡ o → Removes (run L gone s used) s used at n
         on k p none f =
-            let z : refused NotFound ≡ given (imageAt at n) = replies L m (getting c l r) s used hb (get-cause L c l r ∙ p) k (refused NotFound) (sym (reply-is c l r (k .records) ∙ ap (orRefuse NotFound) f)) ∙ sym e in
+            let z : refused NotFound ≡ given (imageAt at n) = replies L m (getting c l r) s used hb (get-cause L c l r ∙ p) k (refused NotFound) (sym (reply-is c l r (k .contents .records) ∙ ap (orRefuse NotFound) f)) ∙ sym e in
             absurd (let y : _≡_ {A = ℕ} 0 1 = cc in omega arith)
         on k p (some v) f =
-            let z : given v ≡ given (imageAt at n) = replies L m (getting c l r) s used hb (get-cause L c l r ∙ p) k (given v) (sym (reply-is c l r (k .records) ∙ ap (orRefuse NotFound) f)) ∙ sym e in
+            let z : given v ≡ given (imageAt at n) = replies L m (getting c l r) s used hb (get-cause L c l r ∙ p) k (given v) (sym (reply-is c l r (k .contents .records) ∙ ap (orRefuse NotFound) f)) ∙ sym e in
             let u : v ≡ imageAt at n = cc in
-            cut k p (standing (ident c l r) firstPlace (k .records) at n (f ∙ ap some u))
+            cut k p (standing (ident c l r) firstPlace (k .contents .records) at n (f ∙ ap some u))
 
         by : (o : Option Refusal) → identCause L (ident c l r) ≡ o → (a : Held) → countAnswer (recordsHeld s used) ≡ a → Removes (run L gone s used) s used at n
         by (some x) p a w =
@@ -249,4 +249,4 @@ module _ (L : LimitSet) (m : ℕ) (c l r : List ℕ) (s : List ℕ) (used : ℕ)
         by none p (held.Refused x) w =
             let z : refused BadStore ≡ given (imageAt at n) = store-refuses L m (getting c l r) s used hb (get-cause L c l r ∙ p) w ∙ sym e in
             absurd (let y : _≡_ {A = ℕ} 0 1 = cc in omega arith)
-        by none p (held.Records x) w = let k = kept s used w in on k p (placeOf (isOf (ident c l r)) firstPlace (k .records)) refl
+        by none p (held.Records x) w = let k = kept s used w in on k p (placeOf (isOf (ident c l r)) firstPlace (k .contents .records)) refl

@@ -22,7 +22,8 @@ use Rattle.distinct.specs.Ends.{endAt}
 use Rattle.store.specs.Counting.{recordsHeld, countAnswer}
 use Rattle.store.specs.declared.Held.the-variants as held
 use Rattle.book.specs.Calls.{noValue}
-use Rattle.book.specs.Book.{Book, storeImage, storeRead, isTerminated, keep, living, only, Taken, argumentCause, judge}
+use Rattle.record.specs.Store.{decodeAll}
+use Rattle.book.specs.Book.{Book, recordsImage, isTerminated, keep, living, only, Taken, argumentCause, judge}
 use Rattle.book.specs.Store.{run}
 use Rattle.book.proofs.SentenceLaws.{kept-size}
 use Rattle.book.proofs.WayLaws.{keptWith, way-taken}
@@ -38,7 +39,7 @@ use Rattle.store_edits.proofs.RemoveLaws.{images, unheld}
 pub record Closing (s : List ℕ) (used : ℕ) (bytes : List ℕ) (at to : ℕ) : Type 0 where
   pub front : List ℕ
   pub rest : Book
-  pub all : livingIn (storeRead (take used s)) ≡ front ++ storeImage (keep living rest)
+  pub all : livingIn (decodeAll (take used s)) ≡ front ++ recordsImage (keep living rest)
   pub ahead : Ahead s used at rest
   pub to-is : to ≡ length front
   pub below : to ≤ at
@@ -73,10 +74,10 @@ piece-small : (t : Bool) (n : ℕ) → cond t 0 n ≤ n
 piece-small true n = omega arith
 piece-small false n = omega arith
 
-piece-kept : (t : Bool) (x : Record) (front : List ℕ) (more : Book) → front ++ storeImage (cond (not t) (x ∷ keep living more) (keep living more)) ≡ (front ++ piece t x) ++ storeImage (keep living more)
+piece-kept : (t : Bool) (x : Record) (front : List ℕ) (more : Book) → front ++ recordsImage (cond (not t) (x ∷ keep living more) (keep living more)) ≡ (front ++ piece t x) ++ recordsImage (keep living more)
 unfolding writeAll
-piece-kept true x front more = ap (λ (l : List ℕ). l ++ storeImage (keep living more)) (sym (append-nil front))
-piece-kept false x front more = sym (append-assoc front (image .write x) (storeImage (keep living more)))
+piece-kept true x front more = ap (λ (l : List ℕ). l ++ recordsImage (keep living more)) (sym (append-nil front))
+piece-kept false x front more = sym (append-assoc front (image .write x) (recordsImage (keep living more)))
 
 past-front : (front s : List ℕ) (at : ℕ) → length front ≤ at → drop at (over front s) ≡ drop at s
 past-front front s at h =
@@ -128,7 +129,7 @@ module _ (s : List ℕ) (used : ℕ) (bytes : List ℕ) (at to : ℕ) (g : Closi
               record {
                 front = g .front ++ piece t x;
                 rest = first .more;
-                all = g .all ∙ (ap (λ (b : Book). g .front ++ storeImage (keep living b)) (first .split) ∙ piece-kept t x (g .front) (first .more));
+                all = g .all ∙ (ap (λ (b : Book). g .front ++ recordsImage (keep living b)) (first .split) ∙ piece-kept t x (g .front) (first .more));
                 ahead = subst (λ (m : ℕ). Ahead s used m (first .more)) (sym e) (first .next);
                 to-is = omega (arith, g .to-is, p, length-append (g .front) (piece t x), piece-length t x);
                 below = omega (arith, g .below, e, first .ends, p, small);
@@ -138,9 +139,9 @@ module _ (s : List ℕ) (used : ℕ) (bytes : List ℕ) (at to : ℕ) (g : Closi
         }
 
   -- all records are read
-  pub done : used ≤ at → livingIn (storeRead (take used s)) ≡ g .front
+  pub done : used ≤ at → livingIn (decodeAll (take used s)) ≡ g .front
   unfolding writeAll
-  done h = g .all ∙ (ap (λ (b : Book). g .front ++ storeImage (keep living b)) (none-ahead s used at (g .rest) (g .ahead) h) ∙ append-nil (g .front))
+  done h = g .all ∙ (ap (λ (b : Book). g .front ++ recordsImage (keep living b)) (none-ahead s used at (g .rest) (g .ahead) h) ∙ append-nil (g .front))
 
   -- no byte more or less
   pub same-long : length bytes ≡ length s
@@ -164,8 +165,8 @@ pub unswept : (L : LimitSet) (n : ℕ) (s : List ℕ) (used : ℕ) {cause : Refu
 unswept L n s used e = unheld L (sweeping n) s used (no-cause L n) e
 
 pub swept : (L : LimitSet) (n : ℕ) (s : List ℕ) (used : ℕ) → Bytes s → Kept s used
-    → run L (sweeping n) s used ≡ record { bytes = over (livingIn (storeRead (take used s))) s; used = length (livingIn (storeRead (take used s))); answer = given noValue }
+    → run L (sweeping n) s used ≡ record { bytes = over (livingIn (decodeAll (take used s))) s; used = length (livingIn (decodeAll (take used s))); answer = given noValue }
 swept L n s used hb k =
     let g = images s used hb k in
-    way-taken L (sweeping n) s used (no-cause L n) (k .within) (k .records) (k .are) taken (judged L n (k .records)) (omega (arith, kept-size living (k .records), g .long, k .within))
+    way-taken L (sweeping n) s used (no-cause L n) (k .within) (k .contents) (k .read) taken (judged L n (k .contents .records)) (omega (arith, kept-size living (k .contents .records), g .long, k .within))
     ∙ ap (λ (t : List ℕ). record { bytes = over t s; used = length t; answer = given noValue }) (sym (ap livingIn (k .are)))

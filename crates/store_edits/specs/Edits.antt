@@ -9,7 +9,7 @@ use Rattle.record.specs.Codec.{Reading}
 use Rattle.record.specs.Record.{Record, image}
 use Rattle.dialog_id.specs.Ident.{ident}
 use Rattle.book.specs.Calls.{Call, remove, sweep}
-use Rattle.book.specs.Book.{Book, storeImage, isTerminated, living, keep}
+use Rattle.book.specs.Book.{Book, recordsImage, isTerminated, living, keep}
 
 -- the calls, of a store of n lent bytes
 abbrev pub removing : ℕ → List ℕ → List ℕ → List ℕ → Call
@@ -23,7 +23,7 @@ sweeping n = sweep n
 -- the images of the records that aren't Terminated
 abbrev pub livingIn : Option Book → List ℕ
 livingIn none = []
-livingIn (some b) = storeImage (keep living b)
+livingIn (some b) = recordsImage (keep living b)
 
 -- so many stay of the n bytes of the record that is read at a place: none if it is Terminated
 abbrev pub StayingAt : List ℕ → ℕ → ℕ → ℕ → Type 0

@@ -10,7 +10,7 @@ ghost use lib.ListN.{length, take};
 ghost use Rattle.limits.specs.Limits.{rustLimits};
 ghost use Rattle.edit.specs.Edit.{over};
 ghost use Rattle.distinct.specs.Keys.{At};
-ghost use Rattle.book.specs.Book.{storeRead};
+ghost use Rattle.record.specs.Store.{decodeAll};
 ghost use Rattle.book.specs.Store.{run};
 ghost use Rattle.book.specs.Returned.{writtenIn};
 ghost use Rattle.dialog_manager.specs.Search.{Stored};
@@ -31,8 +31,8 @@ pub fn sweep(bytes: &mut [u8], used: usize) -> Written
 fn close_up(bytes: &mut [u8], used: usize) -> usize
     requires { ⌜ used ≤ length (now bytes) ⌝ }
     requires { ⌜ Stored (take used (now bytes)) ⌝ }
-    ensures { λ r. ⌜ r ≡ length (livingIn (storeRead (take used (now (bytes .entry))))) ⌝ }
-    ensures { λ _. ⌜ now (bytes .exit) ≡ over (livingIn (storeRead (take used (now (bytes .entry))))) (now (bytes .entry)) ⌝ }
+    ensures { λ r. ⌜ r ≡ length (livingIn (decodeAll (take used (now (bytes .entry))))) ⌝ }
+    ensures { λ _. ⌜ now (bytes .exit) ≡ over (livingIn (decodeAll (take used (now (bytes .entry))))) (now (bytes .entry)) ⌝ }
 {
     let mut at = 0;
     let mut to = 0;

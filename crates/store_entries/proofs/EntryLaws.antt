@@ -26,7 +26,8 @@ use Rattle.image.specs.declared.RecordAt.{RecordAt}
 use Rattle.dialog_updates.specs.AtPlace.{steppedBy, stepped}
 use Rattle.dialog_id.specs.Ident.{Ident}
 use Rattle.book.specs.Calls.{Update, update, Call, Value, noValue}
-use Rattle.book.specs.Book.{Book, storeImage, storeRead, size, identOf, isOf, nameOf, find, findNamed, firstPlace, amend, alter, updateCause, argumentCause, revised, toldBy, judge}
+use Rattle.record.specs.Store.{decodeAll}
+use Rattle.book.specs.Book.{Book, contentsOf, recordsImage, recordsSize, identOf, isOf, nameOf, find, findNamed, firstPlace, amend, alter, updateCause, argumentCause, revised, toldBy, judge}
 use Rattle.book.specs.Store.{Left}
 use Rattle.book.specs.History.{Permitted}
 use Rattle.book.proofs.IdentLaws.{id-cases, same-ident, other-ident}
@@ -64,7 +65,7 @@ first-none i at (r ∷ b) h =
 pub record Placed (i : Ident) (at : ℕ) (b : Book) (x : Spot) : Type 0 where
   pub finds : find i b ≡ some (x .value)
   pub stands : Stands i (x .value) b
-  pub place-is : x .place ≡ at + size (stands .front)
+  pub place-is : x .place ≡ at + recordsSize (stands .front)
 
 placed : (i : Ident) (at : ℕ) (b : Book) (x : Spot) → first (isOf i) at b ≡ some x → Placed i at b x
 unfolding first writeAll
@@ -88,7 +89,7 @@ placed i at (r ∷ b) x h =
         record {
           finds = find-there i r b n ∙ p .finds;
           stands = record { front = r ∷ s .front; back = s .back; split = ap (λ l. r ∷ l) (s .split); first = find-there i r (s .front) n ∙ s .first; ident-is = s .ident-is };
-          place-is = omega (arith, p .place-is, length-append (image .write r) (storeImage (s .front)));
+          place-is = omega (arith, p .place-is, length-append (image .write r) (recordsImage (s .front)));
         }
 
 -- ---- what the reading of a lent store says
@@ -96,18 +97,18 @@ placed i at (r ∷ b) x h =
 pub record Met (i : Ident) (bytes : List ℕ) (used : ℕ) (x : Spot) : Type 0 where
   pub records : Book
   pub within : used ≤ length bytes
-  pub are : storeRead (take used bytes) ≡ some records
+  pub are : decodeAll (take used bytes) ≡ some records
   pub is : first (isOf i) firstPlace records ≡ some x
 
 met : (i : Ident) (bytes : List ℕ) (used : ℕ) (x : Spot) → spotIn i bytes used ≡ given x → Met i bytes used x
 unfolding spotIn
-met i bytes used x e = by (ltb (length bytes) used) refl (storeRead (take used bytes)) refl e
+met i bytes used x e = by (ltb (length bytes) used) refl (decodeAll (take used bytes)) refl e
   where
-    last : (b : Book) → ltb (length bytes) used ≡ false → storeRead (take used bytes) ≡ some b → (o : Option Spot) → first (isOf i) firstPlace b ≡ o → orRefuse NotFound o ≡ given x → Met i bytes used x
+    last : (b : Book) → ltb (length bytes) used ≡ false → decodeAll (take used bytes) ≡ some b → (o : Option Spot) → first (isOf i) firstPlace b ≡ o → orRefuse NotFound o ≡ given x → Met i bytes used x
     last b t r none q e = absurd (let y : _≡_ {A = ℕ} 0 1 = cc in omega arith)
     last b t r (some z) q e = record { records = b; within = ltb-false (length bytes) used t; are = r; is = let k : z ≡ x = cc in q ∙ ap some k }
 
-    by : (t : Bool) → ltb (length bytes) used ≡ t → (o : Option Book) → storeRead (take used bytes) ≡ o
+    by : (t : Bool) → ltb (length bytes) used ≡ t → (o : Option Book) → decodeAll (take used bytes) ≡ o
         → refuseIf t BadStore (andThen (orRefuse BadStore o) (λ b. orRefuse NotFound (first (isOf i) firstPlace b))) ≡ given x → Met i bytes used x
     by true q o r e = absurd (let y : _≡_ {A = ℕ} 0 1 = cc in omega arith)
     by false q none r e = absurd (let y : _≡_ {A = ℕ} 0 1 = cc in omega arith)
@@ -172,44 +173,44 @@ module _ (L : LimitSet) (p : Permitted L) (u : Update) (bytes : List ℕ) (used 
 
     -- no identifier is named: 3, 15
     pub unnamed : nameOf u ≡ none → {cause : Refusal} → spotNamed none bytes used ≡ refused cause → Done (written.Refused cause) bytes
-    unnamed named {cause} e = by (ltb (length bytes) used) refl (storeRead (take used bytes)) refl e
+    unnamed named {cause} e = by (ltb (length bytes) used) refl (decodeAll (take used bytes)) refl e
       where
         called : {one : Refusal} → _≡_ {A = Outcome Spot} (refused one) (refused cause) → Done (written.Refused one) bytes → Done (written.Refused cause) bytes
         called {one} q d = let k : one ≡ cause = cc in subst (λ (y : Refusal). Done (written.Refused y) bytes) k d
 
-        by : (t : Bool) → ltb (length bytes) used ≡ t → (o : Option Book) → storeRead (take used bytes) ≡ o
+        by : (t : Bool) → ltb (length bytes) used ≡ t → (o : Option Book) → decodeAll (take used bytes) ≡ o
             → _≡_ {A = Outcome Spot} (refuseIf t BadStore (andThen (orRefuse BadStore o) (λ b. refused NotFound))) (refused cause) → Done (written.Refused cause) bytes
         by true q o r e = called e (refused-done BadStore (way-over L the-call bytes used clear (ltb-true (length bytes) used q)))
-        by false q none r e = called e (refused-done BadStore (way-unread L the-call bytes used clear (ltb-false (length bytes) used q) r))
+        by false q none r e = called e (refused-done BadStore (way-unread L the-call bytes used clear (ltb-false (length bytes) used q) (ap contentsOf r)))
         by false q (some b) r e =
-            called e (refused-done NotFound (way-judged L the-call bytes used clear (ltb-false (length bytes) used q) b r NotFound
+            called e (refused-done NotFound (way-judged L the-call bytes used clear (ltb-false (length bytes) used q) (record { records = b }) (ap contentsOf r) NotFound
             (judged-none b (ap (λ (o : Option Ident). findNamed o b) named))))
 
     module _ (i : Ident) (named : nameOf u ≡ some i) where
       pub turned : {cause : Refusal} → spotIn i bytes used ≡ refused cause → Done (written.Refused cause) bytes
       unfolding spotIn
-      turned {cause} e = by (ltb (length bytes) used) refl (storeRead (take used bytes)) refl e
+      turned {cause} e = by (ltb (length bytes) used) refl (decodeAll (take used bytes)) refl e
         where
           named-as : {one : Refusal} → _≡_ {A = Outcome Spot} (refused one) (refused cause) → Done (written.Refused one) bytes → Done (written.Refused cause) bytes
           named-as {one} q d = let k : one ≡ cause = cc in subst (λ (y : Refusal). Done (written.Refused y) bytes) k d
 
-          last : (b : Book) → ltb (length bytes) used ≡ false → storeRead (take used bytes) ≡ some b → (o : Option Spot) → first (isOf i) firstPlace b ≡ o → orRefuse NotFound o ≡ refused cause → Done (written.Refused cause) bytes
+          last : (b : Book) → ltb (length bytes) used ≡ false → decodeAll (take used bytes) ≡ some b → (o : Option Spot) → first (isOf i) firstPlace b ≡ o → orRefuse NotFound o ≡ refused cause → Done (written.Refused cause) bytes
           last b t r none q e =
-              named-as e (refused-done NotFound (way-judged L the-call bytes used clear (ltb-false (length bytes) used t) b r NotFound
+              named-as e (refused-done NotFound (way-judged L the-call bytes used clear (ltb-false (length bytes) used t) (record { records = b }) (ap contentsOf r) NotFound
               (judged-none b (ap (λ (o : Option Ident). findNamed o b) named ∙ first-none i firstPlace b q))))
           last b t r (some z) q e = absurd (let y : _≡_ {A = ℕ} 0 1 = cc in omega arith)
 
-          by : (t : Bool) → ltb (length bytes) used ≡ t → (o : Option Book) → storeRead (take used bytes) ≡ o
+          by : (t : Bool) → ltb (length bytes) used ≡ t → (o : Option Book) → decodeAll (take used bytes) ≡ o
               → refuseIf t BadStore (andThen (orRefuse BadStore o) (λ b. orRefuse NotFound (first (isOf i) firstPlace b))) ≡ refused cause → Done (written.Refused cause) bytes
           by true q o r e = named-as e (refused-done BadStore (way-over L the-call bytes used clear (ltb-true (length bytes) used q)))
-          by false q none r e = named-as e (refused-done BadStore (way-unread L the-call bytes used clear (ltb-false (length bytes) used q) r))
+          by false q none r e = named-as e (refused-done BadStore (way-unread L the-call bytes used clear (ltb-false (length bytes) used q) (ap contentsOf r)))
           by false q (some b) r e = last b q r (first (isOf i) firstPlace b) refl e
 
       module _ (h : Bytes bytes) (x : Spot) (m : Met i bytes used x) where
         pl : Placed i 0 (m .records) x
         pl = placed i 0 (m .records) x (m .is)
 
-        image-is : take used bytes ≡ storeImage (m .records)
+        image-is : take used bytes ≡ recordsImage (m .records)
         image-is = decoded (take used bytes) (m .records) (bytes-take used bytes h) (m .are) .0
 
         reads : Reads (take used bytes) x
@@ -224,24 +225,24 @@ module _ (L : LimitSet) (p : Permitted L) (u : Update) (bytes : List ℕ) (used 
         found = ap (λ (o : Option Ident). findNamed o (m .records)) named ∙ pl .finds
 
         amended : (now : Record) → revised L u (x .value) ≡ given now
-            → spliced (x .place) (length (image .write (x .value))) (image .write now) (take used bytes) ≡ storeImage (amend now (m .records))
+            → spliced (x .place) (length (image .write (x .value))) (image .write now) (take used bytes) ≡ recordsImage (amend now (m .records))
         amended now e =
             let k : identOf now ≡ i = revises L p u (x .value) now e .same ∙ pl .stands .ident-is in
-            let q : x .place ≡ size (pl .stands .front) = omega (arith, pl .place-is) in
+            let q : x .place ≡ recordsSize (pl .stands .front) = omega (arith, pl .place-is) in
             ap (λ (n : ℕ). spliced n (length (image .write (x .value))) (image .write now) (take used bytes)) q
-            ∙ ap (λ (t : List ℕ). spliced (size (pl .stands .front)) (length (image .write (x .value))) (image .write now) t) image-is
+            ∙ ap (λ (t : List ℕ). spliced (recordsSize (pl .stands .front)) (length (image .write (x .value))) (image .write now) t) image-is
             ∙ sym (amend-bytes i (x .value) (m .records) (pl .stands) now k)
 
         -- an accepted step: 18, or the store with the changed record
-        taken : (now : Record) → revised L u (x .value) ≡ given now → updating L u bytes used ≡ leftBy (fitted (length bytes) (storeImage (amend now (m .records)))) (toldBy u now)
-        taken now e = by (ltb (length bytes) (size (amend now (m .records)))) refl
+        taken : (now : Record) → revised L u (x .value) ≡ given now → updating L u bytes used ≡ leftBy (fitted (length bytes) (recordsImage (amend now (m .records)))) (toldBy u now)
+        taken now e = by (ltb (length bytes) (recordsSize (amend now (m .records)))) refl
           where
             j : judge L the-call (m .records) ≡ given (record { change = alter now; value = toldBy u now })
             j = judged (m .records) (x .value) found ∙ ap (λ (o : Outcome Record). andThen o (λ y. given (record { change = alter y; value = toldBy u y }))) e
 
-            by : (f : Bool) → ltb (length bytes) (size (amend now (m .records))) ≡ f → updating L u bytes used ≡ leftBy (refuseBy (causeIf f NoRoom) (given (storeImage (amend now (m .records))))) (toldBy u now)
-            by true f = way-full L the-call bytes used clear (m .within) (m .records) (m .are) (record { change = alter now; value = toldBy u now }) j (ltb-true (length bytes) (size (amend now (m .records))) f)
-            by false f = way-taken L the-call bytes used clear (m .within) (m .records) (m .are) (record { change = alter now; value = toldBy u now }) j (ltb-false (length bytes) (size (amend now (m .records))) f)
+            by : (f : Bool) → ltb (length bytes) (recordsSize (amend now (m .records))) ≡ f → updating L u bytes used ≡ leftBy (refuseBy (causeIf f NoRoom) (given (recordsImage (amend now (m .records))))) (toldBy u now)
+            by true f = way-full L the-call bytes used clear (m .within) (record { records = m .records }) (ap contentsOf (m .are)) (record { change = alter now; value = toldBy u now }) j (ltb-true (length bytes) (recordsSize (amend now (m .records))) f)
+            by false f = way-taken L the-call bytes used clear (m .within) (record { records = m .records }) (ap contentsOf (m .are)) (record { change = alter now; value = toldBy u now }) j (ltb-false (length bytes) (recordsSize (amend now (m .records))) f)
 
         -- the step at its place leaves what `run` leaves, and answers the changed record's value
         after-step : updating L u bytes used ≡ leftBy (stepped (revised L u) (length bytes) (x .place) (take used bytes)) (told (revised L u (x .value)))
@@ -250,7 +251,7 @@ module _ (L : LimitSet) (p : Permitted L) (u : Update) (bytes : List ℕ) (used 
             by : (o : Outcome Record) → revised L u (x .value) ≡ o
                 → updating L u bytes used ≡ leftBy (andThen o (λ v. fitted (length bytes) (spliced (x .place) (length (image .write (x .value))) (image .write v) (take used bytes)))) (told o)
             by (refused cause) e =
-                way-judged L the-call bytes used clear (m .within) (m .records) (m .are) cause
+                way-judged L the-call bytes used clear (m .within) (record { records = m .records }) (ap contentsOf (m .are)) cause
                 (judged (m .records) (x .value) found ∙ ap (λ (o : Outcome Record). andThen o (λ y. given (record { change = alter y; value = toldBy u y }))) e)
             by (given now) e = subst (λ (l : List ℕ). updating L u bytes used ≡ leftBy (fitted (length bytes) l) (toldBy u now)) (sym (amended now e)) (taken now e)
 
@@ -287,7 +288,7 @@ not-standing i bytes used {cause} e = by (spotIn i bytes used) e
 
 -- where no identifier is named, nothing is found
 pub never-at : {X : Type 0} (bytes : List ℕ) (used : ℕ) {at : ℕ} {q : RecordAt} → standing.At at q ≡ standingOf (spotNamed none bytes used) → X
-never-at {X} bytes used {at} {q} e = by (ltb (length bytes) used) (storeRead (take used bytes)) e
+never-at {X} bytes used {at} {q} e = by (ltb (length bytes) used) (decodeAll (take used bytes)) e
   where
     by : (t : Bool) (o : Option Book) → standing.At at q ≡ standingOf (refuseIf t BadStore (andThen (orRefuse BadStore o) (λ b. refused NotFound))) → X
     by true o e = absurd (let y : _≡_ {A = ℕ} 0 1 = cc in omega arith)

@@ -18,7 +18,7 @@ use Rattle.image.specs.declared.RecordAt.{RecordAt}
 use Rattle.store.specs.Counting.{recordsHeld, countAnswer}
 use Rattle.store.specs.declared.Held.the-variants as held
 use Rattle.dialog_id.specs.Ident.{Ident}
-use Rattle.book.specs.Book.{Book, storeRead, isOf, firstPlace}
+use Rattle.book.specs.Book.{Book, isOf, firstPlace}
 use Rattle.dialog_manager.specs.Search.{Spot, first, foundOf, foundIn, Stands}
 use Rattle.dialog_manager.specs.declared.finding.Found.the-variants as found
 use Rattle.dialog_manager.proofs.LookupLaws.{Kept}
@@ -56,23 +56,23 @@ module _ (bytes : List ℕ) (used : ℕ) where
         by false (some b) e = absurd (let z : _≡_ {A = ℕ} 0 1 = cc in omega arith)
 
     module _ (k : Kept bytes used) where
-      opened : spotIn i bytes used ≡ orRefuse NotFound (first (isOf i) firstPlace (k .records))
+      opened : spotIn i bytes used ≡ orRefuse NotFound (first (isOf i) firstPlace (k .contents .records))
       unfolding spotIn
       opened =
-          ap (λ (t : Bool). refuseIf t BadStore (andThen (orRefuse BadStore (storeRead (take used bytes))) (λ b. orRefuse NotFound (first (isOf i) firstPlace b)))) (le-ltb (length bytes) used (k .within))
+          ap (λ (t : Bool). refuseIf t BadStore (andThen (orRefuse BadStore (decodeAll (take used bytes))) (λ b. orRefuse NotFound (first (isOf i) firstPlace b)))) (le-ltb (length bytes) used (k .within))
           ∙ ap (λ (o : Option Book). andThen (orRefuse BadStore o) (λ b. orRefuse NotFound (first (isOf i) firstPlace b))) (k .are)
 
-      pub nothing : found.Nothing ≡ foundIn (isOf i) (storeRead (take used bytes)) → standing.Refused NotFound ≡ standingOf (spotIn i bytes used)
-      nothing e = by (first (isOf i) firstPlace (k .records)) refl (e ∙ ap (foundIn (isOf i)) (k .are))
+      pub nothing : found.Nothing ≡ foundIn (isOf i) (decodeAll (take used bytes)) → standing.Refused NotFound ≡ standingOf (spotIn i bytes used)
+      nothing e = by (first (isOf i) firstPlace (k .contents .records)) refl (e ∙ ap (foundIn (isOf i)) (k .are))
         where
-          by : (o : Option Spot) → first (isOf i) firstPlace (k .records) ≡ o → found.Nothing ≡ foundOf o → standing.Refused NotFound ≡ standingOf (spotIn i bytes used)
+          by : (o : Option Spot) → first (isOf i) firstPlace (k .contents .records) ≡ o → found.Nothing ≡ foundOf o → standing.Refused NotFound ≡ standingOf (spotIn i bytes used)
           by none q h = sym (ap standingOf (opened ∙ ap (orRefuse NotFound) q))
           by (some x) q h = absurd (let z : _≡_ {A = ℕ} 0 1 = cc in omega arith)
 
-      pub one : (at : ℕ) (r : RecordAt) → found.At at r ≡ foundIn (isOf i) (storeRead (take used bytes)) → standing.At at r ≡ standingOf (spotIn i bytes used)
-      one at r e = by (first (isOf i) firstPlace (k .records)) refl (e ∙ ap (foundIn (isOf i)) (k .are))
+      pub one : (at : ℕ) (r : RecordAt) → found.At at r ≡ foundIn (isOf i) (decodeAll (take used bytes)) → standing.At at r ≡ standingOf (spotIn i bytes used)
+      one at r e = by (first (isOf i) firstPlace (k .contents .records)) refl (e ∙ ap (foundIn (isOf i)) (k .are))
         where
-          by : (o : Option Spot) → first (isOf i) firstPlace (k .records) ≡ o → found.At at r ≡ foundOf o → standing.At at r ≡ standingOf (spotIn i bytes used)
+          by : (o : Option Spot) → first (isOf i) firstPlace (k .contents .records) ≡ o → found.At at r ≡ foundOf o → standing.At at r ≡ standingOf (spotIn i bytes used)
           by none q h = absurd (let z : _≡_ {A = ℕ} 0 1 = cc in omega arith)
           by (some x) q h =
               let m : standing.At at r ≡ standingOf (orRefuse NotFound (some x)) = cc in

@@ -18,7 +18,8 @@ use Rattle.dialog_changes.specs.declared.Raised.{Raised}
 use Rattle.dialog_changes.specs.declared.Raised.the-variants as raised
 use Rattle.dialog_id.specs.Ident.{Ident, ident}
 use Rattle.book.specs.Calls.{Update, request, response, terminate, localNumber, interval, update}
-use Rattle.book.specs.Book.{storeRead, isOf, firstPlace}
+use Rattle.record.specs.Store.{decodeAll}
+use Rattle.book.specs.Book.{isOf, firstPlace}
 use Rattle.book.specs.Store.{Left, run}
 use Rattle.dialog_manager.specs.Search.{Spot, first}
 use Rattle.store_entries.specs.declared.Standing.{Standing}
@@ -58,11 +59,11 @@ usedRaised (raised.To number n) used = n
 unfoldable pub spotIn : Ident → List ℕ → ℕ → Outcome Spot
 spotIn i bytes used =
     refuseIf (ltb (length bytes) used) BadStore
-    (andThen (orRefuse BadStore (storeRead (take used bytes))) (λ b. orRefuse NotFound (first (isOf i) firstPlace b)))
+    (andThen (orRefuse BadStore (decodeAll (take used bytes))) (λ b. orRefuse NotFound (first (isOf i) firstPlace b)))
 
 -- the same for the identifier that a block names, if it names one
 abbrev pub spotNamed : Option Ident → List ℕ → ℕ → Outcome Spot
-spotNamed none bytes used = refuseIf (ltb (length bytes) used) BadStore (andThen (orRefuse BadStore (storeRead (take used bytes))) (λ b. refused NotFound))
+spotNamed none bytes used = refuseIf (ltb (length bytes) used) BadStore (andThen (orRefuse BadStore (decodeAll (take used bytes))) (λ b. refused NotFound))
 spotNamed (some i) bytes used = spotIn i bytes used
 
 abbrev pub standingOf : Outcome Spot → Standing

@@ -30,7 +30,8 @@ use Rattle.store.specs.Identifiers.{IdsRead}
 use Rattle.store.specs.declared.Held.the-variants as held
 use Rattle.text.specs.Spans.{partIn}
 use Rattle.book.specs.Calls.{allIds, read, written}
-use Rattle.book.specs.Book.{Book, storeImage, storeRead, identifiersOf, reply, readingCause}
+use Rattle.record.specs.Store.{decodeAll}
+use Rattle.book.specs.Book.{Book, recordsImage, identifiersOf, reply, readingCause}
 use Rattle.book.specs.Store.{run}
 use Rattle.dialog_manager.specs.Search.{Stored, IdsWithin}
 use Rattle.dialog_manager.proofs.SearchLaws.{Turn, standing, its-end, ids-within}
@@ -59,9 +60,9 @@ texts-size s i w =
 pub record Passed (s : List ℕ) (at : ℕ) : Type 0 where
   pub front : List ℕ
   pub rest : Book
-  pub all : idsIn (storeRead s) ≡ front ++ identifiersOf rest
+  pub all : idsIn (decodeAll s) ≡ front ++ identifiersOf rest
   pub formed : EachFormed rest
-  pub ahead : drop at s ≡ storeImage rest
+  pub ahead : drop at s ≡ recordsImage rest
   pub here : at ≤ length s
   pub few : length front ≤ at
 
@@ -94,23 +95,23 @@ record First (s : List ℕ) (at : ℕ) (g : Passed s at) : Type 0 where
   more : Book
   splits : g .rest ≡ value ∷ more
   formed : EachFormed (value ∷ more)
-  reads : image .read (drop at s) ≡ some (record { value = value; rest = storeImage more })
+  reads : image .read (drop at s) ≡ some (record { value = value; rest = recordsImage more })
 
 module _ (s : List ℕ) (at : ℕ) (g : Passed s at) where
   -- no more bytes than all
-  pub front-fits : length (g .front) ≤ length (idsIn (storeRead s))
+  pub front-fits : length (g .front) ≤ length (idsIn (decodeAll s))
   front-fits = omega (arith, ap length (g .all), length-append (g .front) (identifiersOf (g .rest)))
 
   -- all are passed
-  pub done : length s ≤ at → idsIn (storeRead s) ≡ g .front
+  pub done : length s ≤ at → idsIn (decodeAll s) ≡ g .front
   unfolding writeAll identifiersOf
   done h = by (g .rest) refl
     where
-      by : (b : Book) → g .rest ≡ b → idsIn (storeRead s) ≡ g .front
+      by : (b : Book) → g .rest ≡ b → idsIn (decodeAll s) ≡ g .front
       by [] e = g .all ∙ (ap (λ (b : Book). g .front ++ identifiersOf b) e ∙ append-nil (g .front))
       by (x ∷ more) e =
-          let z : length (drop at s) ≡ length (image .write x ++ storeImage more) = ap length (g .ahead ∙ ap storeImage e) in
-          absurd (omega (arith, h, z, length-drop at s, length-append (image .write x) (storeImage more)))
+          let z : length (drop at s) ≡ length (image .write x ++ recordsImage more) = ap length (g .ahead ∙ ap recordsImage e) in
+          absurd (omega (arith, h, z, length-drop at s, length-append (image .write x) (recordsImage more)))
 
   module _ (h : at < length s) where
     -- bytes are left, so a record is
@@ -119,7 +120,7 @@ module _ (s : List ℕ) (at : ℕ) (g : Passed s at) where
     first = by (g .rest) refl
       where
         by : (b : Book) → g .rest ≡ b → First s at g
-        by [] e = absurd (let z : length (drop at s) ≡ 0 = ap length (g .ahead ∙ ap storeImage e) in omega (arith, h, z, length-drop at s))
+        by [] e = absurd (let z : length (drop at s) ≡ 0 = ap length (g .ahead ∙ ap recordsImage e) in omega (arith, h, z, length-drop at s))
         by (x ∷ more) e =
             let w : EachFormed (x ∷ more) = subst EachFormed e (g .formed) in
             record {
@@ -127,12 +128,12 @@ module _ (s : List ℕ) (at : ℕ) (g : Passed s at) where
               more = more;
               splits = e;
               formed = w;
-              reads = ap (image .read) (g .ahead ∙ ap storeImage e) ∙ image-round x (w .0) (storeImage more);
+              reads = ap (image .read) (g .ahead ∙ ap recordsImage e) ∙ image-round x (w .0) (recordsImage more);
             }
 
     -- a record stands here
     pub stands : At s at
-    stands = record { reading = record { value = first .value; rest = storeImage (first .more) }; reads = first .reads }
+    stands = record { reading = record { value = first .value; rest = recordsImage (first .more) }; reads = first .reads }
 
     -- its identifier comes next
     pub next : (i : IdsAt) → Bytes s → IdsRead s at i → More s at g i
@@ -142,7 +143,7 @@ module _ (s : List ℕ) (at : ℕ) (g : Passed s at) where
         let p = recordPlaces at (f .value) in
         let t : Turn s at p = standing s at hb (g .here) stands in
         let q : endAt s at ≡ p .end = its-end s at hb (g .here) stands in
-        let u : _≡_ {A = Reading Record} (record { value = t .step .value; rest = drop (p .end) s }) (record { value = f .value; rest = storeImage (f .more) }) = Option·some-injective _ _ (sym (t .step .reads) ∙ f .reads) in
+        let u : _≡_ {A = Reading Record} (record { value = t .step .value; rest = drop (p .end) s }) (record { value = f .value; rest = recordsImage (f .more) }) = Option·some-injective _ _ (sym (t .step .reads) ∙ f .reads) in
         let placed : i ≡ p .ids = e (stands .reading) (f .reads) in
         let within : IdsWithin s i = subst (IdsWithin s) (sym placed) (ids-within s at p t) in
         let k : Lie s (at + 2) (idsOf (f .value)) = record-lies s at (stands .reading) (bytes-drop at s hb) (f .reads) in
@@ -205,7 +206,7 @@ pub fill : (s out : List ℕ) → Bytes s → Stored s → Filled s out 0 0 out
 unfolding start
 fill s out hb k = record { passed = start s hb k; to-is = refl; are = refl }
 
-module _ (s out₀ : List ℕ) (at to : ℕ) (out : List ℕ) (f : Filled s out₀ at to out) (room : length (idsIn (storeRead s)) ≤ length out₀) where
+module _ (s out₀ : List ℕ) (at to : ℕ) (out : List ℕ) (f : Filled s out₀ at to out) (room : length (idsIn (decodeAll s)) ≤ length out₀) where
   -- no byte more or less
   pub same-long : length out ≡ length out₀
   same-long =
@@ -241,15 +242,15 @@ module _ (L : LimitSet) (n room : ℕ) (bytes : List ℕ) (used : ℕ) (hb : Byt
 
   module _ (k : Kept bytes used) where
     -- 18
-    pub too-long : room < length (idsIn (storeRead (take used bytes))) → refused NoRoom ≡ run L (read n (allIds room)) bytes used .answer
+    pub too-long : room < length (idsIn (decodeAll (take used bytes))) → refused NoRoom ≡ run L (read n (allIds room)) bytes used .answer
     unfolding reply
     too-long h =
-        let l : room < length (identifiersOf (k .records)) = rw (k .are) at h in
-        replies L n (allIds room) bytes used hb (no-cause L room) k (refused NoRoom) (rw (lt-ltb room (length (identifiersOf (k .records))) l))
+        let l : room < length (identifiersOf (k .contents .records)) = rw (k .are) at h in
+        replies L n (allIds room) bytes used hb (no-cause L room) k (refused NoRoom) (rw (lt-ltb room (length (identifiersOf (k .contents .records))) l))
 
     -- all are written
-    pub fitting : length (idsIn (storeRead (take used bytes))) ≤ room → given (written (idsIn (storeRead (take used bytes)))) ≡ run L (read n (allIds room)) bytes used .answer
+    pub fitting : length (idsIn (decodeAll (take used bytes))) ≤ room → given (written (idsIn (decodeAll (take used bytes)))) ≡ run L (read n (allIds room)) bytes used .answer
     unfolding reply
     fitting h =
-        let l : length (identifiersOf (k .records)) ≤ room = rw (k .are) at h in
-        replies L n (allIds room) bytes used hb (no-cause L room) k (given (written (idsIn (storeRead (take used bytes))))) (rw (k .are, le-ltb room (length (identifiersOf (k .records))) l))
+        let l : length (identifiersOf (k .contents .records)) ≤ room = rw (k .are) at h in
+        replies L n (allIds room) bytes used hb (no-cause L room) k (given (written (idsIn (decodeAll (take used bytes))))) (rw (k .are, le-ltb room (length (identifiersOf (k .contents .records))) l))

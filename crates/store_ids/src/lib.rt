@@ -14,7 +14,7 @@ ghost use Rattle.edit.specs.Edit.{over, putAt};
 ghost use Rattle.record.specs.Codec.{text};
 ghost use Rattle.text.specs.Spans.{partIn};
 ghost use Rattle.book.specs.Calls.{read, allIds};
-ghost use Rattle.book.specs.Book.{storeRead};
+ghost use Rattle.record.specs.Store.{decodeAll};
 ghost use Rattle.book.specs.Store.{run, outputAfter};
 ghost use Rattle.book.specs.Returned.{idsWritten};
 ghost use Rattle.dialog_manager.specs.Search.{Stored, IdsWithin};
@@ -39,7 +39,7 @@ pub fn all_ids(bytes: &[u8], used: usize, out: &mut [u8]) -> Written
 // How many bytes the identifiers of all records take. The bytes are those of a store that was read.
 fn ids_size(bytes: &[u8]) -> usize
     requires { ⌜ Stored (now bytes) ⌝ }
-    ensures { λ r. ⌜ r ≡ length (idsIn (storeRead (now (bytes .entry)))) ⌝ }
+    ensures { λ r. ⌜ r ≡ length (idsIn (decodeAll (now (bytes .entry)))) ⌝ }
 {
     let mut at = 0;
     let mut n = 0;
@@ -65,8 +65,8 @@ fn id_size(ids: IdsAt) -> usize
 // The identifiers of all records, over the front of the output.
 fn write_all(bytes: &[u8], out: &mut [u8])
     requires { ⌜ Stored (now bytes) ⌝ }
-    requires { ⌜ length (idsIn (storeRead (now bytes))) ≤ length (now out) ⌝ }
-    ensures { λ _. ⌜ now (out .exit) ≡ over (idsIn (storeRead (now (bytes .entry)))) (now (out .entry)) ⌝ }
+    requires { ⌜ length (idsIn (decodeAll (now bytes))) ≤ length (now out) ⌝ }
+    ensures { λ _. ⌜ now (out .exit) ≡ over (idsIn (decodeAll (now (bytes .entry)))) (now (out .entry)) ⌝ }
 {
     let mut at = 0;
     let mut to = 0;

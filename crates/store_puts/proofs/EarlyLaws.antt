@@ -19,7 +19,8 @@ use Rattle.distinct.specs.Keys.{At}
 use Rattle.distinct.specs.Ends.{endAt}
 use Rattle.store.specs.Identifiers.{IdsRead}
 use Rattle.dialog_id.specs.Ident.{Ident, ident}
-use Rattle.book.specs.Book.{Book, storeRead, isOf, others, keep, isEarly, isEarlyOf, earlyOf}
+use Rattle.record.specs.Store.{decodeAll}
+use Rattle.book.specs.Book.{Book, isOf, others, keep, isEarly, isEarlyOf, earlyOf}
 use Rattle.dialog_manager.specs.Search.{IdsWithin, Stored}
 use Rattle.dialog_manager.proofs.SearchLaws.{Turn, its-end, ids-within, compared}
 use Rattle.store_puts.specs.Puts.{earlyOthers, stateAt, earlyAt}
@@ -124,13 +125,13 @@ one-more i x b = by (isOf i x)
 pub record Counting (i : Ident) (s : List ℕ) (at n : ℕ) : Type 0 where
   pub rest : Book
   pub ahead : Ahead s (length s) at rest
-  pub all : earlyOthers i (storeRead s) ≡ n + earlyOthers i (some rest)
+  pub all : earlyOthers i (decodeAll s) ≡ n + earlyOthers i (some rest)
   pub few : n ≤ at
 
 pub start : (i : Ident) (s : List ℕ) → Bytes s → Stored s → Counting i s 0 0
 start i s hb k = record {
   rest = k .records;
-  ahead = all-ahead s (length s) (k .records) hb (omega arith) (ap storeRead (take-length s) ∙ k .are);
+  ahead = all-ahead s (length s) (k .records) hb (omega arith) (ap decodeAll (take-length s) ∙ k .are);
   all = omega (arith, ap (earlyOthers i) (k .are));
   few = omega arith;
 }
@@ -144,7 +145,7 @@ pub record Counted (c l r : List ℕ) (s : List ℕ) (at n : ℕ) (i : IdsAt) : 
 
 module _ (c l r : List ℕ) (s : List ℕ) (at n : ℕ) (g : Counting (ident c l r) s at n) where
   -- all records are read
-  pub done : length s ≤ at → n ≡ earlyOthers (ident c l r) (storeRead s)
+  pub done : length s ≤ at → n ≡ earlyOthers (ident c l r) (decodeAll s)
   done h =
       let z : earlyOthers (ident c l r) (some (g .rest)) ≡ 0 = ap (λ (b : Book). earlyOthers (ident c l r) (some b)) (none-ahead s (length s) at (g .rest) (g .ahead) h) in
       omega (arith, z, g .all)

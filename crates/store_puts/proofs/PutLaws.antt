@@ -39,10 +39,11 @@ use Rattle.store.specs.Counting.{recordsHeld, countAnswer}
 use Rattle.store.specs.declared.Held.the-variants as held
 use Rattle.dialog_id.specs.Ident.{Ident, ident}
 use Rattle.book.specs.Calls.{Value, noValue, imageAt}
-use Rattle.book.specs.Book.{Book, storeImage, storeRead, size, identOf, isOf, place, set, Taken, firstPlace, placeOf, isFull, isCrowded, argumentCause, judge}
+use Rattle.record.specs.Store.{decodeAll}
+use Rattle.book.specs.Book.{Book, contentsOf, causeIn, recordsImage, recordsSize, identOf, isOf, place, set, Taken, firstPlace, placeOf, isFull, isCrowded, argumentCause, judge}
 use Rattle.book.specs.Store.{Left, run}
 use Rattle.book.proofs.SpliceLaws.{place-held, amend-bytes, new-bytes}
-use Rattle.book.proofs.WayLaws.{keptWith, way-judged, way-full, way-taken}
+use Rattle.book.proofs.WayLaws.{keptWith, way-arguments, way-judged, way-full, way-taken}
 use Rattle.dialog_manager.specs.Lookups.{placeIn}
 use Rattle.dialog_manager.specs.Search.{named, foundIn, IdsWithin, Stands}
 use Rattle.dialog_manager.specs.declared.finding.Found.the-variants as found
@@ -138,15 +139,6 @@ module _ (s img : List ℕ) (used : ℕ) (w : used ≤ length s) where
 
 -- ---- the whole call
 
-no-cause : (L : LimitSet) (n : ℕ) (img : List ℕ) → argumentCause L (putting n img) ≡ none
-unfolding argumentCause
-no-cause L n img = refl
-
--- 3, of the store
-pub store-unread : (L : LimitSet) (n : ℕ) (img s : List ℕ) (used : ℕ) {cause : Refusal} → countAnswer (recordsHeld s used) ≡ held.Refused cause
-    → run L (putting n img) s used ≡ keptWith L (putting n img) s used BadStore
-store-unread L n img s used e = unheld L (putting n img) s used (no-cause L n img) e
-
 -- every refusal of an image is 3
 bad-image : (img : List ℕ) {cause : Refusal} → answer.Refused cause ≡ imageAnswer (oneRecord img) → oneRecord img ≡ refused BadStore
 unfolding oneRecord
@@ -156,24 +148,39 @@ bad-image img {cause} e = by (onlyOne (image .read img)) e
     by none h = refl
     by (some r) h = absurd (let z : _≡_ {A = ℕ} 0 1 = cc in omega arith)
 
+-- an image of one record is no cause
+no-cause : (L : LimitSet) (n : ℕ) (img : List ℕ) {r : Record} → oneRecord img ≡ given r → argumentCause L (putting n img) ≡ none
+unfolding argumentCause
+no-cause L n img e = ap causeIn e
+
+-- 3, of the image
+pub not-one : (L : LimitSet) (n : ℕ) (img s : List ℕ) (used : ℕ) {cause : Refusal} → answer.Refused cause ≡ imageAnswer (oneRecord img)
+    → run L (putting n img) s used ≡ keptWith L (putting n img) s used BadStore
+unfolding argumentCause
+not-one L n img s used e = way-arguments L (putting n img) s used BadStore (ap causeIn (bad-image img e))
+
+-- 3, of the store
+pub store-unread : (L : LimitSet) (n : ℕ) (img s : List ℕ) (used : ℕ) {cause : Refusal} → countAnswer (recordsHeld s used) ≡ held.Refused cause
+    → run L (putting n img) s used ≡ keptWith L (putting n img) s used BadStore
+store-unread L n img s used {cause} e = by (oneRecord img) refl
+  where
+    by : (v : Outcome Record) → oneRecord img ≡ v → run L (putting n img) s used ≡ keptWith L (putting n img) s used BadStore
+    by (refused x) q = not-one L n img s used (sym (ap imageAnswer q))
+    by (given r) q = unheld L (putting n img) s used (no-cause L n img q) e
+
 module _ (L : LimitSet) (n : ℕ) (img s : List ℕ) (used : ℕ) (k : Kept s used) where
-  -- a cause that is read over the records
-  judged-as : (cause : Refusal) → judge L (putting n img) (k .records) ≡ refused cause → run L (putting n img) s used ≡ keptWith L (putting n img) s used cause
-  judged-as cause j = way-judged L (putting n img) s used (no-cause L n img) (k .within) (k .records) (k .are) cause j
-
-  -- 3, of the image
-  pub not-one : {cause : Refusal} → answer.Refused cause ≡ imageAnswer (oneRecord img) → run L (putting n img) s used ≡ keptWith L (putting n img) s used BadStore
-  unfolding judge
-  not-one e = judged-as BadStore (rw (bad-image img e))
-
   module _ (r : Record) (one : oneRecord img ≡ given r) where
+    -- a cause that is read over the records
+    judged-as : (cause : Refusal) → judge L (putting n img) (k .contents .records) ≡ refused cause → run L (putting n img) s used ≡ keptWith L (putting n img) s used cause
+    judged-as cause j = way-judged L (putting n img) s used (no-cause L n img one) (k .within) (k .contents) (k .read) cause j
+
     -- 16
-    pub too-many : isFull L (k .records) ≡ true → run L (putting n img) s used ≡ keptWith L (putting n img) s used TooManyDialogs
+    pub too-many : isFull L (k .contents .records) ≡ true → run L (putting n img) s used ≡ keptWith L (putting n img) s used TooManyDialogs
     unfolding judge
     too-many e = judged-as TooManyDialogs (rw (one, e))
 
     -- 17
-    pub too-many-early : isFull L (k .records) ≡ false → isCrowded L r (k .records) ≡ true → run L (putting n img) s used ≡ keptWith L (putting n img) s used TooManyEarlyDialogs
+    pub too-many-early : isFull L (k .contents .records) ≡ false → isCrowded L r (k .contents .records) ≡ true → run L (putting n img) s used ≡ keptWith L (putting n img) s used TooManyEarlyDialogs
     unfolding judge
     too-many-early f e = judged-as TooManyEarlyDialogs (rw (one, f, e))
 
@@ -183,63 +190,63 @@ pub record Sets (now : Left) (s t : List ℕ) : Type 0 where
   pub bytes : leaves (fitted (length s) t) s ≡ now .bytes
 
 module _ (L : LimitSet) (n : ℕ) (img s : List ℕ) (used : ℕ) (hb : Bytes s) (k : Kept s used) (r : Record) (one : oneRecord img ≡ given r) (is : image .write r ≡ img)
-    (free : isFull L (k .records) ≡ false) (few : isCrowded L r (k .records) ≡ false) where
+    (free : isFull L (k .contents .records) ≡ false) (few : isCrowded L r (k .contents .records) ≡ false) where
   -- the call is accepted, but for 18
   abbrev taken : Taken
   taken = record { change = set r; value = noValue }
 
-  judged : judge L (putting n img) (k .records) ≡ given taken
+  judged : judge L (putting n img) (k .contents .records) ≡ given taken
   unfolding judge
   judged = rw (one, free, few)
 
   -- 18, or the images of the records with this one in its place
-  sets : Sets (run L (putting n img) s used) s (storeImage (place r (k .records)))
-  sets = by (ltb (length s) (size (place r (k .records)))) refl
+  sets : Sets (run L (putting n img) s used) s (recordsImage (place r (k .contents .records)))
+  sets = by (ltb (length s) (recordsSize (place r (k .contents .records)))) refl
     where
-      by : (t : Bool) → ltb (length s) (size (place r (k .records))) ≡ t → Sets (run L (putting n img) s used) s (storeImage (place r (k .records)))
+      by : (t : Bool) → ltb (length s) (recordsSize (place r (k .contents .records))) ≡ t → Sets (run L (putting n img) s used) s (recordsImage (place r (k .contents .records)))
       by true e =
-          let q = way-full L (putting n img) s used (no-cause L n img) (k .within) (k .records) (k .are) taken judged (ltb-true (length s) (size (place r (k .records))) e) in
+          let q = way-full L (putting n img) s used (no-cause L n img one) (k .within) (k .contents) (k .read) taken judged (ltb-true (length s) (recordsSize (place r (k .contents .records))) e) in
           record { answer = rw e (sym (ap writtenIn q)); bytes = rw e (sym (ap (λ (l : Left). l .bytes) q)) }
       by false e =
-          let q = way-taken L (putting n img) s used (no-cause L n img) (k .within) (k .records) (k .are) taken judged (ltb-false (length s) (size (place r (k .records))) e) in
+          let q = way-taken L (putting n img) s used (no-cause L n img one) (k .within) (k .contents) (k .read) taken judged (ltb-false (length s) (recordsSize (place r (k .contents .records))) e) in
           record { answer = rw e (sym (ap writtenIn q)); bytes = rw e (sym (ap (λ (l : Left). l .bytes) q)) }
 
   -- over the old image
-  pub replaced : (at old : ℕ) → placeOf (isOf (identOf r)) firstPlace (k .records) ≡ some (imageAt at old) → Sets (run L (putting n img) s used) s (spliced at old img (take used s))
+  pub replaced : (at old : ℕ) → placeOf (isOf (identOf r)) firstPlace (k .contents .records) ≡ some (imageAt at old) → Sets (run L (putting n img) s used) s (spliced at old img (take used s))
   replaced at old e =
-      let b : Book = k .records in
+      let b : Book = k .contents .records in
       let d = standing (identOf r) firstPlace b at old e in
       let g = images s used hb k in
-      let at-is : at ≡ size (d .there .front) = omega (arith, d .place-is) in
-      let x : storeImage (place r b) ≡ spliced (size (d .there .front)) (length (image .write (d .was))) (image .write r) (storeImage b) =
-      ap storeImage (place-held r (d .was) b (d .found)) ∙ amend-bytes (identOf r) (d .was) b (d .there) r refl in
-      let y : spliced (size (d .there .front)) (length (image .write (d .was))) (image .write r) (storeImage b) ≡ spliced at old img (take used s) =
-      ap₂ (λ (j w : ℕ). spliced j w (image .write r) (storeImage b)) (sym at-is) (sym (d .size-is)) ∙ ap₂ (λ (u v : List ℕ). spliced at old u v) is (sym (g .are)) in
+      let at-is : at ≡ recordsSize (d .there .front) = omega (arith, d .place-is) in
+      let x : recordsImage (place r b) ≡ spliced (recordsSize (d .there .front)) (length (image .write (d .was))) (image .write r) (recordsImage b) =
+      ap recordsImage (place-held r (d .was) b (d .found)) ∙ amend-bytes (identOf r) (d .was) b (d .there) r refl in
+      let y : spliced (recordsSize (d .there .front)) (length (image .write (d .was))) (image .write r) (recordsImage b) ≡ spliced at old img (take used s) =
+      ap₂ (λ (j w : ℕ). spliced j w (image .write r) (recordsImage b)) (sym at-is) (sym (d .size-is)) ∙ ap₂ (λ (u v : List ℕ). spliced at old u v) is (sym (g .are)) in
       subst (Sets (run L (putting n img) s used) s) (x ∙ y) sets
 
   -- after all others
-  pub added : placeOf (isOf (identOf r)) firstPlace (k .records) ≡ none → Sets (run L (putting n img) s used) s (take used s ++ img)
+  pub added : placeOf (isOf (identOf r)) firstPlace (k .contents .records) ≡ none → Sets (run L (putting n img) s used) s (take used s ++ img)
   added e =
-      let b : Book = k .records in
+      let b : Book = k .contents .records in
       let g = images s used hb k in
-      let x : storeImage (place r b) ≡ take used s ++ img = new-bytes r b (absent (identOf r) firstPlace b e) ∙ ap₂ (λ (u v : List ℕ). u ++ v) (sym (g .are)) is in
+      let x : recordsImage (place r b) ≡ take used s ++ img = new-bytes r b (absent (identOf r) firstPlace b e) ∙ ap₂ (λ (u v : List ℕ). u ++ v) (sym (g .are)) is in
       subst (Sets (run L (putting n img) s used) s) x sets
 
 -- ---- what `put` has read
 
 -- how many records were counted
-counted-is : (s : List ℕ) (used n : ℕ) (k : Kept s used) → countAnswer (recordsHeld s used) ≡ held.Records n → n ≡ length (k .records)
-counted-is s used n k e = let z : held.Records n ≡ held.Records (length (k .records)) = sym e ∙ ap countAnswer (k .held) in cc
+counted-is : (s : List ℕ) (used n : ℕ) (k : Kept s used) → countAnswer (recordsHeld s used) ≡ held.Records n → n ≡ length (k .contents .records)
+counted-is s used n k e = let z : held.Records n ≡ held.Records (length (k .contents .records)) = sym e ∙ ap countAnswer (k .held) in cc
 
 -- 16, of that number
-pub full : (L : LimitSet) (s : List ℕ) (used n : ℕ) (k : Kept s used) → countAnswer (recordsHeld s used) ≡ held.Records n → L .dialogs ≤ n → isFull L (k .records) ≡ true
+pub full : (L : LimitSet) (s : List ℕ) (used n : ℕ) (k : Kept s used) → countAnswer (recordsHeld s used) ≡ held.Records n → L .dialogs ≤ n → isFull L (k .contents .records) ≡ true
 unfolding isFull
-full L s used n k e h = le-leb (L .dialogs) (length (k .records)) (omega (arith, h, counted-is s used n k e))
+full L s used n k e h = le-leb (L .dialogs) (length (k .contents .records)) (omega (arith, h, counted-is s used n k e))
 
 -- the store has room for one record more
 pub open-to : (L : LimitSet) (s : List ℕ) (used n : ℕ) → Kept s used → countAnswer (recordsHeld s used) ≡ held.Records n → n < L .dialogs → Open L s used
 unfolding isFull
-open-to L s used n k e h = record { records = k .records; within = k .within; are = k .are; free = lt-leb (L .dialogs) (length (k .records)) (omega (arith, h, counted-is s used n k e)) }
+open-to L s used n k e h = record { records = k .contents .records; within = k .within; are = k .are; free = lt-leb (L .dialogs) (length (k .contents .records)) (omega (arith, h, counted-is s used n k e)) }
 
 -- a part of a slice, as it is lent
 abbrev pub lent : List ℕ → Span → List ℕ
@@ -290,35 +297,35 @@ module _ (L : LimitSet) (n : ℕ) (img s : List ℕ) (used : ℕ) (state : CodeS
   held-so = rw (le-ltb (length s) used (o .within), o .are)
 
   abbrev read-so : Kept s used
-  read-so = record { records = o .records; within = o .within; are = o .are; held = held-so }
+  read-so = record { contents = record { records = o .records }; within = o .within; read = ap contentsOf (o .are); are = o .are; held = held-so }
 
   -- 17, of the record of the image
-  crowded-is : crowdedIn L (stateIn state) (ident c l r) (storeRead (take used s)) ≡ isCrowded L (a .value) (o .records)
+  crowded-is : crowdedIn L (stateIn state) (ident c l r) (decodeAll (take used s)) ≡ isCrowded L (a .value) (o .records)
   unfolding isCrowded
   crowded-is =
-      ap₂ (λ (x : State) (i : Ident). crowdedIn L x i (storeRead (take used s))) (a .state-is) (a .ident-is)
+      ap₂ (λ (x : State) (i : Ident). crowdedIn L x i (decodeAll (take used s))) (a .state-is) (a .ident-is)
       ∙ ap (crowdedIn L (a .value .numbers .state) (identOf (a .value))) (o .are)
 
-  pub crowded : crowdedIn L (stateIn state) (ident c l r) (storeRead (take used s)) ≡ true → run L (putting n img) s used ≡ keptWith L (putting n img) s used TooManyEarlyDialogs
+  pub crowded : crowdedIn L (stateIn state) (ident c l r) (decodeAll (take used s)) ≡ true → run L (putting n img) s used ≡ keptWith L (putting n img) s used TooManyEarlyDialogs
   crowded e = too-many-early L n img s used read-so (a .value) (a .one) (o .free) (sym crowded-is ∙ e)
 
   abbrev test : Record → Bool
   test = named true c l r
 
-  module _ (hb : Bytes s) (e : crowdedIn L (stateIn state) (ident c l r) (storeRead (take used s)) ≡ false) where
+  module _ (hb : Bytes s) (e : crowdedIn L (stateIn state) (ident c l r) (decodeAll (take used s)) ≡ false) where
     -- the place is asked of the record's own identifier
-    asked : (v : Outcome Value) → v ≡ placeIn test (storeRead (take used s)) → v ≡ orRefuse NotFound (placeOf (isOf (identOf (a .value))) firstPlace (o .records))
+    asked : (v : Outcome Value) → v ≡ placeIn test (decodeAll (take used s)) → v ≡ orRefuse NotFound (placeOf (isOf (identOf (a .value))) firstPlace (o .records))
     asked v q = q ∙ (ap (placeIn test) (o .are) ∙ ap (λ (i : Ident). orRefuse NotFound (placeOf (isOf i) firstPlace (o .records))) (a .ident-is))
 
     -- no record of its identifier
-    pub added-new : found.Nothing ≡ foundIn test (storeRead (take used s)) → Sets (run L (putting n img) s used) s (take used s ++ img)
+    pub added-new : found.Nothing ≡ foundIn test (decodeAll (take used s)) → Sets (run L (putting n img) s used) s (take used s ++ img)
     added-new q =
         added L n img s used hb read-so (a .value) (a .one) (a .is) (o .free) (sym crowded-is ∙ e)
         (not-placed (placeOf (isOf (identOf (a .value))) firstPlace (o .records)) (asked (refused NotFound) (none-found test (take used s) (stored s used read-so) q)))
 
     module _ (at : ℕ) (p : RecordAt) (w : Stands (take used s) (found.At at p)) where
       -- a record of its identifier
-      pub replaced-old : found.At at p ≡ foundIn test (storeRead (take used s)) → Sets (run L (putting n img) s used) s (spliced at (p .end - at) img (take used s))
+      pub replaced-old : found.At at p ≡ foundIn test (decodeAll (take used s)) → Sets (run L (putting n img) s used) s (spliced at (p .end - at) img (take used s))
       replaced-old q =
           replaced L n img s used hb read-so (a .value) (a .one) (a .is) (o .free) (sym crowded-is ∙ e) at (p .end - at)
           (placed-at (placeOf (isOf (identOf (a .value))) firstPlace (o .records)) (imageAt at (p .end - at)) (asked (given (imageAt at (p .end - at))) (one-found test (take used s) (stored s used read-so) (bytes-take used s hb) at p w q)))

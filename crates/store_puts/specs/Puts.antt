@@ -15,7 +15,8 @@ use Rattle.image.specs.declared.sections.IdsAt.{IdsAt}
 use Rattle.dialog.specs.OneImage.{oneRecord}
 use Rattle.dialog_id.specs.Ident.{Ident, ident}
 use Rattle.book.specs.Calls.{Call, put}
-use Rattle.book.specs.Book.{Book, storeRead, identOf, others, keep, isEarly, earlyOf, isFull}
+use Rattle.record.specs.Store.{decodeAll}
+use Rattle.book.specs.Book.{Book, identOf, others, keep, isEarly, earlyOf, isFull}
 use Rattle.dialog_manager.specs.Search.{namedAt}
 
 -- the call, of a store of n lent bytes
@@ -36,7 +37,7 @@ pub record Named (img : List ℕ) (state : CodeState) (callId localTag remoteTag
 pub record Open (L : LimitSet) (bytes : List ℕ) (used : ℕ) : Type 0 where
   pub records : Book
   pub within : used ≤ length bytes
-  pub are : storeRead (take used bytes) ≡ some records
+  pub are : decodeAll (take used bytes) ≡ some records
   pub free : isFull L records ≡ false
 
 -- how many Early records have the Call-ID of an identifier, but not the identifier

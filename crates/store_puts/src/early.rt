@@ -11,7 +11,8 @@ ghost use lib.ListN.{length};
 ghost use Rattle.limits.specs.Limits.{rustLimits};
 ghost use Rattle.record.specs.NumbersForm.{stateIn};
 ghost use Rattle.dialog_id.specs.Ident.{ident};
-ghost use Rattle.book.specs.Book.{storeRead, isEarly};
+ghost use Rattle.record.specs.Store.{decodeAll};
+ghost use Rattle.book.specs.Book.{isEarly};
 ghost use Rattle.dialog_manager.specs.Search.{IdsWithin, Stored};
 ghost use Rattle.store_puts.specs.Puts.{crowdedIn, earlyOthers, stateAt, earlyAt};
 
@@ -24,7 +25,7 @@ pub fn is_crowded(
     remote_tag: &[u8],
 ) -> bool
     requires { ⌜ Stored (now bytes) ⌝ }
-    ensures { λ r. ⌜ r ≡ crowdedIn rustLimits (stateIn state) (ident (now («call_id» .entry)) (now («local_tag» .entry)) (now («remote_tag» .entry))) (storeRead (now (bytes .entry))) ⌝ }
+    ensures { λ r. ⌜ r ≡ crowdedIn rustLimits (stateIn state) (ident (now («call_id» .entry)) (now («local_tag» .entry)) (now («remote_tag» .entry))) (decodeAll (now (bytes .entry))) ⌝ }
 {
     if !is_early(state) {
         return false;
@@ -35,7 +36,7 @@ pub fn is_crowded(
 // How many Early records have this Call-ID and another identifier.
 fn early_others(bytes: &[u8], call_id: &[u8], local_tag: &[u8], remote_tag: &[u8]) -> usize
     requires { ⌜ Stored (now bytes) ⌝ }
-    ensures { λ r. ⌜ r ≡ earlyOthers (ident (now («call_id» .entry)) (now («local_tag» .entry)) (now («remote_tag» .entry))) (storeRead (now (bytes .entry))) ⌝ }
+    ensures { λ r. ⌜ r ≡ earlyOthers (ident (now («call_id» .entry)) (now («local_tag» .entry)) (now («remote_tag» .entry))) (decodeAll (now (bytes .entry))) ⌝ }
 {
     let mut at = 0;
     let mut n = 0;

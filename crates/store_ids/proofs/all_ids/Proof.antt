@@ -8,7 +8,7 @@ use Rattle.limits.specs.Limits.{rustLimits}
 use Rattle.output.specs.declared.Written.the-variants as written
 use Rattle.record.proofs.CodecLaws.{Bytes, bytes-all}
 use Rattle.book.specs.Calls.{Answer}
-use Rattle.book.specs.Book.{storeRead}
+use Rattle.record.specs.Store.{decodeAll}
 use Rattle.book.specs.Store.{outputAfter}
 use Rattle.dialog_manager.proofs.LookupLaws.{Kept, kept, stored}
 use Rattle.book.specs.Returned.{idsWritten}
@@ -40,7 +40,7 @@ store c = kept (s (began c)) (began c .before .before .args .used) (sym (c .befo
 
 -- the identifiers of its records
 abbrev ids : tie.After-enum-told → List ℕ
-ids c = idsIn (storeRead (take (began c .before .before .args .used) (s (began c))))
+ids c = idsIn (decodeAll (take (began c .before .before .args .used) (s (began c))))
 
 count-requires : tie.Need-count-requires
 count-requires c κs = search needs

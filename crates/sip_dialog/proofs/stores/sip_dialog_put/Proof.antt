@@ -2,7 +2,7 @@
 use Prim.Native.Nat.{ℕ, suc, _<_}
 use mathlib.Core.List.{List, [], _∷_}
 use lib.ListN.{length, getD}
-use Rattle.book.specs.History.{All}
+use Rattle.book.specs.Trace.{All}
 use Rattle.limits.specs.Limits.{rustLimits}
 use Rattle.book.specs.Calls.{put}
 use Rattle.c_store_answers.proofs.ReturnLaws.{counted-returns}

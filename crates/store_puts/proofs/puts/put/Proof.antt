@@ -89,7 +89,7 @@ returns-2 : tie.Need-returns-2
 returns-2 c =
     let k = c .before .before .before in
     let a = start k .args in
-    turned-back (not-one rustLimits (length (a .bytes .now)) (a .image .now) (a .bytes .now) (a .used) (store k) (sym (c .enum-told2 .given .1) ∙ c .before .before .read-image .ensures))
+    turned-back (not-one rustLimits (length (a .bytes .now)) (a .image .now) (a .bytes .now) (a .used) (sym (c .enum-told2 .given .1) ∙ c .before .before .read-image .ensures))
 
 same-length-3 : tie.Need-same-length-3
 same-length-3 c = search needs

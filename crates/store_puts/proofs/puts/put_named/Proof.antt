@@ -9,7 +9,7 @@ use Rattle.record.specs.NumbersForm.{stateIn}
 use Rattle.record.proofs.CodecLaws.{Bytes, bytes-all}
 use Rattle.image.specs.declared.RecordAt.{RecordAt}
 use Rattle.dialog_id.specs.Ident.{ident}
-use Rattle.book.specs.Book.{storeRead}
+use Rattle.record.specs.Store.{decodeAll}
 use Rattle.dialog_manager.specs.Search.{Stands}
 use Rattle.dialog_manager.specs.declared.finding.Found.the-variants as found
 use Rattle.store_puts.specs.Puts.{crowdedIn}
@@ -36,7 +36,7 @@ known c = bytes-all (start c .args .bytes .now) (λ i. c .before .slice-known .g
 abbrev begun : tie.Else1 → tie.After-is-crowded-arg
 begun c = c .before .before
 
-free : (c : tie.Else1) → let a = start (begun c) .args in crowdedIn rustLimits (stateIn (a .state)) (ident (a .call-id .now) (a .local-tag .now) (a .remote-tag .now)) (storeRead (take (a .used) (a .bytes .now))) ≡ false
+free : (c : tie.Else1) → let a = start (begun c) .args in crowdedIn rustLimits (stateIn (a .state)) (ident (a .call-id .now) (a .local-tag .now) (a .remote-tag .now)) (decodeAll (take (a .used) (a .bytes .now))) ≡ false
 free c = sym (c .before .is-crowded .ensures) ∙ c .if1 .left
 
 -- the record that was found
