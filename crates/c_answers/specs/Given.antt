@@ -1,5 +1,6 @@
--- What a C caller gets. For each kind of answer: the number that is returned (0 accepted, else document 01's number), and what
--- the lent numbers then hold. A lent number keeps its value except where its answer is given.
+-- What a C caller gets. Document 01, "The shape of each place": where an answer is an enum, a definition sets out the number and the values of each case.
+-- For each kind of answer: the number that is returned (0 accepted, else that of "Turned back"), and what the lent numbers then hold. A lent number keeps
+-- its value except where its answer is given.
 use Prim.Native.Nat.{ℕ}
 use mathlib.Core.Path.{_≡_}
 use mathlib.Core.Bool.{Bool, true, false}

@@ -1,6 +1,7 @@
--- What a C caller gets of one record image. For each kind of answer: the number that is returned (0 accepted, else document 01's number), and
--- what the lent numbers then hold. A lent number keeps its value except where its answer is given; a used length that is lent is the image's
--- new length where the call is accepted, and keeps its value where it is refused.
+-- What a C caller gets of one record image. Document 01, "The shape of each place": where an answer is an enum, a definition sets out the number and the
+-- values of each case. For each kind of answer: the number that is returned (0 accepted, else that of "Turned back"), and what the lent numbers then hold.
+-- A lent number keeps its value except where its answer is given; a used length that is lent is the image's new length where the call is accepted, and keeps
+-- its value where it is refused.
 use Prim.Native.Nat.{ℕ}
 use mathlib.Core.Bool.{_||_}
 use Rattle.limits.specs.Refusal.{numberOf}

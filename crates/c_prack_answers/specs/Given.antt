@@ -1,5 +1,6 @@
 -- What a C caller of the calls on a PRACK store gets beside `Returns` (ordered_store/specs/Run.antt): what the lent numbers then are, by what `ran`
--- (prack_validator/specs/Validator.antt) leaves. A lent number keeps its value except where its answer is given.
+-- (prack_validator/specs/Validator.antt) leaves. Document 01, "Turned back" and "The shape of each place": a lent number keeps its value except where its
+-- answer is given.
 use Prim.Native.Nat.{ℕ}
 use mathlib.Core.Bool.{Bool}
 use Rattle.limits.specs.Outcome.{Outcome, refused, given}

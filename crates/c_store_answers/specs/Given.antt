@@ -1,5 +1,5 @@
--- What a C caller of the calls on a store gets. The contracts say it by `run` (book/specs/Store.antt) of the call as data; here a short form of that, and a step
--- of the code: what a put and a removal hand over.
+-- What a C caller of the calls on a store gets (document 01, "Turned back" and "The book of demand 3"). The contracts say it by `run` (book/specs/Store.antt)
+-- of the call as data; here a short form of that, and a step of the code: what a put and a removal hand over.
 use Prim.Native.Nat.{ℕ}
 use mathlib.Core.List.{List}
 use lib.ListN.{length}

@@ -1,4 +1,4 @@
--- What a creation is given, as the functions have it: the record of dialog/specs/Creation.antt from their parameters.
+-- A step of the code: what a creation is given, as the functions have it: the record of dialog/specs/Creation.antt from their parameters.
 use Prim.Native.Nat.{ℕ}
 use mathlib.Core.List.{List, []}
 use Rattle.dialog.specs.Creation.{Creation}

@@ -1,4 +1,5 @@
--- What the steps of a creation answer: which message is read for what, the state, the numbers and the size of the routes' section.
+-- Steps of the code: which message a creation reads for what, the state, the numbers and the size of the routes' section. What a creation makes is in
+-- dialog/specs/Creation.antt.
 use Prim.Native.Nat.{ℕ}
 use mathlib.Core.Bool.{Bool, true, false}
 use mathlib.Core.List.{List}

@@ -1,4 +1,4 @@
--- What a creation writes, as the parts of the record's image (image_writer/specs/Parts.antt).
+-- A step of the code: what a creation writes, as the parts of the record's image (image_writer/specs/Parts.antt).
 use Prim.Native.Nat.{ℕ}
 use mathlib.Core.Bool.{Bool, _||_}
 use mathlib.Core.List.{List}

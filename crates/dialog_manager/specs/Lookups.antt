@@ -1,4 +1,4 @@
--- The answers of the look-ups. What they are is `run` (book/specs/Store.antt); here the cases of the answer are set out, and a step of the code.
+-- Steps of the code: the answers of the look-ups (document 01, "A request arrives"), case by case. What they are is `run` (book/specs/Store.antt).
 use Prim.Native.Nat.{ℕ}
 use mathlib.Core.Bool.{Bool}
 use mathlib.Core.List.{List}

@@ -1,5 +1,5 @@
--- The first record of a name in a store, and where its image lies. Document 01, "A request arrives": `find_by_call_id` gives the first in the store; an
--- identifier has one record at most.
+-- Steps of the code: the first record of a name in a store, and where its image lies. Document 01, "A request arrives": `find_by_call_id` gives the first in
+-- the store; an identifier has one record at most.
 use Prim.Native.Nat.{ℕ, _+_, _≤_}
 use mathlib.Core.Path.{_≡_}
 use mathlib.Core.Bool.{Bool, true, false, cond, _&&_}

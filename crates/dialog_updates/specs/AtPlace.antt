@@ -1,5 +1,5 @@
--- What a step makes of the record that stands at a place of a store's used bytes. Document 01, "Turned back": 3 where no record can be read there, the
--- step's own refusals, 18 where the used bytes with the changed record are more than the lent ones. The images around it stay.
+-- A step of the code: what an update makes of the record that stands at a place of a store's used bytes. Document 01, "Turned back": 3 where no record can be
+-- read there, the update's own refusals, 18 where the used bytes with the changed record are more than the lent ones. The images around it stay.
 use Prim.Native.Nat.{ℕ}
 use mathlib.Core.List.{List}
 use mathlib.Core.Option.{Option, none, some}

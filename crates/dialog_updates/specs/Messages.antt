@@ -1,5 +1,6 @@
--- A request and a response on one record given as its image (`update_from_request`, `update_from_response`). What they make of the record is
--- `requestUpdate` and `responseUpdate` (dialog/specs/Updates.antt); here are the refusals before it: 1 and 2 of what is given, then 3.
+-- A request and a response on one record given as its image (`update_from_request`, `update_from_response` of lib.rs). What they make of the record is
+-- `requestUpdate` and `responseUpdate` (dialog/specs/Updates.antt); here are the refusals before it, in the order of document 01, "Turned back": 1 and 2 of
+-- what is given, then 3.
 use Prim.Native.Nat.{ℕ}
 use mathlib.Core.List.{List}
 use Rattle.limits.specs.Limits.{LimitSet}

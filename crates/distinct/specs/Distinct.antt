@@ -1,5 +1,5 @@
--- One record per identifier (document 01, refusal 3: "one identifier twice"), of bytes that are whole records. What the answer is,
--- and nothing of how it is found.
+-- A step of the code: whether bytes that are whole records have one record per identifier (document 01, refusal 3: "one identifier twice"). What the answer
+-- is, and nothing of how it is found.
 use Prim.Native.Nat.{ℕ}
 use mathlib.Core.Path.{_≡_}
 use mathlib.Core.Bool.{Bool}

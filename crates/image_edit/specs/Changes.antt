@@ -1,5 +1,5 @@
--- A record changed in its place among the used bytes of a store: the images before and after it are as they were, and move only as far as its own
--- image grows or shrinks (document 01, "Record image": "a replacement keeps its place"). What the change is, is a function on records.
+-- A step of the code: a record changed in its place among the used bytes of a store. The images before and after it are as they were, and move only as far as
+-- its own image grows or shrinks (document 01, "Record image": "a replacement keeps its place"). What the change is, is a function on records.
 use Prim.Native.Nat.{ℕ}
 use mathlib.Core.List.{List}
 use mathlib.Core.Option.{Option, none, some}

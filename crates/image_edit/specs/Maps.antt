@@ -1,4 +1,4 @@
--- The bit map of a record's image, from what is known of a record that was read: where its identifiers lie, and how many routes it has.
+-- A step of the code: the bit map of a record's image, from what is known of a record that was read: where its identifiers lie, and how many routes it has.
 use Prim.Native.Nat.{ℕ, _+_, _*_}
 use lib.Dec.{ltb}
 use Rattle.record.specs.Record.{Numbers, bitOf}

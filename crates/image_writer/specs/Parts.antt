@@ -1,4 +1,4 @@
--- A record's image from its parts, in the order of document 01, "Record image": the bit map, the identifiers, the state byte, the URIs, the
+-- Steps of the code: a record's image from its parts, in the order of document 01, "Record image": the bit map, the identifiers, the state byte, the URIs, the
 -- numbers, and the routes as a section that is encoded already (no bytes where there are no routes). That these are the bytes of `image`
 -- (record/specs/Record.antt) is the law `image-parts`. The front of an image is all before the routes: the law `image-front`.
 use Prim.Native.Nat.{ℕ, _+_, _*_, _<_}

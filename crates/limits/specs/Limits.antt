@@ -1,4 +1,4 @@
--- The figures that document 01's table and the Rust's constants fix, as fields of one record: every definition that uses a
+-- The figures of document 01, "Turned back", and of the constants in lib.rs and prack_validator.rs, as fields of one record: every definition that uses a
 -- figure is given the record, so that another set of figures is another argument and not another definition.
 use Prim.Native.Nat.{ℕ}
 

@@ -1,5 +1,5 @@
--- What a call comes to: refused for a cause of document 01's table, or a value. Causes are tried in an order; the first that
--- is true refuses the call.
+-- What a call comes to: refused for a cause of the table in document 01, "Turned back", or a value. Causes are tried in an order; the first that is true
+-- refuses the call.
 use Prim.Native.Nat.{ℕ}
 use mathlib.Core.Bool.{Bool, true, false, cond}
 use mathlib.Core.Option.{Option, none, some}

@@ -1,4 +1,4 @@
--- The methods that the Rust's `parse_method` knows, in its order: document 01 numbers them from 1 (refusal 28).
+-- The methods that `parse_method` of prack_validator.rs knows, in its order: document 01, refusal 28, numbers them from 1.
 -- RFC 3261 tells method names apart by letter case (sections 20.16 and 25.1); the Rust, and so this reading, doesn't.
 use Prim.Native.Nat.{ℕ, suc, _-_}
 use mathlib.Core.Bool.{Bool, cond, not}

@@ -1,4 +1,4 @@
--- What a call answers that gives no more than the new used length, by what `run` (Run.antt) leaves.
+-- Steps of the code: what a call answers that gives no more than the new used length, by what `run` (Run.antt) leaves.
 use Prim.Native.Nat.{ℕ}
 use Rattle.limits.specs.Outcome.{Outcome, refused, given}
 use Rattle.output.specs.declared.Written.{Written}

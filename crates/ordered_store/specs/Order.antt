@@ -1,6 +1,6 @@
 -- Which of two keys comes first: by the bytes of their texts, the first text that differs deciding; a text that is a proper prefix of another comes
--- before it. docs/LAYOUTS.md, "The RSeq store" and "The PRACK store": both keep their entries in this order. `distinct` sorts the keys
--- of records by that of texts.
+-- before it. Document 01, "Intervals, PRACK, RSeq": the layouts are the team's, with "one image for each content". docs/LAYOUTS.md, "The RSeq store" and "The
+-- PRACK store": both keep their entries in this order. `distinct` sorts the keys of records by that of texts.
 use Prim.Native.Nat.{ℕ}
 use mathlib.Core.Bool.{Bool, true, false, cond}
 use mathlib.Core.List.{List, [], _∷_}

@@ -1,4 +1,4 @@
--- What the code's steps answer of all entries of a store. The entries themselves are `decodeEntries` alone.
+-- Steps of the code: what is answered of all entries of a store. The entries themselves are `decodeEntries` alone.
 use Prim.Native.Nat.{ℕ}
 use mathlib.Core.Path.{_≡_}
 use mathlib.Core.List.{List}

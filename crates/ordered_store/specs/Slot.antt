@@ -1,4 +1,5 @@
--- Where the entry of a key stands in the bytes of a store, or where it would go: entries ascend, so the first whose key isn't before it decides.
+-- A step of the code: where the entry of a key stands in the bytes of a store, or where it would go. Entries ascend, so the first whose key isn't before it
+-- decides.
 use Prim.Native.Nat.{ℕ, _+_}
 use mathlib.Core.Bool.{cond}
 use mathlib.Core.List.{List, [], _∷_}

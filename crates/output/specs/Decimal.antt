@@ -1,4 +1,5 @@
--- A number as decimal text, as Rust's `format!` writes it: the most significant digit first, no leading zeros.
+-- A number as decimal text, as `RAck::format` of prack_validator.rs has it from Rust's `format!`, and as the columns of document 01, "Handover listing", print
+-- it: the most significant digit first, no leading zeros.
 use Prim.Native.Nat.{ℕ, zero, suc, _+_, _/_, _%_}
 use mathlib.Core.Bool.{cond}
 use mathlib.Core.List.{List, [], _∷_, _++_}

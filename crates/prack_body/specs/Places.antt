@@ -1,5 +1,5 @@
--- Where the parts lie of what is held for one identifier text, read at a place of lent bytes. What the parts are is `trackedForm .read` alone
--- (specs/Layout.antt); here are only their places. Where no list stands, its entries would begin past the byte that says so.
+-- Steps of the code: where the parts lie of what is held for one identifier text, read at a place of lent bytes. What the parts are is `trackedForm .read`
+-- alone (specs/Layout.antt); here are only their places. Where no list stands, its entries would begin past the byte that says so.
 use Prim.Native.Nat.{ℕ, _+_, _*_}
 use mathlib.Core.Bool.{Bool, true, false}
 use mathlib.Core.List.{List}

@@ -1,4 +1,4 @@
--- Where what is held for an identifier text stands in a store's bytes, and what the code's steps answer. What is held is `decodeTracked` alone.
+-- Steps of the code: where what is held for an identifier text stands in a store's bytes, and what is answered of it. What is held is `decodeTracked` alone.
 use Prim.Native.Nat.{ℕ, _≤_}
 use mathlib.Core.Path.{_≡_}
 use mathlib.Core.List.{List}

@@ -1,5 +1,5 @@
--- What the calls answer, by what `ran` (Validator.antt) leaves: the answer, the used length, and what the lent output then is. A refused call keeps the
--- output; 19 to 24 may move the used length, since the cleaned list stands.
+-- What the calls answer, by what `ran` (Validator.antt) leaves: the answer, the used length, and what the lent output then is. Document 01, "Turned back": a
+-- refused call keeps the output; 19 to 24 may move the used length, since the cleaned list stands.
 use Prim.Native.Nat.{ℕ}
 use mathlib.Core.Bool.{Bool, false}
 use mathlib.Core.List.{List}

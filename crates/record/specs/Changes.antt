@@ -1,4 +1,4 @@
--- A record with one part changed, the others as they were.
+-- A record (document 01, "Record image") with one part changed, the others as they were.
 use Prim.Native.Nat.{ℕ}
 use mathlib.Core.List.{List}
 use Rattle.record.specs.Record.{Numbers, Record}

@@ -1,4 +1,5 @@
--- The definitions' numbers and the code's: field by field, and the answer of a step case by case.
+-- The definitions' numbers and the code's: field by field, and the answer of a step case by case. Document 01, "The shape of each place": the record's
+-- numbers are a struct of the code, whose methods are the steps.
 use Prim.Native.Nat.{ℕ}
 use mathlib.Core.Option.{Option, none, some}
 use Rattle.limits.specs.Outcome.{Outcome, refused, given}

@@ -1,5 +1,5 @@
--- Helpers of the code: lent bytes that are filled with the routes' texts while the lines are read, and what is counted meanwhile. Reversed
--- they are filled from the end. A text that finds no room is counted all the same.
+-- Steps of the code: lent bytes that are filled with the routes' texts while the lines are read, and what is counted meanwhile. Reversed they are filled from
+-- the end. A text that finds no room is counted all the same.
 use Prim.Native.Nat.{ℕ, _+_, _-_, _*_, _≤_}
 use mathlib.Core.Path.{_≡_}
 use mathlib.Core.Bool.{Bool, true, false, cond}

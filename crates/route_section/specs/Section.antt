@@ -1,4 +1,4 @@
--- The routes' section of a record image, made of a block's Record-Route lines (document 01, "Record image" and "Routes"): a count byte, then
+-- Steps of the code: the routes' section of a record image, made of a block's Record-Route lines (document 01, "Record image" and "Routes"): a count byte, then
 -- the routes' texts, each after two length bytes; no bytes where there are no routes. As received, or reversed over all lines.
 use Prim.Native.Nat.{ℕ, _≤_}
 use mathlib.Core.Bool.{Bool, false}

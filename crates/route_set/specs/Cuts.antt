@@ -1,4 +1,4 @@
--- A helper of the code: how many bytes stand before the first cut (01, "Routes"; see Parts).
+-- A step of the code: how many bytes stand before the first cut (document 01, "Routes"; see Parts).
 use Prim.Native.Nat.{ℕ, suc}
 use mathlib.Core.Bool.{Bool, cond}
 use mathlib.Core.List.{List, [], _∷_}

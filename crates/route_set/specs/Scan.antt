@@ -1,4 +1,4 @@
--- A helper of the code: the elements of Record-Route lines read one after another, up to a wanted route.
+-- Steps of the code: the elements of Record-Route lines read one after another, up to a wanted route.
 use Prim.Native.Nat.{ℕ, _+_, _≤_}
 use mathlib.Core.Bool.{Bool, cond}
 use mathlib.Core.List.{List, [], _∷_}

@@ -1,4 +1,4 @@
--- Where the parts of an entry lie that is read at a place, and what the code's steps answer. The entries themselves are `decodeEntries` alone.
+-- Steps of the code: where the parts of an entry lie that is read at a place, and what is answered of it. The entries themselves are `decodeEntries` alone.
 use Prim.Native.Nat.{ℕ, _+_}
 use mathlib.Core.List.{List, [], _∷_}
 use mathlib.Core.Option.{Option, none, some}

@@ -1,4 +1,4 @@
--- What the calls answer, by what `ran` leaves: the number and the used length, and the lent bytes beside them.
+-- What the calls of `RSeqManager` (lib.rs) answer, by what `ran` leaves: the number and the used length, and the lent bytes beside them.
 use Prim.Native.Nat.{ℕ}
 use mathlib.Core.List.{List}
 use lib.ListN.{length}

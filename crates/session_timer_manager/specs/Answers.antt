@@ -1,5 +1,5 @@
--- The arguments and answers of this crate's functions as values of its enums. A refusal's number and value are those of its
--- cause: `numberOf` and `leastOf` of the crate `limits`; an accepted call's number is 0.
+-- The arguments and answers of this crate's functions as values of its enums. Document 01, "The shape of each place": a refusal's number and value are those of
+-- its cause, `numberOf` and `leastOf` of the crate `limits`; an accepted call's number is 0.
 use Prim.Native.Nat.{ℕ}
 use mathlib.Core.Bool.{Bool, cond}
 use mathlib.Core.List.{List}

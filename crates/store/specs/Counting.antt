@@ -1,4 +1,5 @@
--- How many records a store holds (the Rust's `count`). Document 01, refusal 3: the used length over the lent, or used bytes that aren't a store's.
+-- A step of the code: the records of a lent store, and how many they are. Document 01, refusal 3: the used length over the lent, or used bytes that aren't a
+-- store's. What `count` answers is `run` (book/specs/Store.antt).
 use Prim.Native.Nat.{ℕ}
 use mathlib.Core.List.{List}
 use mathlib.Core.Option.{Option, none, some}

@@ -1,4 +1,4 @@
--- What the reading of a store's used bytes answers: how many records they are, or that they aren't a store's (document 01, refusal 3:
+-- Steps of the code: what the reading of a store's used bytes answers: how many records they are, or that they aren't a store's (document 01, refusal 3:
 -- "store .. not whole images with readable URIs; .. one identifier twice").
 use Prim.Native.Nat.{ℕ, _≤_}
 use mathlib.Core.Path.{_≡_}

@@ -1,4 +1,5 @@
--- The calls that take records out of a store. What they leave is `run` (book/specs/Store.antt); here the call of each is set out, and steps of the code.
+-- Steps of the code: the calls that take records out of a store (document 01, "The book of demand 3": "A removal drops one, a sweep all that are Terminated").
+-- What they leave is `run` (book/specs/Store.antt); here the call of each is set out, and what the functions below it promise.
 use Prim.Native.Nat.{ℕ}
 use mathlib.Core.Path.{_≡_}
 use mathlib.Core.Bool.{cond}

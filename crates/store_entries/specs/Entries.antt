@@ -1,5 +1,5 @@
--- What the calls that change one held record leave and answer: `run` (book/specs/Store.antt) of the call as data. Here the
--- call of each is set out, and the steps of the code.
+-- Steps of the code: the calls that change one held record (document 01, "A request arrives", "Entry"). What they leave and answer is `run`
+-- (book/specs/Store.antt) of the call as data; here the call of each is set out, and what the functions below it promise.
 use Prim.Native.Nat.{ℕ, _≤_}
 use mathlib.Core.Path.{_≡_}
 use mathlib.Core.List.{List}

@@ -1,4 +1,5 @@
--- The put of one record image. What it leaves is `run` (book/specs/Store.antt); here the call is set out, and the steps of the code.
+-- Steps of the code: the put of one record image (document 01, "A request arrives", "Entry": "a put is an `insert` of one record image"). What it leaves is
+-- `run` (book/specs/Store.antt); here the call is set out, and what the functions below it promise.
 use Prim.Native.Nat.{ℕ, _≤_}
 use mathlib.Core.Path.{_≡_}
 use mathlib.Core.Bool.{Bool, true, false, cond, not, _&&_}

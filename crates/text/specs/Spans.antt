@@ -1,4 +1,4 @@
--- The bytes of a text that a span names. A step of the code: definitions of operations speak of the bytes themselves.
+-- A step of the code: the bytes of a text that a span names. Definitions of operations speak of the bytes themselves.
 use Prim.Native.Nat.{ℕ, _+_, _≤_}
 use mathlib.Core.List.{List}
 use lib.ListN.{length, take, drop}

@@ -1,4 +1,4 @@
--- What the steps of a URI's reading answer: the scheme, the user part, the host and what stands after it, where a part stands, and the
+-- Steps of the code: what the parts of a URI's reading answer: the scheme, the user part, the host and what stands after it, where a part stands, and the
 -- estimate of the parts that were read.
 use Prim.Native.Nat.{ℕ, _+_, _≤_}
 use mathlib.Core.Bool.{Bool, cond}

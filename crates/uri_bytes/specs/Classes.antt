@@ -1,4 +1,4 @@
--- The classes of bytes as the code names them, and each as the set that its scan tests.
+-- Steps of the code: the classes of bytes as the code names them, and each as the set that its scan tests.
 use Prim.Native.Nat.{ℕ, _/_, _%_, _^_}
 use mathlib.Core.Bool.{Bool, cond, _&&_, _||_}
 use lib.Dec.{eqb, ltb}

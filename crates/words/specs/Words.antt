@@ -1,4 +1,4 @@
--- The words of a text by their index, as the Rust has them in the parts of `split_whitespace`.
+-- The words of a text by their index, as prack_validator.rs has them in the parts of `split_whitespace`.
 use Prim.Native.Nat.{ℕ}
 use mathlib.Core.List.{List, []}
 use lib.ListN.{getD}
