@@ -196,15 +196,15 @@ uint8_t sip_dialog_is_reliable_provisional(uint16_t status, const uint8_t *block
 /* The number of a method's text, letter case ignored: found 1 with method, or found 0. Refuses with 1. */
 uint8_t sip_dialog_method_number(const uint8_t *text, size_t text_len, uint8_t *found, uint8_t *method);
 
-/* Writes a method's text in capitals to the front of out, without a zero byte, and answers its length, at most 9.
+/* Writes a method's text in capitals to the front of out, without a zero byte, and answers its length in written, at most 9.
    Refuses with 28, 18. */
-uint8_t sip_dialog_method_text(uint8_t method, uint8_t *out, size_t out_len, size_t *length);
+uint8_t sip_dialog_method_text(uint8_t method, uint8_t *out, size_t out_len, size_t *written);
 
 /* The parts of a RAck value: RSeq, CSeq and the method's number. Refuses with 1, 2, 19. */
 uint8_t sip_dialog_parse_rack(const uint8_t *value, size_t value_len, uint32_t *rseq, uint32_t *cseq, uint8_t *method);
 
-/* Writes a RAck value to the front of out, without a zero byte, and answers its length, at most 31. Refuses with 28, 18. */
-uint8_t sip_dialog_format_rack(uint32_t rseq, uint32_t cseq, uint8_t method, uint8_t *out, size_t out_len, size_t *length);
+/* Writes a RAck value to the front of out, without a zero byte, and answers its length in written, at most 31. Refuses with 28, 18. */
+uint8_t sip_dialog_format_rack(uint32_t rseq, uint32_t cseq, uint8_t method, uint8_t *out, size_t out_len, size_t *written);
 
 /* ---- Session intervals: nanoseconds where nothing is said of seconds. A value whose has_.. is false isn't looked at. */
 
@@ -270,7 +270,7 @@ uint8_t sip_dialog_image_matches_request(const uint8_t *block, size_t block_len,
    interval: no. Refuses with 3. */
 uint8_t sip_dialog_image_needs_refresh(const uint8_t *image, size_t image_len, uint64_t elapsed, uint8_t *due);
 
-/* ---- A new record image, at the front of out; `length` answers its length. `request` and `response` are header blocks,
+/* ---- A new record image, at the front of out; `written` answers its length. `request` and `response` are header blocks,
    status is the response's: 100 to 199 makes an Early record, 200 to 299 a Confirmed one. Call-ID, tags and interval are the
    response's; the tags and the Call-ID may be empty. The target is the URI of the first Contact line or, where there is none
    or it is unreadable, the remote URI. The record is secure where the local or the remote URI is `sips:`; it has no last ACK,
@@ -286,14 +286,14 @@ uint8_t sip_dialog_image_needs_refresh(const uint8_t *image, size_t image_len, u
 uint8_t sip_dialog_new_uac(const uint8_t *method, size_t method_len, const uint8_t *request, size_t request_len,
                            uint16_t status, const uint8_t *response, size_t response_len,
                            const uint8_t *local_uri, size_t local_uri_len, const uint8_t *remote_uri, size_t remote_uri_len,
-                           uint8_t *out, size_t out_len, size_t *length, uint64_t *least);
+                           uint8_t *out, size_t out_len, size_t *written, uint64_t *least);
 
 /* For a request that we were sent, and our response: the tag of To is the local one; Contact and Record-Route are the
    request's, the routes in their order; the request's CSeq is the remote number, and there is no local one. */
 uint8_t sip_dialog_new_uas(const uint8_t *method, size_t method_len, const uint8_t *request, size_t request_len,
                            uint16_t status, const uint8_t *response, size_t response_len,
                            const uint8_t *local_uri, size_t local_uri_len, const uint8_t *remote_uri, size_t remote_uri_len,
-                           uint8_t *out, size_t out_len, size_t *length, uint64_t *least);
+                           uint8_t *out, size_t out_len, size_t *written, uint64_t *least);
 
 /* ---- One record image changed in its place. `image` is lent with its room of image_len bytes. `used` is read and answered:
    the image's length, and where the call is accepted its new length. 3: used over image_len, or the used bytes aren't exactly
@@ -405,13 +405,13 @@ uint8_t sip_dialog_find_by_request(const uint8_t *block, size_t block_len,
 uint8_t sip_dialog_count(const uint8_t *store, size_t store_len, size_t used, size_t *count);
 
 /* Writes the identifiers of all records to the front of out, in store order, each as three texts with two length bytes (the higher
-   first), and answers how many bytes it wrote: never more than used. Refuses with 3, 18. */
-uint8_t sip_dialog_all_ids(const uint8_t *store, size_t store_len, size_t used, uint8_t *out, size_t out_len, size_t *length);
+   first), and answers in written how many bytes it wrote: never more than used. Refuses with 3, 18. */
+uint8_t sip_dialog_all_ids(const uint8_t *store, size_t store_len, size_t used, uint8_t *out, size_t out_len, size_t *written);
 
-/* Writes the handover listing of a store to the front of out, without a zero byte, and answers its length: a line for each record,
-   then `total` and their number, each line ended by a line feed. It is given the used bytes alone. Refuses with 1 (over 65,536
-   bytes), 3, 18. A line is shorter than two times its image: 131,072 bytes are enough for any listing. */
-uint8_t sip_dialog_listing(const uint8_t *store, size_t used, uint8_t *out, size_t out_len, size_t *length);
+/* Writes the handover listing of a store to the front of out, without a zero byte, and answers its length in written: a line for each
+   record, then `total` and their number, each line ended by a line feed. `bytes` are the used bytes of the store, and nothing after
+   them. Refuses with 1 (over 65,536 bytes), 3, 18. A line is shorter than two times its image: 131,072 bytes are enough for any listing. */
+uint8_t sip_dialog_listing(const uint8_t *bytes, size_t bytes_len, uint8_t *out, size_t out_len, size_t *written);
 
 /* ---- RSeq numbers: one for each dialog that sends reliable provisional responses, in a store of their own (docs/LAYOUTS.md, "The
    RSeq store"). An identifier is three texts of any bytes: Call-ID, local tag, remote tag. The lent bytes and the used length are
@@ -434,8 +434,8 @@ uint8_t sip_dialog_rseq_remove(const uint8_t *call_id, size_t call_id_len, const
                                const uint8_t *remote_tag, size_t remote_tag_len,
                                uint8_t *store, size_t store_len, size_t *used);
 
-/* How many dialogs have a number; whether none has (1) or some have (0). Refuse with 3. */
-uint8_t sip_dialog_rseq_len(const uint8_t *store, size_t store_len, size_t used, size_t *len);
+/* How many dialogs have a number, in count; in empty whether none has (1) or some have (0). Refuse with 3. */
+uint8_t sip_dialog_rseq_len(const uint8_t *store, size_t store_len, size_t used, size_t *count);
 uint8_t sip_dialog_rseq_is_empty(const uint8_t *store, size_t store_len, size_t used, uint8_t *empty);
 
 /* ---- PRACK lists: the reliable provisional responses of a dialog that wait for their PRACK (RFC 3262), in a store of their own

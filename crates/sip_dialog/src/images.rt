@@ -26,23 +26,23 @@ ghost use Rattle.c_image_answers.specs.Given.{ImageIdGives, StateGives, UrisGiv
 #[no_mangle]
 pub extern "C" fn sip_dialog_image_id(
     image: &[u8],
-    call: &mut usize,
-    call_length: &mut usize,
-    local: &mut usize,
-    local_length: &mut usize,
-    remote: &mut usize,
-    remote_length: &mut usize,
+    call_id: &mut usize,
+    call_id_length: &mut usize,
+    local_tag: &mut usize,
+    local_tag_length: &mut usize,
+    remote_tag: &mut usize,
+    remote_tag_length: &mut usize,
 ) -> u8
-    ensures { λ r. ⌜ ImageIdGives (imageAnswer (oneRecord (now (image .entry)))) (record { call = now (call .entry); «call_length» = now («call_length» .entry); local = now (local .entry); «local_length» = now («local_length» .entry); remote = now (remote .entry); «remote_length» = now («remote_length» .entry) }) r (record { call = now (call .exit); «call_length» = now («call_length» .exit); local = now (local .exit); «local_length» = now («local_length» .exit); remote = now (remote .exit); «remote_length» = now («remote_length» .exit) }) ⌝ }
+    ensures { λ r. ⌜ ImageIdGives (imageAnswer (oneRecord (now (image .entry)))) (record { call = now («call_id» .entry); «call_length» = now («call_id_length» .entry); local = now («local_tag» .entry); «local_length» = now («local_tag_length» .entry); remote = now («remote_tag» .entry); «remote_length» = now («remote_tag_length» .entry) }) r (record { call = now («call_id» .exit); «call_length» = now («call_id_length» .exit); local = now («local_tag» .exit); «local_length» = now («local_tag_length» .exit); remote = now («remote_tag» .exit); «remote_length» = now («remote_tag_length» .exit) }) ⌝ }
 {
     give_image_id(
         dialog::read_image(image),
-        call,
-        call_length,
-        local,
-        local_length,
-        remote,
-        remote_length,
+        call_id,
+        call_id_length,
+        local_tag,
+        local_tag_length,
+        remote_tag,
+        remote_tag_length,
     )
 }
 

@@ -84,13 +84,13 @@ pub extern "C" fn sip_dialog_determine_refresher_role(
     given: bool,
     text: &[u8],
     is_uac: bool,
-    refresher: &mut u8,
+    we_refresh: &mut u8,
 ) -> u8
-    ensures { λ r. ⌜ RoleGives (roleFrom (refresherRole rustLimits (textIf given (now (text .entry))) «is_uac»)) (now (refresher .entry)) r (now (refresher .exit)) ⌝ }
+    ensures { λ r. ⌜ RoleGives (roleFrom (refresherRole rustLimits (textIf given (now (text .entry))) «is_uac»)) (now («we_refresh» .entry)) r (now («we_refresh» .exit)) ⌝ }
 {
     give_role(
         session_timer_manager::determine_refresher_role(given, text, is_uac),
-        refresher,
+        we_refresh,
     )
 }
 

@@ -1,4 +1,5 @@
-//! The C declarations of the Rattle functions, as in include/sip_dialog.h. A byte run is a pointer and a length.
+//! The C declarations of the Rattle functions, as in include/sip_dialog.h (tests/face.sh holds both against the sources). A byte run is a
+//! pointer and a length.
 
 extern "C" {
     // msg: the header block, status classes
@@ -140,7 +141,7 @@ extern "C" {
         refresher: *mut u8,
     ) -> u8;
     pub fn sip_dialog_method_number(text: *const u8, text_len: usize, found: *mut u8, method: *mut u8) -> u8;
-    pub fn sip_dialog_method_text(method: u8, out: *mut u8, out_len: usize, length: *mut usize) -> u8;
+    pub fn sip_dialog_method_text(method: u8, out: *mut u8, out_len: usize, written: *mut usize) -> u8;
     pub fn sip_dialog_parse_rack(
         value: *const u8,
         value_len: usize,
@@ -154,7 +155,7 @@ extern "C" {
         method: u8,
         out: *mut u8,
         out_len: usize,
-        length: *mut usize,
+        written: *mut usize,
     ) -> u8;
 
     // session_timer_manager
@@ -177,7 +178,7 @@ extern "C" {
         text: *const u8,
         text_len: usize,
         is_uac: bool,
-        refresher: *mut u8,
+        we_refresh: *mut u8,
     ) -> u8;
 
     // metrics
@@ -199,7 +200,7 @@ extern "C" {
         remote_uri_len: usize,
         out: *mut u8,
         out_len: usize,
-        length: *mut usize,
+        written: *mut usize,
         least: *mut u64,
     ) -> u8;
     pub fn sip_dialog_new_uas(
@@ -216,7 +217,7 @@ extern "C" {
         remote_uri_len: usize,
         out: *mut u8,
         out_len: usize,
-        length: *mut usize,
+        written: *mut usize,
         least: *mut u64,
     ) -> u8;
 
@@ -428,9 +429,15 @@ extern "C" {
         used: usize,
         out: *mut u8,
         out_len: usize,
-        length: *mut usize,
+        written: *mut usize,
     ) -> u8;
-    pub fn sip_dialog_listing(store: *const u8, used: usize, out: *mut u8, out_len: usize, length: *mut usize) -> u8;
+    pub fn sip_dialog_listing(
+        bytes: *const u8,
+        bytes_len: usize,
+        out: *mut u8,
+        out_len: usize,
+        written: *mut usize,
+    ) -> u8;
 
     // RSeq numbers
     pub fn sip_dialog_rseq_next(
@@ -469,7 +476,7 @@ extern "C" {
         store_len: usize,
         used: *mut usize,
     ) -> u8;
-    pub fn sip_dialog_rseq_len(store: *const u8, store_len: usize, used: usize, len: *mut usize) -> u8;
+    pub fn sip_dialog_rseq_len(store: *const u8, store_len: usize, used: usize, count: *mut usize) -> u8;
     pub fn sip_dialog_rseq_is_empty(store: *const u8, store_len: usize, used: usize, empty: *mut u8) -> u8;
 
     // PRACK lists
