@@ -1,6 +1,6 @@
--- What became of one record over a list of calls, whatever the calls are on: one store, several, or joined records. A history sees of a call only its data,
--- whether it was taken, and the record held under each key before and after it. Demand 3's clauses on the remote number, the routes and the state are claims
--- about such traces; a trace has the LATEST step first.
+-- Demand 3's clauses on the remote number, the routes and the state of one record since its latest accepted put (document 01, "The book of demand 3"), said of any list
+-- of calls, whatever they are on: one store, several, or joined records. A history sees of a call only its data, whether it was taken, and the record held under each key
+-- before and after it. A trace has the LATEST step first.
 use Prim.Native.Nat.{ℕ, suc, _+_, _≤_}
 use mathlib.Core.Path.{_≡_}
 use mathlib.Core.Logic.{_≢_}
