@@ -30,7 +30,7 @@ use Rattle.book.specs.Book.{Book, Contents, contentsOf, storeRead, emptyStore}
 use Rattle.book.specs.Store.{Left, run}
 use Rattle.book.specs.Trace.{All, orEarlier, remoteBy}
 use Rattle.book.specs.Rules.{NextCall}
-use Rattle.book.specs.History.{World, isTaken, lending, world, storeLog, bookLog, usedBytes, says, course, heldAt, storeTrace, Demand3, Sent, Returned, EachShows, Ran, start, called}
+use Rattle.book.specs.History.{World, isTaken, lending, world, storeLog, bookLog, usedBytes, says, course, heldAt, storeTrace, Demand3, Sent, Returned, Shows, EachShows, Ran, start, called}
 use Rattle.book.specs.Returned.{Returns, Lent, lentAfter}
 use Rattle.book.proofs.Demand3.{ran-is, ruled-holds, demand3-kept, memory-long}
 use Rattle.sip_dialog.proofs.stores.sip_dialog_put.Reads as put-reads
@@ -281,7 +281,7 @@ records-read s x e = by (decodeAll s) refl e
 listing-kept : (bytes output output′ : List ℕ) (size size′ number : ℕ) (x : Contents) → storeRead bytes ≡ some x → Listed bytes output output′ size size′ number
     → ListingOf (x .records) bytes output output′ size size′ number
 unfolding listing
-listing-kept bytes output output′ size size′ number x read l = record {
+listing-kept bytes output output′ size size′ number x held l = record {
   long-1 = λ h. by (refused TextTooLong) (rw (lt-ltb (rustLimits .listedStore) (length bytes) h));
   full-18 = λ h f. by (refused NoRoom) (read-as h ∙ rw (lt-ltb (length output) (length (listingOf (x .records))) f));
   listed = λ h f. by (given (listingOf (x .records))) (read-as h ∙ rw (le-ltb (length output) (length (listingOf (x .records))) f));
@@ -290,7 +290,7 @@ listing-kept bytes output output′ size size′ number x read l = record {
     read-as : length bytes ≤ rustLimits .listedStore → listing rustLimits bytes (length output) ≡ fitted (length output) (listingOf (x .records))
     read-as h =
         rw (le-ltb (rustLimits .listedStore) (length bytes) h)
-        (ap (λ o. andThen (orRefuse BadStore o) (λ rs. fitted (length output) (listingOf rs))) (records-read bytes x read))
+        (ap (λ o. andThen (orRefuse BadStore o) (λ rs. fitted (length output) (listingOf rs))) (records-read bytes x held))
 
     by : (o : Outcome (List ℕ)) → listing rustLimits bytes (length output) ≡ o → (number ≡ numberIn o) × ((output′ ≡ leaves o output) × (size′ ≡ writtenAfter (writtenFrom o) size))
     by o e =
@@ -317,11 +317,11 @@ demand3-of-calls m {cs} {w} {rs} d = record {
       let sent = made-sent m e in
       let r : Returned = record { call = c; number = number; lent = entered; left = kept } in
       let l : lending rustLimits c w ≡ lending rustLimits c (world rustLimits m cs) = ap (lending rustLimits c) same in
-      let shows = record { same-call = refl; number-is = keeps s .number-is ∙ ap (λ (x : Left). numberIn (x .answer)) l; values-are = values s ∙ ap (λ (x : Left). lentAfter (x .answer) entered) l } in
+      let shows : Shows (record { call = c; answer = lending rustLimits c (world rustLimits m cs) .answer }) r = record { same-call = refl; number-is = keeps s .number-is ∙ ap (λ (x : Left). numberIn (x .answer)) l; values-are = values s ∙ ap (λ (x : Left). lentAfter (x .answer) entered) l } in
       subst₂ (λ (x y : World). NextCall rustLimits x r y) (sym same) (sym (book-followed m e .1 .0)) (ruled-holds m zero-le cs (sent .1) r (sent .0) shows);
   remote-seen = λ i r h.
       seen-same m i cs rs (subst (λ es. EachShows es rs) (sym (k .0 .answers)) (k .1 .1)) ∙ k .0 .told i .remote-rule r (ap (λ (x : World). heldAt x i) (sym same) ∙ h);
-  listing-seen = λ x output output′ size size′ number read l. listing-kept (usedBytes w) output output′ size size′ number x read l;
+  listing-seen = λ x output output′ size size′ number held l. listing-kept (usedBytes w) output output′ size size′ number x held l;
 }
   where
     k : Demand3 rustLimits m cs × ((w ≡ world rustLimits m cs) × EachShows (bookLog rustLimits cs) rs)
