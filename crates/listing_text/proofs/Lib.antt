@@ -1,3 +1,4 @@
 pub mod ListLaws
 pub mod StoreLaws
+pub mod SizeLaws
 pub mod RoomLaws

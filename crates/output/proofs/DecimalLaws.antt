@@ -117,7 +117,7 @@ more-length n s l h zero q = absurd (omega arith)
 more-length n s l h (suc j) q = omega (arith, length-append s ((48 + n % 10) ∷ []), h j (omega (arith, pow-suc 10 (suc j))))
 
 -- as many digits as the power of ten that is larger
-few-digits : (n j : ℕ) → n < 10 ^ suc j → length (decimalOf n) ≤ suc j
+pub few-digits : (n j : ℕ) → n < 10 ^ suc j → length (decimalOf n) ≤ suc j
 few-digits n = of-decimal (λ n s. (j : ℕ) → n < 10 ^ suc j → length s ≤ suc j) (λ n h j q. omega arith) more-length n
 
 -- a number of 32 bits has at most ten digits, one of 64 bits at most twenty

@@ -1,26 +1,27 @@
--- `listing_output::print_listing` is safe and ends: a listing that is given lies within its room. Assumes nothing.
+-- `listing_output::print_listing` is safe and ends: a listing that is given lies within its room, and a refusal isn't 18. Assumes nothing.
 use native.Mathlib.Omega.{arith}
 use borrow.Author.Needs.{needs}
-use mathlib.Core.Path.{sym, _∙_}
+use mathlib.Core.Path.{sym, ap, _∙_}
 use Prim.Native.Nat.{_≤_}
 use lib.ListN.{length, length-take}
+use Rattle.output.specs.declared.Written.the-variants.{Refused}
 use Rattle.listing_text.proofs.RoomLaws.{listing-fits}
 use Rattle.listing_output.proofs.print_listing.Statement.{statement}
 use Rattle.listing_output.proofs.print_listing.Tie as tie
 
-slice-aggregate-list-store : tie.Need-slice-aggregate-list-store
-slice-aggregate-list-store c = search needs
+slice-aggregate-list-any : tie.Need-slice-aggregate-list-any
+slice-aggregate-list-any c = search needs
 
-list-store-requires : tie.Need-list-store-requires
-list-store-requires c κs = search needs
+list-any-requires : tie.Need-list-any-requires
+list-any-requires c κs = search needs
 
 enum-known-n : tie.Need-enum-known-n
 enum-known-n c = search needs
 
 -- within the room
-within : (c : tie.After-known-told) → c .before .n .given .0 .0 ≤ length (c .before .before .before .before .list-store .last .1 .0)
+within : (c : tie.After-known-told) → c .before .n .given .0 .0 ≤ length (c .before .before .before .before .list-any .last .1 .0)
 within c =
-    let s = c .before .before .before .before .list-store in
+    let s = c .before .before .before .before .list-any in
     let h : c .before .n .given .0 .0 ≤ 131072 = listing-fits _ _ 131072 (c .before .n .given .0 .0) (sym (s .ensures .0) ∙ c .before .n .given .1) in
     omega arith
 
@@ -37,7 +38,7 @@ enum-known-cause : tie.Need-enum-known-cause
 enum-known-cause c = search needs
 
 print-refused-requires : tie.Need-print-refused-requires
-print-refused-requires c κs = search needs
+print-refused-requires c κs = λ e. c .before .before .before .before .list-any .ensures .1 (c .before .cause .given .1 ∙ ap Refused e)
 
 returns : tie.Need-returns
 returns c = search needs
@@ -49,8 +50,8 @@ pub print-listing-spec : {M : Type 1} → statement M
 print-listing-spec =
     tie.close
     (tie.spec
-    slice-aggregate-list-store
-    list-store-requires
+    slice-aggregate-list-any
+    list-any-requires
     enum-known-n
     array-share-prefix-text
     slice-aggregate-print
