@@ -4,7 +4,7 @@
 -- once more, with the minimum that came with it.
 --
 -- Seconds and nanoseconds. `negotiated` compares its numbers and answers one of them, so that it takes any unit if all have the same. Here they are
--- seconds; `negotiate_session_expires` is given nanoseconds. `in-nanoseconds` (proofs/Units.antt) says that the two agree on whole seconds.
+-- seconds; `negotiate_session_expires` is given nanoseconds. `in-nanoseconds` (proofs/Units.antt) says that the two agree on whole seconds, by `inNanos`.
 --
 -- 90 and 86,400 are `minExpires` and `maxExpires` of the limits L.
 use Prim.Native.Nat.{ℕ, _≤_}
@@ -56,15 +56,6 @@ Agrees offer callee = (interval : ℕ) × (answer offer callee ≡ given interva
 -- it is 13 with the callee's minimum
 abbrev pub TurnsBack : Offer → Callee → Type 0
 TurnsBack offer callee = answer offer callee ≡ refused (SessionExpiresTooSmall (callee .minimum))
-
--- an answer in seconds as one in nanoseconds: the interval, or the minimum that is returned
-abbrev pub refusedIn : Option ℕ → Refusal → Outcome ℕ
-refusedIn none cause = refused cause
-refusedIn (some minimum) cause = refused (SessionExpiresTooSmall (seconds minimum))
-
-abbrev pub inNanos : Outcome ℕ → Outcome ℕ
-inNanos (given interval) = given (seconds interval)
-inNanos (refused cause) = refusedIn (leastOf cause) cause
 
 -- "the returned minimum as both R and M"; "a minimum above 86,400 ends without an interval"
 abbrev pub offerWith : LimitSet → Option ℕ → Option Offer
@@ -154,3 +145,14 @@ pub record PowerOver (L : LimitSet) (offer : Offer) (power : Power) : Type 0 whe
 abbrev pub Settles : LimitSet → Offer → Outcome Power → Type 0
 Settles L offer (refused cause) = offerCause L offer ≡ some cause
 Settles L offer (given power) = (offerCause L offer ≡ none) × PowerOver L offer power
+
+-- ---- seconds and nanoseconds
+
+-- an answer in seconds as one in nanoseconds: the interval, or the minimum that is returned
+abbrev pub refusedIn : Option ℕ → Refusal → Outcome ℕ
+refusedIn none cause = refused cause
+refusedIn (some minimum) cause = refused (SessionExpiresTooSmall (seconds minimum))
+
+abbrev pub inNanos : Outcome ℕ → Outcome ℕ
+inNanos (given interval) = given (seconds interval)
+inNanos (refused cause) = refusedIn (leastOf cause) cause
