@@ -491,6 +491,19 @@ uint8_t sip_dialog_prack_remove_pracked(const uint8_t *id, size_t id_len, uint32
 uint64_t sip_dialog_record_created(uint64_t created);
 uint64_t sip_dialog_record_terminated(uint64_t terminated);
 
+/* ---- Who sets a session interval: one offer (RFC 4028) as a contest, in whole seconds. The caller requests an interval with a
+   Min-SE; the callee then picks its minimum and its preference, 90 s or more each, and answers as
+   sip_dialog_negotiate_session_expires does. After 13 the caller tries once more, with the minimum that came with it as interval
+   and Min-SE, if that is at most 86,400 s. */
+
+/* What the callee can force: has_first 1 with the least and the most interval that its first answer can be, has_retry 1 with those
+   of its answer to the retry; or 0 where it can force none (the two numbers keep their values). only_requested 1 where its first
+   answer can only be the requested interval or 13, else 0. Refuses with 13, which least then answers in seconds (a Min-SE below
+   90: 90; otherwise a request below the Min-SE: the Min-SE), and 14 (otherwise a request above 86,400). */
+uint8_t sip_dialog_interval_contest(uint64_t requested, uint64_t min_se, uint8_t *has_first, uint64_t *first_least,
+                                    uint64_t *first_most, uint8_t *has_retry, uint64_t *retry_least, uint64_t *retry_most,
+                                    uint8_t *only_requested, uint64_t *least);
+
 #ifdef __cplusplus
 }
 #endif

@@ -1415,6 +1415,69 @@ static void test_determine_refresher_role(void)
     CHECK(role_is(false, buffer, 1, 0));
 }
 
+struct contest {
+    uint8_t number;
+    uint8_t has_first;
+    uint64_t first[2];
+    uint8_t has_retry;
+    uint64_t retry[2];
+    uint8_t only_requested;
+    uint64_t least;
+};
+
+static struct contest contest(uint64_t requested, uint64_t min_se)
+{
+    struct contest c = {KEPT, KEPT, {KEPT, KEPT}, KEPT, {KEPT, KEPT}, KEPT, KEPT};
+    c.number = sip_dialog_interval_contest(requested, min_se, &c.has_first, &c.first[0], &c.first[1], &c.has_retry,
+                                           &c.retry[0], &c.retry[1], &c.only_requested, &c.least);
+    return c;
+}
+
+static bool first_is(struct contest c, uint64_t least, uint64_t most, uint8_t only_requested)
+{
+    return c.number == 0 && c.has_first == 1 && c.first[0] == least && c.first[1] == most
+        && c.only_requested == only_requested && c.least == KEPT;
+}
+
+static bool retry_is(struct contest c, uint64_t least, uint64_t most)
+{
+    return c.has_retry == 1 && c.retry[0] == least && c.retry[1] == most;
+}
+
+static bool no_retry(struct contest c)
+{
+    return c.has_retry == 0 && c.retry[0] == KEPT && c.retry[1] == KEPT;
+}
+
+static bool no_contest(struct contest c, uint8_t number, uint64_t least)
+{
+    return c.number == number && c.least == least && c.has_first == KEPT && c.first[0] == KEPT && c.first[1] == KEPT
+        && c.has_retry == KEPT && c.retry[0] == KEPT && c.retry[1] == KEPT && c.only_requested == KEPT;
+}
+
+static void test_interval_contest(void)
+{
+    CHECK(first_is(contest(1800, 120), 120, 1800, 0) && retry_is(contest(1800, 120), 1801, 86400));
+    CHECK(first_is(contest(1800, 1800), 1800, 1800, 1) && retry_is(contest(1800, 1800), 1801, 86400));
+    CHECK(first_is(contest(1800, 1799), 1799, 1800, 0));
+    CHECK(first_is(contest(90, 90), 90, 90, 1) && retry_is(contest(90, 90), 91, 86400));
+    CHECK(first_is(contest(91, 90), 90, 91, 0) && retry_is(contest(91, 90), 92, 86400));
+    CHECK(first_is(contest(86399, 90), 90, 86399, 0) && retry_is(contest(86399, 90), 86400, 86400));
+    CHECK(first_is(contest(86400, 90), 90, 86400, 0) && no_retry(contest(86400, 90)));
+    CHECK(first_is(contest(86400, 86400), 86400, 86400, 1) && no_retry(contest(86400, 86400)));
+    CHECK(no_contest(contest(1800, 89), 13, 90));
+    CHECK(no_contest(contest(0, 0), 13, 90));
+    CHECK(no_contest(contest(90, 0), 13, 90));
+    CHECK(no_contest(contest(86401, 89), 13, 90));
+    CHECK(no_contest(contest(89, 90), 13, 90));
+    CHECK(no_contest(contest(119, 120), 13, 120));
+    CHECK(no_contest(contest(86400, 86401), 13, 86401));
+    CHECK(no_contest(contest(UINT64_MAX - 1, UINT64_MAX), 13, UINT64_MAX));
+    CHECK(no_contest(contest(86401, 86401), 14, KEPT));
+    CHECK(no_contest(contest(86401, 90), 14, KEPT));
+    CHECK(no_contest(contest(UINT64_MAX, UINT64_MAX), 14, KEPT));
+}
+
 /* ---- Stores of records */
 
 enum {
@@ -3466,8 +3529,8 @@ int main(void)
         test_long_routes, test_route, test_parse_session_expires, test_session_expires, test_cseq_number, test_rseq,
         test_cseq_method, test_is_reliable_provisional, test_method_number, test_method_text, test_parse_rack,
         test_format_rack, test_validate_session_expires, test_negotiate_session_expires, test_intervals, test_needs_refresh,
-        test_determine_refresher_role, test_count, test_listing, test_image_parts, test_image_numbers, test_image_routes,
-        test_no_image, test_image_matches_request, test_image_needs_refresh, test_image_confirm, test_image_terminate,
+        test_determine_refresher_role, test_interval_contest, test_count, test_listing, test_image_parts,
+        test_image_numbers, test_image_routes, test_no_image, test_image_matches_request, test_image_needs_refresh, test_image_confirm, test_image_terminate,
         test_image_next_local_cseq, test_image_set_session_expires, test_image_request_numbers,
         test_image_request_number_alone, test_image_request_cseq, test_image_request_ack, test_image_request_methods,
         test_image_request_target, test_image_request_no_target, test_image_request_long_target, test_image_request_room,

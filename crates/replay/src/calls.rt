@@ -57,6 +57,7 @@ fn reckon(row: usize, b: &[u8], v: &[u64; 48], o: &mut [u64; 8]) -> u64 {
     match row {
         32 | 33 => numbers::interval(row, v, o) as u64,
         37 => readings::small(row, b, v, o) as u64,
+        81 => numbers::contest(v, o) as u64,
         _ => numbers::time(row, v),
     }
 }

@@ -1,5 +1,6 @@
 // The calls on numbers alone; those that answer a number of their own, or yes or no, answer it in place of a refusal's.
 use replay_lines::flag;
+use replay_lines::low8;
 use replay_lines::low16;
 use replay_lines::low32;
 use sip_dialog::blocks::sip_dialog_is_client_error;
@@ -9,6 +10,7 @@ use sip_dialog::blocks::sip_dialog_is_informational;
 use sip_dialog::blocks::sip_dialog_is_redirection;
 use sip_dialog::blocks::sip_dialog_is_server_error;
 use sip_dialog::blocks::sip_dialog_is_success;
+use sip_dialog::contests::sip_dialog_interval_contest;
 use sip_dialog::timers::sip_dialog_calculate_refresh_time;
 use sip_dialog::timers::sip_dialog_needs_refresh;
 use sip_dialog::timers::sip_dialog_negotiate_session_expires;
@@ -62,5 +64,38 @@ pub fn interval(row: usize, v: &[u64; 48], o: &mut [u64; 8]) -> u8 {
     };
     o[0] = first;
     o[1] = least;
+    r
+}
+
+// What can be forced of an offer, with the least where one is too short.
+pub fn contest(v: &[u64; 48], o: &mut [u64; 8]) -> u8 {
+    let mut has_first = low8(o[0]);
+    let mut first_least = o[1];
+    let mut first_most = o[2];
+    let mut has_retry = low8(o[3]);
+    let mut retry_least = o[4];
+    let mut retry_most = o[5];
+    let mut only_requested = low8(o[6]);
+    let mut least = o[7];
+    let r = sip_dialog_interval_contest(
+        v[0],
+        v[1],
+        &mut has_first,
+        &mut first_least,
+        &mut first_most,
+        &mut has_retry,
+        &mut retry_least,
+        &mut retry_most,
+        &mut only_requested,
+        &mut least,
+    );
+    o[0] = has_first as u64;
+    o[1] = first_least;
+    o[2] = first_most;
+    o[3] = has_retry as u64;
+    o[4] = retry_least;
+    o[5] = retry_most;
+    o[6] = only_requested as u64;
+    o[7] = least;
     r
 }

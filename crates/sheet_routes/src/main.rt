@@ -1,5 +1,6 @@
 // Runs the rest of the test sheet and of the RFCs' examples, in the form of `sheet`: URIs, routes, Session-Expires,
-// intervals, RSeq and RAck, and the counts.
+// intervals and who sets them, RSeq and RAck, and the counts.
+mod contests;
 mod counts;
 mod expires;
 mod intervals;
@@ -12,6 +13,7 @@ fn main() {
     routes::routes();
     expires::expires();
     intervals::intervals();
+    contests::contests();
     racks::racks();
     counts::counts();
 }

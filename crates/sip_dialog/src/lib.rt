@@ -1,5 +1,6 @@
 // The C face: functions on numbers and byte runs. Nothing but calls, and answers handed over.
 pub mod blocks;
+pub mod contests;
 pub mod creation;
 pub mod identifiers;
 pub mod images;

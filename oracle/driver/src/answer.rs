@@ -51,7 +51,7 @@ pub type Step = [u64; 5];
 #[derive(Debug, Clone, PartialEq, Eq)]
 pub struct Answer {
     pub number: u8,
-    pub outs: [u64; 7],
+    pub outs: [u64; 8],
     pub bytes: Vec<u8>,
     pub steps: Vec<Step>,
     /// What fills out numbers and lent output before the call.
@@ -63,7 +63,7 @@ impl Answer {
     pub fn before(outs: &[Out], pattern: u64) -> Answer {
         let mut answer = Answer {
             number: 0,
-            outs: [0; 7],
+            outs: [0; 8],
             bytes: Vec::new(),
             steps: Vec::new(),
             pattern,

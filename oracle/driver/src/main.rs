@@ -18,6 +18,7 @@ mod answer;
 mod bench;
 mod blocks;
 mod bounds;
+mod contest;
 mod dialogs;
 mod messages;
 mod mixed;

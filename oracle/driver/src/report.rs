@@ -2,6 +2,7 @@
 
 use crate::all::{self, Everything};
 use crate::bounds;
+use crate::contest;
 use crate::dialogs;
 use crate::mixed;
 use crate::operations;
@@ -26,17 +27,21 @@ pub fn all(calls: u64, seed: u64) -> bool {
         faults_of(mixed::RSEQ_FAULTS),
         faults_of(mixed::PRACK_FAULTS),
     ];
-    verdict(&names.concat(), |planted, table| {
+    let shown = contest::brute_force();
+    let same = verdict(&names.concat(), |planted, table| {
         let everything = all::compare_all(calls, seed, planted);
         table.add_everything(everything);
-    })
+    });
+    shown && same
 }
 
 /// The same for the operations on blocks, values, texts and numbers alone, each with so many random calls.
 pub fn leaves(calls: usize, seed: u64) -> bool {
-    verdict(&names_of(&operations::all()), |planted, table| {
+    let shown = contest::brute_force();
+    let same = verdict(&names_of(&operations::all()), |planted, table| {
         table.add_feeds(operations::compare_all(calls, seed, |name| name == planted));
-    })
+    });
+    shown && same
 }
 
 /// The same for the operations on one record.

@@ -185,6 +185,20 @@ extern "C" {
     pub fn sip_dialog_record_created(created: u64) -> u64;
     pub fn sip_dialog_record_terminated(terminated: u64) -> u64;
 
+    // interval_contest
+    pub fn sip_dialog_interval_contest(
+        requested: u64,
+        min_se: u64,
+        has_first: *mut u8,
+        first_least: *mut u64,
+        first_most: *mut u64,
+        has_retry: *mut u8,
+        retry_least: *mut u64,
+        retry_most: *mut u64,
+        only_requested: *mut u8,
+        least: *mut u64,
+    ) -> u8;
+
     // dialog: creation
     pub fn sip_dialog_new_uac(
         method: *const u8,

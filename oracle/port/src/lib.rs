@@ -418,6 +418,37 @@ pub fn record_terminated(terminated: u64) -> u64 {
     unsafe { c::sip_dialog_record_terminated(terminated) }
 }
 
+/// What the callee can force of an offer: at its first answer, at the retry's, and whether only the request or 13 is left to it.
+#[derive(Debug, Clone, Copy)]
+pub struct Contest {
+    pub has_first: u8,
+    pub first: [u64; 2],
+    pub has_retry: u8,
+    pub retry: [u64; 2],
+    pub only_requested: u8,
+    pub least: u64,
+}
+
+/// What the callee can make of an offer.
+pub fn interval_contest(requested: u64, min_se: u64, contest: &mut Contest) -> u8 {
+    let [first_least, first_most] = &mut contest.first;
+    let [retry_least, retry_most] = &mut contest.retry;
+    unsafe {
+        c::sip_dialog_interval_contest(
+            requested,
+            min_se,
+            &mut contest.has_first,
+            first_least,
+            first_most,
+            &mut contest.has_retry,
+            retry_least,
+            retry_most,
+            &mut contest.only_requested,
+            &mut contest.least,
+        )
+    }
+}
+
 /// What a record is made from: the request's method and block, the response's status and block, the two URIs.
 #[derive(Debug, Clone, Copy)]
 pub struct Creation<'a> {

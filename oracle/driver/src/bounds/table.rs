@@ -10,6 +10,7 @@ const SET: &[&str] = &["image_set_session_expires", "set_session_expires"];
 const MATCHES: &[&str] = &["image_matches_request"];
 const REFRESH: &[&str] = &["image_needs_refresh"];
 const LISTING: &[&str] = &["listing"];
+const CONTEST: &[&str] = &["interval_contest"];
 
 /// The changes of an image, and those of them that can make it larger.
 const CHANGES: &[&str] = &[
@@ -254,6 +255,19 @@ pub const BOUNDS: &[Bound] = &[
         "result",
         &["one byte less than lent", "as large as lent", "one byte more than lent"],
     ),
+    (
+        CONTEST,
+        "Min-SE",
+        &["0", "89", "90", "86400", "86401", "18446744073709551615"],
+    ),
+    (
+        CONTEST,
+        "request",
+        &["0", "89", "90", "86400", "86401", "18446744073709551615"],
+    ),
+    (CONTEST, "request above Min-SE", &["0", "1"]),
+    (CONTEST, "request above Min-SE, refused", &["-1", "0"]),
+    (CONTEST, "most above request", &["0", "1"]),
     (STORES, "records", &["0", "1", "2", "over 12", "10000"]),
     (STORES, "lent bytes", &["0"]),
     (

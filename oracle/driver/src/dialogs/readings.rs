@@ -382,7 +382,7 @@ fn ask_numbers(input: &Input, answer: &mut Answer) -> u8 {
         refresher: outs[6] as u8,
     };
     let number = port::image_numbers(input.texts[0], &mut numbers);
-    answer.outs = [
+    answer.outs[..7].copy_from_slice(&[
         u64::from(numbers.local),
         u64::from(numbers.remote),
         u64::from(numbers.has_last_ack),
@@ -390,7 +390,7 @@ fn ask_numbers(input: &Input, answer: &mut Answer) -> u8 {
         u64::from(numbers.has_seconds),
         u64::from(numbers.seconds),
         u64::from(numbers.refresher),
-    ];
+    ]);
     number
 }
 

@@ -62,7 +62,7 @@ fn number(random: &mut Random, name: &str, line: &Line, clock: u64) -> u64 {
         "RSeq" => u64::from(line.rseq(random)),
         "CSeq" => u64::from(line.invite),
         "created" | "terminated" => random.below(50) as u64,
-        "seconds" => seconds,
+        "seconds" | "requested seconds" | "Min-SE" => seconds,
         "elapsed" => clock.saturating_sub(line.since),
         "interval" | "minimum" | "requested" | "local minimum" | "remote minimum" | "preference" => seconds * SECOND,
         "reversed" | "given" | "is uac" | "has interval" | "has minimum" | "has remote minimum" | "has preference" => {

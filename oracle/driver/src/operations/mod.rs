@@ -1,6 +1,7 @@
 //! The port's operations, each with what it is held against, its calls and its planted fault. One file per module of
 //! the Rust, or per kind of value.
 
+mod contests;
 mod identifiers;
 mod metrics;
 mod msg;
@@ -15,7 +16,7 @@ use crate::run::{compare_each, Feed, Operation};
 
 /// All operations, in the order of the C declarations.
 pub fn all() -> Vec<&'static Operation> {
-    let files: [&'static [Operation]; 8] = [
+    let files: [&'static [Operation]; 9] = [
         msg::OPERATIONS,
         status::OPERATIONS,
         uri::OPERATIONS,
@@ -24,6 +25,7 @@ pub fn all() -> Vec<&'static Operation> {
         numbers::OPERATIONS,
         timers::OPERATIONS,
         metrics::OPERATIONS,
+        contests::OPERATIONS,
     ];
     files.into_iter().flatten().collect()
 }

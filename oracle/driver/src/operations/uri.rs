@@ -143,7 +143,7 @@ fn ask_sip_uri(input: &Input, answer: &mut Answer) -> u8 {
         port: outs[6] as u16,
     };
     let number = port::sip_uri(input.texts[0], &mut uri);
-    *outs = [
+    outs[..7].copy_from_slice(&[
         u64::from(uri.secure),
         uri.user as u64,
         uri.user_length as u64,
@@ -151,7 +151,7 @@ fn ask_sip_uri(input: &Input, answer: &mut Answer) -> u8 {
         uri.host_length as u64,
         u64::from(uri.has_port),
         u64::from(uri.port),
-    ];
+    ]);
     number
 }
 

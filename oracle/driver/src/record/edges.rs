@@ -108,6 +108,7 @@ pub fn each_call() {
     identifiers();
     numbers();
     intervals();
+    contests();
     test_sheet();
     for method in 0..=15 {
         feed("method_text", &[], &[method, 12]);
@@ -201,6 +202,15 @@ fn intervals() {
         feed("validate_session_expires", &[], &[interval, 1, 120 * SECOND]);
         let given = [interval, 90 * SECOND, 1, 120 * SECOND, 0, 0];
         feed("negotiate_session_expires", &[], &given);
+    }
+}
+
+/// Offers on both sides of each bound, in seconds.
+fn contests() {
+    for min_se in [89, 90, 91, 86_399, 86_400, 86_401] {
+        for requested in [min_se - 1, min_se, min_se + 1, 1800, 86_400, 86_401] {
+            feed("interval_contest", &[], &[requested, min_se]);
+        }
     }
 }
 

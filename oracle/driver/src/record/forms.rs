@@ -13,7 +13,7 @@ const fn form(name: &'static str, kinds: &'static str, arguments: &'static str) 
     Form { name, kinds, arguments }
 }
 
-pub const FORMS: [Form; 81] = [
+pub const FORMS: [Form; 82] = [
     form("check_block", "t=n", "t0"),
     form("header", "ttnnn=nnnn", "t0 t1 o0 o1 o2"),
     form("next_header", "ttnnnnn=nnnnn", "t0 t1 n0 o0 o1 o2 o3"),
@@ -95,6 +95,11 @@ pub const FORMS: [Form; 81] = [
     form("prack_remove_pracked", "tnsn=nn", ""),
     form("record_created", "n=n", "n0"),
     form("record_terminated", "n=n", "n0"),
+    form(
+        "interval_contest",
+        "nnnnnnnnnn=nnnnnnnnn",
+        "n0 n1 o0 o1 o2 o3 o4 o5 o6 o7",
+    ),
 ];
 
 /// The form of an operation.

@@ -189,7 +189,7 @@ fn lines(operation: &Operation, input: &Input, expected: &Answer) -> Vec<String>
     let step = |[number, found, place, length, next]: &[u64; 5]| {
         let input = input.and_number(0, from);
         let before = expected.pattern;
-        let arguments = arguments_of(base_name(operation.name), &input, &[before; 7], &[]);
+        let arguments = arguments_of(base_name(operation.name), &input, &[before; 8], &[]);
         let line = format!("{arguments} = {number} {found} {place} {length} {next}");
         from = match found {
             1 => *next,
@@ -213,7 +213,7 @@ fn one_line(operation: &Operation, input: &Input, expected: &Answer) -> String {
     } else {
         &lent_empty
     };
-    let arguments = arguments_of(name, input, &[expected.pattern; 7], lent);
+    let arguments = arguments_of(name, input, &[expected.pattern; 8], lent);
     let outs = operation.outs.len();
     let answers = form
         .kinds
@@ -234,7 +234,7 @@ fn one_line(operation: &Operation, input: &Input, expected: &Answer) -> String {
 }
 
 /// The name and the arguments in the order of the C declaration.
-fn arguments_of(name: &str, input: &Input, outs: &[u64; 7], lent: &[u8]) -> String {
+fn arguments_of(name: &str, input: &Input, outs: &[u64; 8], lent: &[u8]) -> String {
     let mut text = name.to_string();
     for word in form_of(name).arguments.split_whitespace() {
         let index: usize = word[1..].parse().unwrap_or_default();
