@@ -1,8 +1,8 @@
 """Prints the files of crates/*/specs whose head doesn't say what they come from, and where docs/PROOFS.md has another list of
 those with steps of the code alone; nothing where all is well.
 
-A head is the comment that a file opens with. It names a section of document 01, a refusal of its table, a section of an RFC or a
-file of the Rust, or begins by saying that the file has steps of the code. A `Lib.antt` that only lists modules needs none."""
+A head is the comment that a file opens with. It names a section of document 01, a refusal of its table, a request of document 02, a
+section of an RFC or a file of the Rust, or begins by saying that the file has steps of the code. A `Lib.antt` that only lists modules needs none."""
 import glob
 import os
 import re
@@ -18,6 +18,7 @@ SECTIONS = [
 SOURCES = [
     r'[Dd]ocument 01\b.*"(' + "|".join(SECTIONS) + r')"',
     r"[Dd]ocument 01, (refusal|refusals) \d",
+    r"[Dd]ocument 02, requests? \d",
     r"RFC (3261|3262|4028),? sections? \d",
     r"\b(lib|msg|metrics|prack_validator|session_timer_manager)\.rs\b",
 ]

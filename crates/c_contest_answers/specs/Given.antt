@@ -1,4 +1,4 @@
--- What a C caller of the interval contest gets: the number, and what the lent numbers then hold. A lent number keeps its value except where
+-- Document 02, request 12. What a C caller of the interval contest gets: the number, and what the lent numbers then hold. A lent number keeps its value except where
 -- its answer is given: the two ends of an extent where there is one, and of a refusal the minimum of 13.
 use Prim.Native.Nat.{ℕ}
 use mathlib.Core.Option.{Option, none, some}

@@ -1,4 +1,4 @@
--- The answers of this crate's functions, as values of the definitions. A refusal's number and value are those of its cause (crate `limits`).
+-- Document 02, request 12. The answers of this crate's functions, as values of the definitions. A refusal's number and value are those of its cause (crate `limits`).
 use mathlib.Core.Option.{Option, none, some}
 use Rattle.limits.specs.Outcome.{Outcome, refused, given}
 use Rattle.interval_contest.specs.Contest.{Extent, Power}

@@ -1,4 +1,4 @@
--- What `Settles` (Contest.antt) says of each offer, by its numbers alone. `settled` and `settled-only` (proofs/Settled.antt) say that this is
+-- Document 02, request 12. What `Settles` (Contest.antt) says of each offer, by its numbers alone. `settled` and `settled-only` (proofs/Settled.antt) say that this is
 -- what settles it, and nothing else.
 use Prim.Native.Nat.{ℕ, _+_}
 use mathlib.Core.Bool.{cond}

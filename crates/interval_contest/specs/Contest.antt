@@ -1,4 +1,4 @@
--- Change request 12, "Who sets the interval": one offer of a session interval (RFC 4028) as a contest of two sides, in whole seconds. The caller picks a
+-- Document 02, request 12, "Who sets the interval": one offer of a session interval (RFC 4028) as a contest of two sides, in whole seconds. The caller picks a
 -- request R and a Min-SE M, and the callee, who knows them, its minimum and preference. What the callee answers is what the negotiation
 -- gives (`negotiated`, session_timer_manager/specs/Intervals.antt): there is no rule of an interval in this file. After 13 the caller tries
 -- once more, with the minimum that came with it.
