@@ -357,8 +357,9 @@ uint8_t sip_dialog_request(const uint8_t *method, size_t method_len, const uint8
                            uint8_t *store, size_t store_len, size_t *used);
 
 /* Changes a record by a response that was received, as sip_dialog_image_update_from_response does. A uas that has sent a 2xx does
-   not give it here: it copies the record out (sip_dialog_get), calls sip_dialog_image_confirm and puts it again. Refuses with 1, 2,
-   3, 15, 18. */
+   not give that block here: it gives 200 with an empty block, which makes Early Confirmed and changes nothing else. (It can also copy
+   the record out by sip_dialog_get, call sip_dialog_image_confirm and put it again; but a put counts as created, and is refused with
+   16 where 10,000 are held.) Refuses with 1, 2, 3, 15, 18. */
 uint8_t sip_dialog_response(const uint8_t *call_id, size_t call_id_len, const uint8_t *local_tag, size_t local_tag_len,
                             const uint8_t *remote_tag, size_t remote_tag_len, uint16_t status,
                             const uint8_t *block, size_t block_len, uint8_t *store, size_t store_len, size_t *used);

@@ -1,6 +1,6 @@
 /*
- * Rows of docs/DIFFERENCES.md, sections 1 and 2, by their smallest inputs: those that no other test has. Each test names the section of
- * the RFC that the Rust, and the port with it, departs from.
+ * Rows of docs/DIFFERENCES.md, sections 1 and 2, by their smallest inputs: those that no other test in C has. Each test names the section of
+ * the RFC that the Rust, and the port with it, departs from. `oracle/run differences` runs every row, on the Rust too.
  */
 #include "c_face.h"
 

@@ -815,6 +815,17 @@ static void test_most_records_early(void)
     CHECK(many_refuse(put(with_text(early(100), SHEET_CALL_ID, "00000")), MOST - 1, 17));
 }
 
+/* A uas confirms at 10,000 by 200 and an empty block; its record, put again, is refused. */
+static void test_most_records_confirm(void)
+{
+    size_t state = (size_t)5000 * MANY_LENGTH + SHEET_STATE + 3;
+    fill_many(MOST);
+    CHECK(many[state] == 2);
+    many[state] = 1;
+    CHECK(many_refuse(put(numbered(5000)), MOST, 16));
+    CHECK(many_change(with_response(by_id(RESPONSE, "05000", "L", "R"), 200, ""), MOST, (size_t)MOST * MANY_LENGTH));
+}
+
 /* ---- request */
 
 /* A request that the example's record takes, and one that it doesn't. */
@@ -1356,11 +1367,11 @@ void test_stores(void)
     static void (*const tests[])(void) = {
         test_used_length, test_damaged_stores, test_long_identifiers, test_unknown_identifiers, test_zero_byte,
         test_put_behind, test_put_instead, test_put_refused, test_put_count, test_put_early, test_put_early_instead,
-        test_put_early_unnamed, test_most_records, test_most_records_less, test_most_records_early, test_request_window,
-        test_request_ack, test_request_target, test_request_finds, test_request_order, test_request_states,
-        test_response_state, test_response_parts, test_response_order, test_terminate, test_next_local_cseq,
-        test_set_session_expires, test_remove, test_sweep, test_get, test_find_by_call_id, test_find_by_request,
-        test_found_image, test_all_ids, test_a_day,
+        test_put_early_unnamed, test_most_records, test_most_records_less, test_most_records_early,
+        test_most_records_confirm, test_request_window, test_request_ack, test_request_target, test_request_finds,
+        test_request_order, test_request_states, test_response_state, test_response_parts, test_response_order,
+        test_terminate, test_next_local_cseq, test_set_session_expires, test_remove, test_sweep, test_get,
+        test_find_by_call_id, test_find_by_request, test_found_image, test_all_ids, test_a_day,
     };
     run_guarded(tests, sizeof tests / sizeof tests[0]);
 }

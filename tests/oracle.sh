@@ -1,6 +1,6 @@
 #!/bin/sh
-# The differential run over all operations and the three stores, with as many calls as every minimum needs; beside it, a shorter one with a
-# fault planted in each operation.
+# The rows of docs/DIFFERENCES.md by their inputs; the differential run over all operations and the three stores, with 8,000,000 calls; beside
+# it, a shorter one with a fault planted in each operation.
 # PORT_LIB: a folder with libsip_dialog.a (default: built by `rt staticlib sip_dialog`).
 set -eu
 cd "$(dirname "$0")/.."
@@ -13,6 +13,7 @@ trap 'rm -f "$log"' EXIT
 oracle/run --if-present planted >"$log" 2>&1 &
 planted=$!
 status=0
+oracle/run --if-present differences || status=$?
 oracle/run --if-present all --calls 8000000 || status=$?
 wait "$planted" || status=$?
 cat "$log"

@@ -84,20 +84,6 @@ impl Answer {
         }
     }
 
-    /// Lends output of `length` bytes, filled with the pattern.
-    pub fn lend(&mut self, length: usize) {
-        self.bytes = vec![self.pattern as u8; length];
-    }
-
-    /// Writes a result to the front of the lent output and its length to the first out number; 18 where it is too
-    /// large.
-    pub fn write(&mut self, result: &[u8]) -> Result<(), u8> {
-        let lent = self.bytes.get_mut(..result.len()).ok_or(18)?;
-        lent.copy_from_slice(result);
-        self.outs[0] = result.len() as u64;
-        Ok(())
-    }
-
     /// Gives a found part (found, place, length), or says that there is none.
     pub fn give_part(&mut self, part: Option<std::ops::Range<usize>>) {
         self.outs[0] = u64::from(part.is_some());

@@ -8,6 +8,7 @@
 //!     driver rseq [--calls N] [--seed S]       the same for N lists of calls on an RSeq store
 //!     driver prack [--calls N] [--seed S]      the same for N lists of calls on a PRACK store
 //!     driver planted [--calls N] [--seed S]    plants faults, fails if any goes unreported or if a C function has none
+//!     driver differences                       runs the inputs of docs/DIFFERENCES.md on both sides, fails if an answer is another
 //!     driver record                            writes the list of recorded answers that the program replay runs
 //!     driver bench                             times both sides
 //!     driver calls                             names the calls on stores that `bench` times
@@ -20,6 +21,7 @@ mod blocks;
 mod bounds;
 mod contest;
 mod dialogs;
+mod differences;
 mod messages;
 mod mixed;
 mod operations;
@@ -39,7 +41,7 @@ mod uris;
 use std::process::ExitCode;
 
 const USAGE: &str =
-    "use: driver all|leaves|dialogs|store|rseq|prack|planted [--calls N] [--seed S], driver bench, driver record";
+    "use: driver all|leaves|dialogs|store|rseq|prack|planted [--calls N] [--seed S], driver differences|bench|record";
 
 /// How many calls (or lists of calls) where --calls doesn't say it, and how many in all for `all`.
 const CALLS: usize = 20_000;
@@ -73,6 +75,7 @@ fn main() -> ExitCode {
         "rseq" => report::rseq(calls, options.seed),
         "prack" => report::prack(calls, options.seed),
         "planted" => report::planted(calls, options.seed),
+        "differences" => differences::run(),
         "record" => record::run(),
         "bench" => bench::run(),
         "calls" => bench::names(),

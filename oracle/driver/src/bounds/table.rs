@@ -234,7 +234,7 @@ pub const BOUNDS: &[Bound] = &[
     (
         IMAGES,
         "image",
-        &["a byte changed", "cut off", "a byte behind it", "empty"],
+        &["a byte changed", "cut off", "a byte behind it", "empty", "51 routes"],
     ),
     (&["image_route"], "index minus count", &["-1", "0"]),
     (&["image_route", "image_route_count"], "routes", &["0", "1", "50"]),
@@ -247,7 +247,13 @@ pub const BOUNDS: &[Bound] = &[
     (
         LISTING,
         "store",
-        &["a byte changed", "cut off", "a byte behind it", "one identifier twice"],
+        &[
+            "a byte changed",
+            "cut off",
+            "a byte behind it",
+            "one identifier twice",
+            "51 routes",
+        ],
     ),
     (LISTING, "lent output", &["0"]),
     (
@@ -278,8 +284,15 @@ pub const BOUNDS: &[Bound] = &[
     (
         STORES,
         "store",
-        &["a byte changed", "cut off", "a byte behind it", "one identifier twice"],
+        &[
+            "a byte changed",
+            "cut off",
+            "a byte behind it",
+            "one identifier twice",
+            "51 routes",
+        ],
     ),
+    (&["put"], "image", &["51 routes"]),
     (
         GROWING_STORES,
         "result",

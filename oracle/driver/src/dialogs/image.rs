@@ -197,6 +197,12 @@ pub fn decode(image: &[u8]) -> Option<Record> {
     (length == image.len()).then_some(record)
 }
 
+/// Whether the bytes would be an image, were it not for its routes: one more than an image may have.
+pub fn is_crowded(bytes: &[u8]) -> bool {
+    let whole = |most| read(bytes, most).is_some_and(|(_, length)| length == bytes.len());
+    !whole(MOST_ROUTES) && whole(MOST_ROUTES + 1)
+}
+
 /// The records of images one after another; nothing where the bytes aren't whole images.
 pub fn decode_all(mut bytes: &[u8]) -> Option<Vec<Record>> {
     let mut records = Vec::new();
@@ -210,7 +216,7 @@ pub fn decode_all(mut bytes: &[u8]) -> Option<Vec<Record>> {
 
 /// The record of the image at the front, and that image's length.
 fn front(bytes: &[u8]) -> Option<(Record, usize)> {
-    let (record, length) = read(bytes)?;
+    let (record, length) = read(bytes, MOST_ROUTES)?;
     assert_eq!(
         encode(&record.dialog),
         &bytes[..length],
@@ -219,8 +225,8 @@ fn front(bytes: &[u8]) -> Option<(Record, usize)> {
     Some((record, length))
 }
 
-/// The fields in bit order, and where they end.
-fn read(image: &[u8]) -> Option<(Record, usize)> {
+/// The fields in bit order, with so many routes at most, and where they end.
+fn read(image: &[u8], most: usize) -> Option<(Record, usize)> {
     let mut reader = Reader { image, at: 0, map: 0 };
     reader.map = reader.map()?;
     let id = [reader.id(CALL_ID)?, reader.id(LOCAL_TAG)?, reader.id(REMOTE_TAG)?];
@@ -231,7 +237,7 @@ fn read(image: &[u8]) -> Option<(Record, usize)> {
     let last_ack = reader.number(LAST_ACK)?;
     let seconds = reader.number(SECONDS)?;
     let refresher = reader.number(REFRESHER)?;
-    let routes = reader.routes()?;
+    let routes = reader.routes(most)?;
     if local == Some(0) || remote == Some(0) {
         return None;
     }
@@ -345,13 +351,13 @@ impl<'a> Reader<'a> {
         Some(Some(u32::from_be_bytes(bytes.try_into().ok()?)))
     }
 
-    /// The routes, if their bit stands: 1 to 50.
-    fn routes(&mut self) -> Option<Vec<Range<usize>>> {
+    /// The routes, if their bit stands: one at least, and so many at most.
+    fn routes(&mut self, most: usize) -> Option<Vec<Range<usize>>> {
         if !self.stands(ROUTES) {
             return Some(Vec::new());
         }
         let count = usize::from(self.take(1)?[0]);
-        if !(1..=MOST_ROUTES).contains(&count) {
+        if !(1..=most).contains(&count) {
             return None;
         }
         (0..count).map(|_| self.uri()).collect()

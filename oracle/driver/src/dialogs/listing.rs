@@ -33,7 +33,7 @@ pub const OPERATIONS: &[Operation] = &[Operation {
     distort: |input, answer| {
         if answer.number == 0 {
             let records = image::decode_all(input.texts[0]).expect("listed");
-            leave(answer, &text_of(&records, |seconds| seconds.div_ceil(2)));
+            let _ = room::leave_text(answer, text_of(&records, |seconds| seconds.div_ceil(2)).as_bytes());
         }
     },
 }];
@@ -58,7 +58,7 @@ fn expect(input: &Input, answer: &mut Answer) -> Result<(), u8> {
     let text = text_of(&records, |seconds| seconds / 2);
     bounds::number(LISTING, "lent output", lent);
     bounds::room(LISTING, text.len(), lent);
-    leave(answer, &text).then_some(()).ok_or(18)
+    room::leave_text(answer, text.as_bytes())
 }
 
 /// What the tables say of a store that has it.
@@ -68,16 +68,6 @@ const TWICE: &str = "one identifier twice";
 fn has_twice(records: &[Record]) -> bool {
     let ids: HashSet<_> = records.iter().map(|record| record.dialog.id()).collect();
     ids.len() < records.len()
-}
-
-/// Leaves a text at the front of the output, if it fits.
-fn leave(answer: &mut Answer, text: &str) -> bool {
-    let Some(front) = room::lent(&mut answer.bytes).get_mut(..text.len()) else {
-        return false;
-    };
-    front.copy_from_slice(text.as_bytes());
-    answer.outs[0] = text.len() as u64;
-    true
 }
 
 /// A line for each record, with the refresh second of its seconds, and the total.
@@ -107,7 +97,7 @@ fn text_of(records: &[Record], refresh: fn(u32) -> u32) -> String {
 }
 
 /// Every broken form of a store of two records, then random stores: of few records or many, of a length at the limit, broken,
-/// or with one identifier twice.
+/// or with one identifier twice; then those with a record of 51 routes.
 fn each_store(feed: &mut Feed) {
     records::each_broken(&records::templates().concat(), &mut |kind, store| {
         give(feed, kind, store);
@@ -137,6 +127,10 @@ fn each_store(feed: &mut Feed) {
                 give(feed, "", &store);
             }
         }
+    }
+    for _ in 0..records::CROWDED_TIMES {
+        let store = [some(&mut feed.random), records::crowded(&mut feed.random)].concat();
+        give(feed, records::CROWDED, &store);
     }
 }
 

@@ -79,7 +79,8 @@ pub fn next_image(feeds: &mut [Feed], name: &str, call: &Call) -> Option<Vec<u8>
     (answer.number == 0).then_some(image)
 }
 
-/// Feeds an operation on images: every broken form of the templates, then random images, some of them broken.
+/// Feeds an operation on images: every broken form of the templates, then random images, some of them broken, and those with 51
+/// routes.
 fn each_image(feed: &mut Feed, make: Make) {
     give(feed, make, "empty", &[]);
     for template in records::templates() {
@@ -97,6 +98,10 @@ fn each_image(feed: &mut Feed, make: Make) {
         if turn % 200 == 0 {
             give(feed, make, "empty", &[]);
         }
+    }
+    for _ in 0..records::CROWDED_TIMES {
+        let image = records::crowded(&mut feed.random);
+        give(feed, make, records::CROWDED, &image);
     }
 }
 

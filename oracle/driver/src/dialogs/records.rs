@@ -140,6 +140,28 @@ fn routes(random: &mut Random) -> Vec<SipUri> {
 pub const CHANGED: &str = "a byte changed";
 pub const CUT: &str = "cut off";
 pub const LONGER: &str = "a byte behind it";
+pub const CROWDED: &str = "51 routes";
+
+/// How often an image with 51 routes is fed.
+pub const CROWDED_TIMES: usize = 25;
+
+/// An image with one route more than an image may have: the example's with short ones, or one of a record of any kind.
+pub fn crowded(random: &mut Random) -> Vec<u8> {
+    let short = random.one_in(3);
+    let mut parts = match short {
+        true => Parts::of(&image::decode(&templates()[0]).expect("an image").dialog),
+        false => parts(random),
+    };
+    let route = |random: &mut Random| match short {
+        true => b"sip:h".to_vec(),
+        false => short_uri(random),
+    };
+    let uri = |text: Vec<u8>| SipUri::parse(&String::from_utf8(text).expect("ASCII")).expect("readable");
+    parts.routes = (0..51).map(|_| uri(route(random))).collect();
+    let image = image::encode(&parts.dialog());
+    assert!(image::is_crowded(&image), "an image but for its routes");
+    image
+}
 
 /// An image with one byte changed, cut off, or with a byte behind it. A changed one may be an image still.
 pub fn broken(random: &mut Random, image: &[u8]) -> (&'static str, Vec<u8>) {

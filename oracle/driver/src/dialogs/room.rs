@@ -30,6 +30,14 @@ pub fn lend_empty(answer: &mut Answer, length: usize) {
     answer.bytes = vec![answer.pattern as u8; length + 2 * GUARD];
 }
 
+/// Leaves a text at the front of the lent bytes, and its length in the first out number: 18.
+pub fn leave_text(answer: &mut Answer, text: &[u8]) -> Result<(), u8> {
+    let lent = lent(&mut answer.bytes);
+    lent.get_mut(..text.len()).ok_or(18)?.copy_from_slice(text);
+    answer.outs[0] = text.len() as u64;
+    Ok(())
+}
+
 /// The lent bytes without the guard bytes.
 pub fn lent(bytes: &mut [u8]) -> &mut [u8] {
     let end = bytes.len() - GUARD;

@@ -4,7 +4,7 @@
 use super::list::{Flow, List, ON};
 use crate::dialogs::calls::{self, Call};
 use crate::dialogs::creation::{self, Side};
-use crate::dialogs::{image, next_image, readings};
+use crate::dialogs::{image, next_image, readings, room};
 use crate::prack::call::{Action, Call as OnPracks, Pracks};
 use crate::rseq::call::{Call as OnRseqs, RSeqs};
 use crate::rseq::calls::n;
@@ -151,8 +151,8 @@ impl List<'_> {
         let lent = self.random.pick(&[5, 64, 64, 64]);
         let cseq = self.lines[at].invite;
         call.numbers[..4].copy_from_slice(&[u64::from(rseq), u64::from(cseq), u64::from(INVITE), lent]);
-        let answer = self.feed("format_rack", &call);
-        let text = answer.bytes.get(..answer.outs[0] as usize);
+        let mut answer = self.feed("format_rack", &call);
+        let text = room::lent(&mut answer.bytes).get(..answer.outs[0] as usize);
         match answer.number {
             0 => text.unwrap_or_default().to_vec(),
             _ => Vec::new(),

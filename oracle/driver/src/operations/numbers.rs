@@ -2,6 +2,7 @@
 
 use crate::answer::{lent_as, lent_as_rack, Answer, Input, Out, Width, NOTHING};
 use crate::blocks::{each_block, Blocks};
+use crate::dialogs::room;
 use crate::messages::response;
 use crate::places;
 use crate::random::Random;
@@ -91,7 +92,7 @@ pub const OPERATIONS: &[Operation] = &[
         expect: expect_method_text,
         ask: ask_method_text,
         inputs: each_method_text,
-        fault: "a 0 is written after the text where there is room",
+        fault: "a 0 is written after a text that fills its lent bytes",
         distort: distort_method_text,
     },
     Operation {
@@ -347,27 +348,25 @@ fn each_method_text(feed: &mut Feed) {
 /// The method's text in the lent output; 28, then 18.
 fn expect_method_text(input: &Input, answer: &mut Answer) -> Result<(), u8> {
     let [method, lent, ..] = input.numbers;
-    answer.lend(lent as usize);
+    room::lend_empty(answer, lent as usize);
     let method = Method::of_number(method as u8).ok_or(28)?;
-    answer.write(method.as_str().as_bytes())
+    room::leave_text(answer, method.as_str().as_bytes())
 }
 
 /// The port's text in the lent output.
 fn ask_method_text(input: &Input, answer: &mut Answer) -> u8 {
     let [method, lent, ..] = input.numbers;
-    answer.lend(lent as usize);
+    room::lend_empty(answer, lent as usize);
     lent_as(&mut answer.outs[0], |length| {
-        port::method_text(method as u8, &mut answer.bytes, length)
+        port::method_text(method as u8, room::lent(&mut answer.bytes), length)
     })
 }
 
-/// Ends the text by a 0, as a C string.
-fn distort_method_text(_: &Input, answer: &mut Answer) {
-    if answer.number == 0 {
-        let after = answer.outs[0] as usize;
-        if let Some(byte) = answer.bytes.get_mut(after) {
-            *byte = 0;
-        }
+/// Ends the text by a 0, as a C string, where that is past the lent bytes.
+fn distort_method_text(input: &Input, answer: &mut Answer) {
+    let lent = input.numbers[1];
+    if answer.number == 0 && answer.outs[0] == lent {
+        answer.bytes[room::GUARD + lent as usize] = 0;
     }
 }
 
@@ -457,26 +456,26 @@ fn result_length(rseq: u64, cseq: u64, method: u64) -> usize {
 /// The Rust's text in the lent output; 28, then 18.
 fn expect_format_rack(input: &Input, answer: &mut Answer) -> Result<(), u8> {
     let [rseq, cseq, method, lent, ..] = input.numbers;
-    answer.lend(lent as usize);
+    room::lend_empty(answer, lent as usize);
     let rack = RAck {
         rseq: rseq as u32,
         cseq: cseq as u32,
         method: Method::of_number(method as u8).ok_or(28)?,
     };
-    answer.write(rack.format().as_bytes())
+    room::leave_text(answer, rack.format().as_bytes())
 }
 
 /// The port's text in the lent output.
 fn ask_format_rack(input: &Input, answer: &mut Answer) -> u8 {
     let [rseq, cseq, method, lent, ..] = input.numbers;
-    answer.lend(lent as usize);
+    room::lend_empty(answer, lent as usize);
     let rack = port::Rack {
         rseq: rseq as u32,
         cseq: cseq as u32,
         method: method as u8,
     };
     lent_as(&mut answer.outs[0], |length| {
-        port::format_rack(&rack, &mut answer.bytes, length)
+        port::format_rack(&rack, room::lent(&mut answer.bytes), length)
     })
 }
 
@@ -484,7 +483,7 @@ fn ask_format_rack(input: &Input, answer: &mut Answer) -> u8 {
 fn distort_format_rack(input: &Input, answer: &mut Answer) {
     if answer.number == 18 {
         let text = input.numbers[0].to_string();
-        for (byte, digit) in answer.bytes.iter_mut().zip(text.bytes()) {
+        for (byte, digit) in room::lent(&mut answer.bytes).iter_mut().zip(text.bytes()) {
             *byte = digit;
         }
     }

@@ -204,9 +204,12 @@ fn lines(operation: &Operation, input: &Input, expected: &Answer) -> Vec<String>
 fn one_line(operation: &Operation, input: &Input, expected: &Answer) -> String {
     let name = operation.name;
     let form = form_of(name);
-    let guarded = form.kinds.contains('o') && !["method_text", "format_rack"].contains(&name);
     let mut after = expected.bytes.clone();
-    let after: &[u8] = if guarded { room::lent(&mut after) } else { &after };
+    let after: &[u8] = if form.kinds.contains('o') {
+        room::lent(&mut after)
+    } else {
+        &after
+    };
     let lent_empty = vec![expected.pattern as u8; after.len()];
     let lent: &[u8] = if name.starts_with("image_") {
         input.texts[0]

@@ -1,9 +1,9 @@
-//! Lists at the two limits of a store: 10,000 records, and 100 Early records of one Call-ID.
+//! Lists at the two limits of a store: 10,000 records, and 100 Early records of one Call-ID; and images with a route too many.
 
 use super::call::{texts_of, Call};
 use super::dialogs::Dialogs;
 use super::lists::List;
-use super::run::Run;
+use super::run::{Run, Sides};
 use crate::dialogs::image::Parts;
 use crate::dialogs::{encode, records};
 use crate::random::Random;
@@ -117,7 +117,7 @@ fn full(list: &mut List<Dialogs>, held: &DialogId, turn: usize) -> bool {
     ];
     list.each_roomy(&up)
         && list.each(&refused)
-        && list.each_roomy(&readings(held))
+        && list.each_roomy(&readings(held, 20 * MOST))
         && list.each_roomy(&rounds(&first, turn))
         && list.each_roomy(&down)
 }
@@ -136,15 +136,41 @@ pub fn rounds(held: &DialogId, turn: usize) -> [Call; 5] {
     ]
 }
 
-/// A reading of each kind.
-fn readings(held: &DialogId) -> [Call; 5] {
+/// A reading of each kind; that of all identifiers is lent so many bytes of output.
+fn readings(held: &DialogId, output: usize) -> [Call; 5] {
     [
         Call::Get(texts_of(held)),
         Call::FindByCallId(held.call_id().into()),
         Call::FindByRequest(request(held, 8).block().to_vec()),
         Call::Count,
-        Call::AllIds(20 * MOST),
+        Call::AllIds(output),
     ]
+}
+
+/// An image with 51 routes is put: into an empty store, beside records, and in the place of one. A store that has one is handed
+/// to every operation.
+pub fn too_many_routes(run: &mut Run<Dialogs>, random: &mut Random) {
+    let held = id("c", 0);
+    for turn in 0..records::CROWDED_TIMES {
+        let image = records::crowded(random);
+        let mut parts = Parts::of(&record(&held, Confirmed));
+        parts.routes = vec![parts.target.clone(); 51];
+        let in_place = Call::Put(encode(&parts.dialog()));
+        for used in [Vec::new(), [encode(&record(&held, Confirmed)), many(1, 3)].concat()] {
+            let mut list = List::new(run, random, &used, [0, 0]);
+            if !list.each_roomy(&[Call::Put(image.clone()), in_place.clone()]) {
+                return;
+            }
+        }
+        let bytes = [encode(&record(&held, Confirmed)), image].concat();
+        let others = [put(&held, Confirmed), Call::Remove(texts_of(&held)), Call::Sweep];
+        let calls = rounds(&held, turn).into_iter().chain(readings(&held, 20)).chain(others);
+        for call in calls {
+            let mut sides = Sides::damaged(random, &bytes, [0, 0], records::CROWDED);
+            let lent = sides.store.size();
+            run.compare(&mut sides, &call, lent);
+        }
+    }
 }
 
 /// Early records of one Call-ID are put up to the limit, from an empty store; a store of 101 is handed in.

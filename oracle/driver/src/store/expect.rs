@@ -7,8 +7,8 @@ use super::memory::Left;
 use crate::bounds;
 use crate::dialogs::creation::limit;
 use crate::dialogs::image::{self, encode, state_name};
-use crate::dialogs::room;
 use crate::dialogs::updates::{meet_target, Sizes};
+use crate::dialogs::{records, room};
 use crate::rules;
 use sip_core::Headers;
 use sip_dialog::{Dialog, DialogId, DialogStateType};
@@ -103,6 +103,9 @@ fn take(book: &mut Book, call: &Call, headers: &Headers, lent: usize, left: &mut
 
 /// The Rust's `insert`. Where the result doesn't fit it is undone: 18.
 fn put(book: &mut Book, image: &[u8], lent: usize) -> Result<(), u8> {
+    if image::is_crowded(image) {
+        bounds::met(PUT, "image", records::CROWDED);
+    }
     let dialog = image::decode(image).ok_or(3)?.dialog;
     meet_put(book, &dialog);
     let id = dialog.id().clone();

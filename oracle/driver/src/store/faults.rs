@@ -44,6 +44,16 @@ pub const FAULTS: &[Fault] = &[
         distort: count_itself,
     },
     Fault {
+        name: "put-51",
+        operation: PUT,
+        what: "an image with 51 routes is taken",
+        distort: |scene, left| {
+            if matches!(scene.call, Call::Put(image) if image::is_crowded(image)) {
+                left.number = 0;
+            }
+        },
+    },
+    Fault {
         name: "put-created",
         operation: PUT,
         what: "created moves on a refused put",

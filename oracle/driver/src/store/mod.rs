@@ -34,6 +34,7 @@ pub fn compare_all(lists: usize, seed: u64, faults: &[&'static Fault<Dialogs>]) 
     lists::each_broken(&mut run, &mut random);
     directed::at_most_early(&mut run, &mut random);
     directed::at_most_records(&mut run, &mut random);
+    directed::too_many_routes(&mut run, &mut random);
     for _ in 0..lists {
         lists::list(&mut run, &mut random);
     }
