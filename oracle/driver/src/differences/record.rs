@@ -206,8 +206,8 @@ impl Record {
     /// Its interval and refresher.
     pub fn interval(&self) -> Said {
         self.reading("image_numbers", 0, |_, answer| match answer.outs {
-            [_, _, _, _, 0, _, refresher] => format!("no interval, {}", side(refresher)),
-            [_, _, _, _, _, seconds, refresher] => format!("{seconds} s, {}", side(refresher)),
+            [_, _, _, _, 0, _, refresher, ..] => format!("no interval, {}", side(refresher)),
+            [_, _, _, _, _, seconds, refresher, ..] => format!("{seconds} s, {}", side(refresher)),
         })
     }
 
