@@ -19,6 +19,7 @@ use Rattle.text.specs.Number.{numberFrom}
 use Rattle.text.specs.declared.Span.{Span}
 use Rattle.text.specs.declared.number.Number.the-variants.{Value, Unreadable}
 use Rattle.text.specs.Answers.{spanOf}
+use Rattle.msg.specs.Block.{pointerAt}
 use Rattle.msg.proofs.LookupLaws.{Placed}
 use Rattle.headers.specs.SessionExpires.{Interval, expiresFrom}
 use Rattle.headers.specs.declared.session_timer.Expires.{Expires}
@@ -37,7 +38,7 @@ use Rattle.dialog.specs.Updates.{textOr, intervalFrom}
 use Rattle.dialog.proofs.PlacedLaws.{contact-placed}
 use Rattle.route_section.specs.Section.{sectionOf, routeTexts, sectionFrom}
 use Rattle.route_section.specs.declared.Section.the-variants as section
-use Rattle.creation_readings.specs.Steps.{intervalIn, secondsIn, refresherIn, remainderBy}
+use Rattle.creation_readings.specs.Steps.{targetPointer, intervalIn, secondsIn, refresherIn, remainderBy}
 
 -- ---- the request's number
 
@@ -150,6 +151,14 @@ contact-fits block v a = subst (λ (x : Span). x .start + x .length ≤ length b
 pub contact-text : (block remote : List ℕ) (v : Span) → ContactAt block v → take (v .length) (drop (v .start) block) ≡ textOr remote (contactOf block)
 contact-text block remote v a =
     ap (λ (x : Span). take (x .length) (drop (x .start) block)) (sym (a .spans)) ∙ a .placed .there ∙ ap (textOr remote) (sym (a .reads))
+
+pub contact-pointer : (start remote : ℕ × ℕ) (block : List ℕ) (v : Span) → ContactAt block v → pointerAt start (v .start) ≡ targetPointer start remote (contactOf block)
+contact-pointer start remote block v a =
+    ap (λ (x : Span). pointerAt start (x .start)) (sym (a .spans)) ∙ ap (targetPointer start remote) (sym (a .reads))
+
+pub no-contact-pointer : (start remote : ℕ × ℕ) (o : Option Piece) → contactFrom o ≡ contact.Nothing → remote ≡ targetPointer start remote o
+no-contact-pointer start remote none e = refl
+no-contact-pointer start remote (some p) e = absurd (let z : _≡_ {A = ℕ} 0 1 = cc in omega arith)
 
 pub no-contact : (remote : List ℕ) (o : Option Piece) → contactFrom o ≡ contact.Nothing → remote ≡ textOr remote o
 no-contact remote none e = refl

@@ -7,6 +7,7 @@ use lib.ListN.{length}
 use Rattle.limits.specs.Limits.{LimitSet}
 use Rattle.limits.specs.Outcome.{Outcome, refused, given, refuseBy, andThen}
 use Rattle.text.specs.Text.{Piece}
+use Rattle.msg.specs.Block.{pointerAt}
 use Rattle.dialog_id.specs.DialogId.{Identifier, identifierOf, fromName, toName}
 use Rattle.headers.specs.SessionExpires.{Interval, expiresNamed}
 use Rattle.headers.specs.declared.session_timer.Expires.{Expires}
@@ -39,6 +40,11 @@ identifierFor true response = identifierOf fromName toName response
 identifierFor false response = identifierOf toName fromName response
 
 -- ---- readings
+
+-- the pointer to the target, by those to the block and to the remote URI: to the Contact's text in the block, or else the remote URI's own
+abbrev pub targetPointer : ℕ × ℕ → ℕ × ℕ → Option Piece → ℕ × ℕ
+targetPointer block remote none = remote
+targetPointer block remote (some p) = pointerAt block (p .place)
 
 -- the state by the status; 5 outside
 abbrev pub firstState : Outcome State → FirstState

@@ -27,7 +27,7 @@ ghost use Rattle.prack_headers.specs.Sequence.{numberAnswer};
 ghost use Rattle.record.specs.NumbersForm.{meaning, stateIn, numberIn, sideIn, outcomeIn};
 ghost use Rattle.dialog.specs.Creation.{numbersAt, stateBy, sequenceIn, intervalCause};
 ghost use Rattle.dialog.specs.Updates.{textOr, intervalFrom};
-ghost use Rattle.creation_readings.specs.Steps.{sideFor, peerOf, identifierFor, firstState, intervalIn, secondsIn, refresherIn, numbersIn, remainderOf, remainderIn};
+ghost use Rattle.creation_readings.specs.Steps.{sideFor, peerOf, identifierFor, targetPointer, firstState, intervalIn, secondsIn, refresherIn, numbersIn, remainderOf, remainderIn};
 
 // The state that a new record starts in.
 pub enum FirstState {
@@ -51,8 +51,10 @@ pub fn peer_block<'a>(we_are_uac: bool, request: &'a [u8], response: &'a [u8]) -
     request
 }
 
-// The Contact's text, as the block's own bytes, or else the remote URI's.
+// The Contact's text, as a part of the block, or else the remote URI itself. The first promise is which of the two slices it is a part of and
+// where it starts, the second its bytes, and so its length.
 pub fn target<'a>(block: &'a [u8], remote_uri: &'a [u8]) -> &'a [u8]
+    ensures { λ r. ⌜ r .ptr ≡ targetPointer (block .entry .ptr) («remote_uri» .entry .ptr) (contactOf (now (block .entry))) ⌝ }
     ensures { λ r. ⌜ now r ≡ textOr (now («remote_uri» .entry)) (contactOf (now (block .entry))) ⌝ }
 {
     let Contact::At(c) = route_set::find_contact(block) else {

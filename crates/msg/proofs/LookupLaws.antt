@@ -21,7 +21,7 @@ use Rattle.text.specs.declared.Next.the-variants as step
 use Rattle.text.specs.declared.Span.{Span}
 use Rattle.text.proofs.Runs.{drop-part}
 use Rattle.text.proofs.Trimming.{trimmed-at, trimmed-part}
-use Rattle.msg.specs.Block.{lineAt, linesAfter, isBlock, HeaderLine, lineOf, withLine, tailOf, linesFrom, linesOf, linesSince, firstNamed, valueOf, textOf, partOf, stopOf, foundOf, blockCause, lookupCause}
+use Rattle.msg.specs.Block.{lineAt, linesAfter, isBlock, HeaderLine, lineOf, withLine, tailOf, linesFrom, linesOf, linesSince, firstNamed, valueOf, textOf, partOf, partPlace, stopOf, foundOf, blockCause, lookupCause}
 use Rattle.msg.specs.declared.Line.{Line}
 use Rattle.msg.specs.declared.Line.the-variants.{Of, Malformed}
 use Rattle.msg.specs.declared.Found.the-variants.{At, Nothing}
@@ -186,13 +186,16 @@ says : (s : List ℕ) (o : Option HeaderLine) (v : Span) (next : ℕ) → ((f : 
 says s none v next p e = absurd (let z : _≡_ {A = ℕ} 0 1 = cc in omega arith)
 says s (some f) v next p e = record { line = f; is = refl; span-is = (cc); next-is = (cc); placed = p f refl }
 
--- the span lies within the block, and the bytes there are the value
+-- the span lies within the block, the bytes there are the value, and it starts where the value stands
 module _ (s : List ℕ) (o : Option HeaderLine) (v : Span) (next : ℕ) (r : Says s o v next) where
   pub said-fits : v .start + v .length ≤ length s
   said-fits = subst (λ (x : Span). x .start + x .length ≤ length s) (r .span-is) (r .placed .fits)
 
   pub said-part : take (v .start + v .length - v .start) (drop (v .start) s) ≡ partOf (valueOf o) s
   said-part = rw (add-sub-cancel-left, r .is) (ap (λ (x : Span). take (x .length) (drop (x .start) s)) (sym (r .span-is)))
+
+  pub said-place : v .start ≡ partPlace (valueOf o)
+  said-place = rw (r .is) (ap (λ (x : Span). x .start) (sym (r .span-is)))
 
   pub said-text : take (v .start + v .length - v .start) (drop (v .start) s) ≡ textOf o
   said-text = said-part ∙ rw (r .is) (r .placed .there)

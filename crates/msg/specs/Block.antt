@@ -133,6 +133,15 @@ abbrev pub partOf : Option Piece → List ℕ → List ℕ
 partOf none block = []
 partOf (some p) block = take (length (p .text)) (drop (p .place) block)
 
+-- the place of that part in the block; the empty part, where there is no line, stands at the front
+abbrev pub partPlace : Option Piece → ℕ
+partPlace none = 0
+partPlace (some p) = p .place
+
+-- the pointer to a place of lent bytes, by the pointer to their start. A pointer is the memory that it points into, and an offset there
+abbrev pub pointerAt : ℕ × ℕ → ℕ → ℕ × ℕ
+pointerAt start place = (start .0, place + start .1)
+
 abbrev pub stopOf : Option HeaderLine → Option Stop
 stopOf none = none
 stopOf (some l) = some (record { piece = l .value; next = l .next })

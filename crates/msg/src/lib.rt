@@ -11,7 +11,7 @@ ghost use Rattle.limits.specs.Limits.{rustLimits};
 ghost use Rattle.limits.specs.Outcome.{checkOf};
 ghost use Rattle.text.specs.Text.{span};
 ghost use Rattle.text.specs.Answers.{lookupOf, nextOf};
-ghost use Rattle.msg.specs.Block.{isName, lineAt, isBlock, linesFrom, linesOf, linesSince, firstNamed, foundOf, partOf, valueNamed, blockCause, lookup, lookupFrom};
+ghost use Rattle.msg.specs.Block.{isName, lineAt, isBlock, linesFrom, linesOf, linesSince, firstNamed, foundOf, partOf, partPlace, pointerAt, valueNamed, blockCause, lookup, lookupFrom};
 
 mod status;
 
@@ -82,12 +82,14 @@ pub fn next_header(block: &[u8], name: &[u8], from: usize) -> Next
     Next::At(v, next)
 }
 
-// The value of the first line of a name as the block's own bytes, none where there is no such line.
+// The value of the first line of a name as a part of the block; the empty part at its front where there is no such line. The first promise is
+// where the part starts, the second its bytes, and so its length.
 pub fn header_value<'a>(block: &'a [u8], name: &[u8]) -> &'a [u8]
+    ensures { λ r. ⌜ r .ptr ≡ pointerAt (block .entry .ptr) (partPlace (valueNamed (now (name .entry)) (now (block .entry)))) ⌝ }
     ensures { λ r. ⌜ now r ≡ partOf (valueNamed (now (name .entry)) (now (block .entry))) (now (block .entry)) ⌝ }
 {
     let Found::At(v, _) = find(block, name) else {
-        return &block[..0];
+        return &block[0..0];
     };
     let a = v.start;
     let e = a + v.length;

@@ -1,10 +1,10 @@
--- `creation_readings::target` meets its contract: the Contact's text stands in its block. Assumes nothing.
+-- `creation_readings::target` meets its contract: the Contact's text stands in its block, at its place. Assumes nothing.
 use native.Mathlib.Omega.{arith}
 use borrow.Author.Needs.{needs}
 use mathlib.Core.Path.{sym, _∙_}
 use native.Mathlib.Nat.{add-sub-cancel-left}
 use Rattle.route_set.specs.Routes.{contactOf}
-use Rattle.creation_readings.proofs.ReadingLaws.{ContactAt, contact-at, contact-fits, contact-text, no-contact}
+use Rattle.creation_readings.proofs.ReadingLaws.{ContactAt, contact-at, contact-fits, contact-text, contact-pointer, no-contact, no-contact-pointer}
 use Rattle.creation_readings.proofs.target.Statement.{statement}
 use Rattle.creation_readings.proofs.target.Tie as tie
 use Rattle.creation_readings.proofs.target.Reads as reads
@@ -25,7 +25,10 @@ enum-told : tie.Need-enum-told
 enum-told c = search needs
 
 returns : tie.Need-returns
-returns c = no-contact (c .before .before .before .before .before .args .remote-uri .now) (contactOf (c .before .before .before .before .before .args .block .now)) (sym (c .before .before .find-contact .ensures) ∙ c .enum-told .given .1)
+returns c =
+    let a = c .before .before .before .before .before .args in
+    let e = sym (c .before .before .find-contact .ensures) ∙ c .enum-told .given .1 in
+    (no-contact-pointer (a .block .ptr) (a .remote-uri .ptr) (contactOf (a .block .now)) e, no-contact (a .remote-uri .now) (contactOf (a .block .now)) e)
 
 add-e : tie.Need-add-e
 add-e c = omega (arith, contact-fits _ _ (there c))
@@ -40,7 +43,9 @@ part-result-end : tie.Need-part-result-end
 part-result-end c = omega (arith, contact-fits _ _ (there c))
 
 returns-2 : tie.Need-returns-2
-returns-2 c = rw add-sub-cancel-left (contact-text _ (c .before .before .before .before .before .before .before .before .args .remote-uri .now) _ (there (c .before)))
+returns-2 c =
+    let a = c .before .before .before .before .before .before .before .before .args in
+    (contact-pointer (a .block .ptr) (a .remote-uri .ptr) _ _ (there (c .before)), rw add-sub-cancel-left (contact-text _ (a .remote-uri .now) _ (there (c .before))))
 
 pub target-spec : {M : Type 1} → statement M
 target-spec =

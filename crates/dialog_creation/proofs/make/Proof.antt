@@ -66,7 +66,7 @@ enum-known-x c = search needs
 returns-3 : tie.Need-returns-3
 returns-3 c =
     let a = c .before .before .before .before .before .before .before .before .before .before .before .before .before .before .before .before .before .before .before .args in
-    refusal (a .out .now) (over-estimate (a .we-are-uac) (a .request .now) (a .status) (a .response .now) (a .local-uri .now) (a .remote-uri .now) (length (a .out .now)) (c .before .before .before .before .before .before .before .before .before .before .before .id .given .0 .0) (id-named (c .before .before .before .before .before .before .before .before .before .before)) (c .before .before .before .before .before .before .before .state .given .0 .0) (sym (c .before .before .before .before .before .before .before .before .before .state-for .ensures) ∙ c .before .before .before .before .before .before .before .state .given .1) (c .before .before .before .before .before .peer-block .result .now) (c .before .before .before .before .target .result .now) (c .before .before .before .before .before .peer-block .ensures) (c .before .before .before .before .target .ensures) (sym (c .before .before .before .check-estimates .ensures) ∙ c .before .x .given .1))
+    refusal (a .out .now) (over-estimate (a .we-are-uac) (a .request .now) (a .status) (a .response .now) (a .local-uri .now) (a .remote-uri .now) (length (a .out .now)) (c .before .before .before .before .before .before .before .before .before .before .before .id .given .0 .0) (id-named (c .before .before .before .before .before .before .before .before .before .before)) (c .before .before .before .before .before .before .before .state .given .0 .0) (sym (c .before .before .before .before .before .before .before .before .before .state-for .ensures) ∙ c .before .before .before .before .before .before .before .state .given .1) (c .before .before .before .before .before .peer-block .result .now) (c .before .before .before .before .target .result .now) (c .before .before .before .before .before .peer-block .ensures) (c .before .before .before .before .target .ensures .1) (sym (c .before .before .before .check-estimates .ensures) ∙ c .before .x .given .1))
 
 enum-told-3 : tie.Need-enum-told-3
 enum-told-3 c = search needs
@@ -84,12 +84,12 @@ write-image-requires : tie.Need-write-image-requires
 write-image-requires c κs =
     let a = c .before .before .before .before .before .before .before .before .before .before .before .before .before .before .before .before .before .before .before .before .before .before .before .args in
     let h = c .before .before .before .before .before .before .before .before .before .before .before .before .before .before .before .before .before .before .before .before .before .before .before .pre in
-    (id-fits (a .we-are-uac) (a .response .now) (c .before .before .before .before .before .before .before .before .before .before .before .before .before .before .before .id .given .0 .0) (id-named (c .before .before .before .before .before .before .before .before .before .before .before .before .before .before)), ((h .1, target-short (a .remote-uri .now) (c .before .before .before .before .before .before .before .before .before .peer-block .result .now) (c .before .before .before .before .before .before .before .before .target .ensures) (h .3) (peer-fits (c .before .before .before .before .before .before .before .before .before)), h .2, h .3, peer-fits (c .before .before .before .before .before .before .before .before .before)), size-is (a .we-are-uac) (a .request .now) (a .status) (a .response .now) (a .local-uri .now) (a .remote-uri .now) (length (a .out .now)) (c .before .before .before .before .before .before .before .before .before .before .before .before .before .before .before .id .given .0 .0) (id-named (c .before .before .before .before .before .before .before .before .before .before .before .before .before .before)) (c .before .before .before .before .before .before .before .before .before .before .before .state .given .0 .0) (sym (c .before .before .before .before .before .before .before .before .before .before .before .before .before .state-for .ensures) ∙ c .before .before .before .before .before .before .before .before .before .before .before .state .given .1) (c .before .before .before .before .before .before .before .before .before .peer-block .result .now) (c .before .before .before .before .before .before .before .before .target .result .now) (c .before .before .before .before .before .before .before .before .before .peer-block .ensures) (c .before .before .before .before .before .before .before .before .target .ensures) (sym (c .before .before .before .before .before .before .before .check-estimates .ensures) ∙ c .before .before .before .before .before .enum-told3 .given .1) (c .before .before .before .before .read-rest .result) (c .before .before .before .before .read-rest .ensures) (c .before .before .numbers .given .0 .0) (c .before .before .numbers .given .0 .1 .0) (c .before .before .numbers .given .1)))
+    (id-fits (a .we-are-uac) (a .response .now) (c .before .before .before .before .before .before .before .before .before .before .before .before .before .before .before .id .given .0 .0) (id-named (c .before .before .before .before .before .before .before .before .before .before .before .before .before .before)), ((h .1, target-short (a .remote-uri .now) (c .before .before .before .before .before .before .before .before .before .peer-block .result .now) (c .before .before .before .before .before .before .before .before .target .ensures .1) (h .3) (peer-fits (c .before .before .before .before .before .before .before .before .before)), h .2, h .3, peer-fits (c .before .before .before .before .before .before .before .before .before)), size-is (a .we-are-uac) (a .request .now) (a .status) (a .response .now) (a .local-uri .now) (a .remote-uri .now) (length (a .out .now)) (c .before .before .before .before .before .before .before .before .before .before .before .before .before .before .before .id .given .0 .0) (id-named (c .before .before .before .before .before .before .before .before .before .before .before .before .before .before)) (c .before .before .before .before .before .before .before .before .before .before .before .state .given .0 .0) (sym (c .before .before .before .before .before .before .before .before .before .before .before .before .before .state-for .ensures) ∙ c .before .before .before .before .before .before .before .before .before .before .before .state .given .1) (c .before .before .before .before .before .before .before .before .before .peer-block .result .now) (c .before .before .before .before .before .before .before .before .target .result .now) (c .before .before .before .before .before .before .before .before .before .peer-block .ensures) (c .before .before .before .before .before .before .before .before .target .ensures .1) (sym (c .before .before .before .before .before .before .before .check-estimates .ensures) ∙ c .before .before .before .before .before .enum-told3 .given .1) (c .before .before .before .before .read-rest .result) (c .before .before .before .before .read-rest .ensures) (c .before .before .numbers .given .0 .0) (c .before .before .numbers .given .0 .1 .0) (c .before .before .numbers .given .1)))
 
 returns-4 : tie.Need-returns-4
 returns-4 c =
     let a = c .before .before .before .before .before .before .before .before .before .before .before .before .before .before .before .before .before .before .before .before .before .before .args in
-    refusal (a .out .now) (rest-refused (a .we-are-uac) (a .request .now) (a .status) (a .response .now) (a .local-uri .now) (a .remote-uri .now) (length (a .out .now)) (c .before .before .before .before .before .before .before .before .before .before .before .before .before .before .id .given .0 .0) (id-named (c .before .before .before .before .before .before .before .before .before .before .before .before .before)) (c .before .before .before .before .before .before .before .before .before .before .state .given .0 .0) (sym (c .before .before .before .before .before .before .before .before .before .before .before .before .state-for .ensures) ∙ c .before .before .before .before .before .before .before .before .before .before .state .given .1) (c .before .before .before .before .before .before .before .before .peer-block .result .now) (c .before .before .before .before .before .before .before .target .result .now) (c .before .before .before .before .before .before .before .before .peer-block .ensures) (c .before .before .before .before .before .before .before .target .ensures) (sym (c .before .before .before .before .before .before .check-estimates .ensures) ∙ c .before .before .before .before .enum-told3 .given .1) (c .before .before .before .read-rest .result) (c .before .before .before .read-rest .ensures) (c .before .x2 .given .1))
+    refusal (a .out .now) (rest-refused (a .we-are-uac) (a .request .now) (a .status) (a .response .now) (a .local-uri .now) (a .remote-uri .now) (length (a .out .now)) (c .before .before .before .before .before .before .before .before .before .before .before .before .before .before .id .given .0 .0) (id-named (c .before .before .before .before .before .before .before .before .before .before .before .before .before)) (c .before .before .before .before .before .before .before .before .before .before .state .given .0 .0) (sym (c .before .before .before .before .before .before .before .before .before .before .before .before .state-for .ensures) ∙ c .before .before .before .before .before .before .before .before .before .before .state .given .1) (c .before .before .before .before .before .before .before .before .peer-block .result .now) (c .before .before .before .before .before .before .before .target .result .now) (c .before .before .before .before .before .before .before .before .peer-block .ensures) (c .before .before .before .before .before .before .before .target .ensures .1) (sym (c .before .before .before .before .before .before .check-estimates .ensures) ∙ c .before .before .before .before .enum-told3 .given .1) (c .before .before .before .read-rest .result) (c .before .before .before .read-rest .ensures) (c .before .x2 .given .1))
 
 same-length : tie.Need-same-length
 same-length c = search needs
@@ -98,7 +98,7 @@ returns-5 : tie.Need-returns-5
 returns-5 c =
     let a = c .before .before .before .before .before .before .before .before .before .before .before .before .before .before .before .before .before .before .before .before .before .before .before .before .before .before .args in
     subst (λ (o : Outcome (List ℕ)). (c .before .before .write-image .result ≡ writtenFrom o) × (c .before .before .write-image .last .0 ≡ leaves o (a .out .now)))
-    (sym (image-is (a .we-are-uac) (a .request .now) (a .status) (a .response .now) (a .local-uri .now) (a .remote-uri .now) (length (a .out .now)) (c .before .before .before .before .before .before .before .before .before .before .before .before .before .before .before .before .before .before .id .given .0 .0) (id-named (c .before .before .before .before .before .before .before .before .before .before .before .before .before .before .before .before .before)) (c .before .before .before .before .before .before .before .before .before .before .before .before .before .before .state .given .0 .0) (sym (c .before .before .before .before .before .before .before .before .before .before .before .before .before .before .before .before .state-for .ensures) ∙ c .before .before .before .before .before .before .before .before .before .before .before .before .before .before .state .given .1) (c .before .before .before .before .before .before .before .before .before .before .before .before .peer-block .result .now) (c .before .before .before .before .before .before .before .before .before .before .before .target .result .now) (c .before .before .before .before .before .before .before .before .before .before .before .before .peer-block .ensures) (c .before .before .before .before .before .before .before .before .before .before .before .target .ensures) (sym (c .before .before .before .before .before .before .before .before .before .before .check-estimates .ensures) ∙ c .before .before .before .before .before .before .before .before .enum-told3 .given .1) (c .before .before .before .before .before .before .before .read-rest .result) (c .before .before .before .before .before .before .before .read-rest .ensures) (c .before .before .before .before .before .numbers .given .0 .0) (c .before .before .before .before .before .numbers .given .0 .1 .0) (c .before .before .before .before .before .numbers .given .1)))
+    (sym (image-is (a .we-are-uac) (a .request .now) (a .status) (a .response .now) (a .local-uri .now) (a .remote-uri .now) (length (a .out .now)) (c .before .before .before .before .before .before .before .before .before .before .before .before .before .before .before .before .before .before .id .given .0 .0) (id-named (c .before .before .before .before .before .before .before .before .before .before .before .before .before .before .before .before .before)) (c .before .before .before .before .before .before .before .before .before .before .before .before .before .before .state .given .0 .0) (sym (c .before .before .before .before .before .before .before .before .before .before .before .before .before .before .before .before .state-for .ensures) ∙ c .before .before .before .before .before .before .before .before .before .before .before .before .before .before .state .given .1) (c .before .before .before .before .before .before .before .before .before .before .before .before .peer-block .result .now) (c .before .before .before .before .before .before .before .before .before .before .before .target .result .now) (c .before .before .before .before .before .before .before .before .before .before .before .before .peer-block .ensures) (c .before .before .before .before .before .before .before .before .before .before .before .target .ensures .1) (sym (c .before .before .before .before .before .before .before .before .before .before .check-estimates .ensures) ∙ c .before .before .before .before .before .before .before .before .enum-told3 .given .1) (c .before .before .before .before .before .before .before .read-rest .result) (c .before .before .before .before .before .before .before .read-rest .ensures) (c .before .before .before .before .before .numbers .given .0 .0) (c .before .before .before .before .before .numbers .given .0 .1 .0) (c .before .before .before .before .before .numbers .given .1)))
     (c .before .before .write-image .ensures)
 
 pub make-spec : {M : Type 1} → statement M

@@ -1,11 +1,7 @@
--- `msg::header_value` meets its contract: the value's place lies within the block. Assumes nothing.
-use Rattle.msg.proofs.LookupLaws.{said-fits, said-part}
-use Prim.Native.Nat.{_+_, _≤_}
-use mathlib.Core.Path.{_≡_, refl, sym, ap, _∙_}
-use lib.ListN.{length}
-use Rattle.msg.specs.Block.{foundOf, firstNamed, linesOf, partOf}
-use Rattle.msg.specs.declared.Found.the-variants.{At}
-use Rattle.msg.proofs.LookupLaws.{no-line, Says, found-at}
+-- `msg::header_value` meets its contract: the value's place lies within the block, and the part starts there. Assumes nothing.
+use mathlib.Core.Path.{sym, ap, _∙_}
+use Rattle.msg.specs.Block.{firstNamed, linesOf, partOf, partPlace, pointerAt}
+use Rattle.msg.proofs.LookupLaws.{no-line, Says, found-at, said-fits, said-part, said-place}
 use native.Mathlib.Omega.{arith}
 use borrow.Author.Needs.{needs}
 use Rattle.msg.proofs.header_value.Statement.{statement}
@@ -24,15 +20,6 @@ enum-known-v c = search needs
 enum-told : tie.Need-enum-told
 enum-told c = search needs
 
-slice-aggregate-result : tie.Need-slice-aggregate-result
-slice-aggregate-result c = search needs
-
-returns : tie.Need-returns
-returns c = ap (λ o. partOf o (c .before .before .before .before .before .before .args .block .now)) (sym (no-line (firstNamed (c .before .before .before .before .before .before .args .name .now) (linesOf (c .before .before .before .before .before .before .args .block .now))) (sym (c .before .before .before .find .ensures) ∙ c .before .enum-told .given .1)))
-
-add-e : tie.Need-add-e
-add-e c = omega (arith, said-fits _ _ _ _ (found c))
-
 sub-result : tie.Need-sub-result
 sub-result c = search needs
 
@@ -40,10 +27,28 @@ part-result-start : tie.Need-part-result-start
 part-result-start c = search needs
 
 part-result-end : tie.Need-part-result-end
-part-result-end c = omega (arith, said-fits _ _ _ _ (found c))
+part-result-end c = search needs
+
+returns : tie.Need-returns
+returns c =
+    let a = c .before .before .before .before .before .before .args in
+    let e = sym (no-line (firstNamed (a .name .now) (linesOf (a .block .now))) (sym (c .before .before .before .find .ensures) ∙ c .before .enum-told .given .1)) in
+    (ap (λ o. pointerAt (a .block .ptr) (partPlace o)) e, ap (λ o. partOf o (a .block .now)) e)
+
+add-e : tie.Need-add-e
+add-e c = omega (arith, said-fits _ _ _ _ (found c))
+
+sub-result-2 : tie.Need-sub-result-2
+sub-result-2 c = search needs
+
+part-result-start-2 : tie.Need-part-result-start-2
+part-result-start-2 c = search needs
+
+part-result-end-2 : tie.Need-part-result-end-2
+part-result-end-2 c = omega (arith, said-fits _ _ _ _ (found c))
 
 returns-2 : tie.Need-returns-2
-returns-2 c = said-part _ _ _ _ (found (c .before))
+returns-2 c = (ap (pointerAt (c .before .before .before .before .before .before .before .before .args .block .ptr)) (said-place _ _ _ _ (found (c .before))), said-part _ _ _ _ (found (c .before)))
 
 pub header-value-spec : {M : Type 1} → statement M
 header-value-spec =
@@ -52,10 +57,12 @@ header-value-spec =
     find-requires
     enum-known-v
     enum-told
-    slice-aggregate-result
-    returns
-    add-e
     sub-result
     part-result-start
     part-result-end
+    returns
+    add-e
+    sub-result-2
+    part-result-start-2
+    part-result-end-2
     returns-2)

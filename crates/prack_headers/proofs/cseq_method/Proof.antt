@@ -25,7 +25,7 @@ method-of-requires : tie.Need-method-of-requires
 method-of-requires c κs = search needs
 
 returns : tie.Need-returns
-returns c = c .method-of .ensures ∙ ap (λ s. methodFrom (methodOf s)) (c .before .word .ensures ∙ next-word _ _ 0 (c .before .before .after-word .ensures) ∙ ap (wordAt 1) (c .before .before .before .header-value .ensures ∙ value-text cseqName _))
+returns c = c .method-of .ensures ∙ ap (λ s. methodFrom (methodOf s)) (c .before .word .ensures ∙ next-word _ _ 0 (c .before .before .after-word .ensures) ∙ ap (wordAt 1) (c .before .before .before .header-value .ensures .1 ∙ value-text cseqName _))
 
 pub cseq-method-spec : {M : Type 1} → statement M
 cseq-method-spec =

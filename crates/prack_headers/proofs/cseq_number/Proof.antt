@@ -21,7 +21,7 @@ read-u32-requires : tie.Need-read-u32-requires
 read-u32-requires c κs = search needs
 
 returns : tie.Need-returns
-returns c = c .read-u32 .ensures ∙ ap (λ s. numberFrom (readNumber 32 s)) (c .before .word .ensures ∙ ap (wordAt 0) (c .before .before .header-value .ensures ∙ value-text cseqName _))
+returns c = c .read-u32 .ensures ∙ ap (λ s. numberFrom (readNumber 32 s)) (c .before .word .ensures ∙ ap (wordAt 0) (c .before .before .header-value .ensures .1 ∙ value-text cseqName _))
 
 pub cseq-number-spec : {M : Type 1} → statement M
 cseq-number-spec =

@@ -17,7 +17,7 @@ read-u32-requires : tie.Need-read-u32-requires
 read-u32-requires c κs = search needs
 
 returns : tie.Need-returns
-returns c = c .read-u32 .ensures ∙ ap (λ s. numberFrom (readNumber 32 s)) (c .before .header-value .ensures ∙ value-text rseqName _)
+returns c = c .read-u32 .ensures ∙ ap (λ s. numberFrom (readNumber 32 s)) (c .before .header-value .ensures .1 ∙ value-text rseqName _)
 
 pub rseq-spec : {M : Type 1} → statement M
 rseq-spec =

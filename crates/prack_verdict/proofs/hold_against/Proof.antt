@@ -32,7 +32,7 @@ n c = c .before .before .before .before .before .args .n
 
 -- what was read is the RAck of the block
 read : (c : tie.After-read-rack) → c .read-rack .result ≡ rackFrom (rackIn (block c))
-read c = c .read-rack .ensures ∙ ap (λ (s : List ℕ). rackFrom (readRack s)) (c .before .header-value .ensures ∙ value-text rackName (block c))
+read c = c .read-rack .ensures ∙ ap (λ (s : List ℕ). rackFrom (readRack s)) (c .before .header-value .ensures .1 ∙ value-text rackName (block c))
 
 -- the RAck
 abbrev k : tie.After-known-told → RAck
