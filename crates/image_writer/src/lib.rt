@@ -1,4 +1,5 @@
-// One record image, written into the free end of a store (document 01, "Record image"): all but its routes.
+// One record image, written over the front of lent bytes (document 01, "Record image"): whole into the free end of a store, or made from its
+// parts, all but its routes.
 use crate::sections::front_map;
 use crate::sections::ids_size;
 use crate::sections::uris_size;
@@ -12,7 +13,7 @@ ghost use Prim.Native.Nat.{_≤_, _<_};
 ghost use lib.ListN.{length};
 ghost use lib.Dec.{ltb};
 ghost use Rattle.edit.specs.Edit.{over};
-ghost use Rattle.output.specs.Output.{leaves, writtenFrom};
+ghost use Rattle.output.specs.Output.{fitted, leaves, writtenFrom};
 ghost use Rattle.record.specs.NumbersForm.{meaning};
 ghost use Rattle.image_writer.specs.Parts.{frontFrom, frontOf, fittedBefore};
 
@@ -27,7 +28,19 @@ pub use sections::numbers_size;
 pub use sections::state_byte;
 pub use sections::write_numbers;
 
-// All sections of an image before its routes, over the front of `free`, a store's bytes from its used length on. `routes` is how many bytes
+// A new record's image over the front of `free`, a store's bytes from its used length on: 18.
+pub fn write_image(image: &[u8], free: &mut [u8]) -> Written
+    ensures { λ r. ⌜ r ≡ writtenFrom (fitted (length (now (free .entry))) (now (image .entry))) ⌝ }
+    ensures { λ _. ⌜ now (free .exit) ≡ leaves (fitted (length (now (free .entry))) (now (image .entry))) (now (free .entry)) ⌝ }
+{
+    if free.len() < image.len() {
+        return Written::Refused(Refusal::NoRoom);
+    }
+    edit::put(free, 0, image);
+    Written::Length(image.len())
+}
+
+// All sections of an image before its routes, over the front of `free`, the bytes that a creation is lent. `routes` is how many bytes
 // the routes' section has, 0 where there are none: 18 where both are larger than `free`. Where that section begins.
 pub fn write_front(
     free: &mut [u8],

@@ -3,6 +3,7 @@ use crate::early::is_crowded;
 use dialog::ImageAnswer;
 use dialog_manager::Found;
 use dialog_manager::search;
+use image_writer::write_image;
 use limits::Limits;
 use limits::Refusal;
 use output::Written;
@@ -74,11 +75,17 @@ fn put_named(
     let Found::At(at, r) = search(&bytes[..used], true, call_id, local_tag, remote_tag) else {
         return add(image, bytes, used);
     };
-    write_image(image, bytes, used, at, r.end - at)
+    replace_image(image, bytes, used, at, r.end - at)
 }
 
 // The image for the old_length used bytes at a place: 18.
-fn write_image(image: &[u8], bytes: &mut [u8], used: usize, at: usize, old_length: usize) -> Written
+fn replace_image(
+    image: &[u8],
+    bytes: &mut [u8],
+    used: usize,
+    at: usize,
+    old_length: usize,
+) -> Written
     requires { ⌜ (at + «old_length» ≤ used) × (used ≤ length (now bytes)) ⌝ }
     ensures { λ r. ⌜ r ≡ writtenFrom (fitted (length (now (bytes .entry))) (spliced at «old_length» (now (image .entry)) (take used (now (bytes .entry))))) ⌝ }
     ensures { λ _. ⌜ now (bytes .exit) ≡ leaves (fitted (length (now (bytes .entry))) (spliced at «old_length» (now (image .entry)) (take used (now (bytes .entry))))) (now (bytes .entry)) ⌝ }
@@ -89,26 +96,14 @@ fn write_image(image: &[u8], bytes: &mut [u8], used: usize, at: usize, old_lengt
     Written::Length(edit::replace(bytes, used, at, old_length, image))
 }
 
-// The image after the used bytes: 18. The writer is lent the free end of the store.
+// The image after the used bytes: 18. The image writer is lent the free end of the store, the bytes from the used length on.
 fn add(image: &[u8], bytes: &mut [u8], used: usize) -> Written
     requires { ⌜ used ≤ length (now bytes) ⌝ }
     ensures { λ r. ⌜ r ≡ writtenFrom (fitted (length (now (bytes .entry))) (take used (now (bytes .entry)) ++ now (image .entry))) ⌝ }
     ensures { λ _. ⌜ now (bytes .exit) ≡ leaves (fitted (length (now (bytes .entry))) (take used (now (bytes .entry)) ++ now (image .entry))) (now (bytes .entry)) ⌝ }
 {
-    match write_new(image, &mut bytes[used..]) {
+    match write_image(image, &mut bytes[used..]) {
         Written::Length(n) => Written::Length(used + n),
         Written::Refused(cause) => Written::Refused(cause),
     }
-}
-
-// The image at the front of free bytes: 18.
-fn write_new(image: &[u8], free: &mut [u8]) -> Written
-    ensures { λ r. ⌜ r ≡ writtenFrom (fitted (length (now (free .entry))) (now (image .entry))) ⌝ }
-    ensures { λ _. ⌜ now (free .exit) ≡ leaves (fitted (length (now (free .entry))) (now (image .entry))) (now (free .entry)) ⌝ }
-{
-    if free.len() < image.len() {
-        return Written::Refused(Refusal::NoRoom);
-    }
-    edit::put(free, 0, image);
-    Written::Length(image.len())
 }

@@ -24,7 +24,7 @@ use Rattle.store_puts.proofs.puts.put_named.Lts as lts
 use Rattle.dialog_manager.proofs.search.Reads as search-reads
 use Rattle.store_puts.proofs.early.is_crowded.Reads as is-crowded-reads
 use Rattle.store_puts.proofs.puts.add.Reads as add-reads
-use Rattle.store_puts.proofs.puts.write_image.Reads as write-image-reads
+use Rattle.store_puts.proofs.puts.replace_image.Reads as replace-image-reads
 
 abbrev start : tie.After-is-crowded-arg → tie.Start
 start c = c .before .before .before .before .before .before
@@ -104,11 +104,11 @@ returns-2 c =
     let w = added-new rustLimits (length (a .bytes .now)) (a .image .now) (a .bytes .now) (a .used) (a .state) (a .call-id .now) (a .local-tag .now) (a .remote-tag .now) (k .pre .0) (k .pre .1) (known (begun p)) (free p) (sym (t .enum-told .given .1) ∙ t .before .before .search .ensures .0) in
     (r .0 ∙ w .answer, r .1 ∙ w .bytes)
 
-sub-write-image : tie.Need-sub-write-image
-sub-write-image c = omega (arith, lies c .0)
+sub-replace-image : tie.Need-sub-replace-image
+sub-replace-image c = omega (arith, lies c .0)
 
-write-image-requires : tie.Need-write-image-requires
-write-image-requires c κs = let k = start (begun (past c)) in (omega (arith, lies c .0, lies c .1), k .pre .1 .within)
+replace-image-requires : tie.Need-replace-image-requires
+replace-image-requires c κs = let k = start (begun (past c)) in (omega (arith, lies c .0, lies c .1), k .pre .1 .within)
 
 same-length-3 : tie.Need-same-length-3
 same-length-3 c = search needs
@@ -119,7 +119,7 @@ returns-3 c =
     let p = past t in
     let k = start (begun p) in
     let a = k .args in
-    let r = c .before .before .write-image .ensures in
+    let r = c .before .before .replace-image .ensures in
     let w = replaced-old rustLimits (length (a .bytes .now)) (a .image .now) (a .bytes .now) (a .used) (a .state) (a .call-id .now) (a .local-tag .now) (a .remote-tag .now) (k .pre .0) (k .pre .1) (known (begun p)) (free p) (at t) (R t) (stands t) (sym (t .before .before .before .at .given .1) ∙ t .before .before .before .before .before .search .ensures .0) in
     (r .0 ∙ w .answer, r .1 ∙ w .bytes)
 
@@ -140,7 +140,7 @@ put-named-spec =
     add-requires
     same-length-2
     returns-2
-    sub-write-image
-    write-image-requires
+    sub-replace-image
+    replace-image-requires
     same-length-3
     returns-3)
