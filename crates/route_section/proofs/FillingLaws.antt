@@ -1,24 +1,25 @@
--- The turns of the two loops that fill lent bytes with routes. Assumes nothing.
+-- The turns of the two loops of `fill_routes`. Assumes nothing.
 use Prim.Native.Nat.{ℕ, _+_, _-_, _*_, _≤_, _<_}
 use native.Mathlib.Nat.{add-sub-cancel-left}
 use native.Mathlib.Omega.{arith}
 use mathlib.Core.Path.{_≡_, refl, sym, ap, _∙_}
-use mathlib.Core.Bool.{Bool, true, false}
-use mathlib.Core.List.{List, [], _∷_, _++_, map}
+use mathlib.Core.Bool.{Bool}
+use mathlib.Core.List.{List}
 use mathlib.Core.Option.{Option, none, some}
 use lib.ListN.{length, take, drop, length-drop}
-use lib.Dec.{leb}
 use lib.Seq.{drop-drop, take-take, length-take-le}
 use borrow.Author.Tests.{le-leb, lt-leb}
 use Rattle.limits.specs.Limits.{rustLimits}
-use Rattle.limits.specs.Outcome.{Outcome, refused, given, refuseIf, andThen}
+use Rattle.limits.specs.Outcome.{Outcome, refused, given}
+use Rattle.limits.specs.declared.Check.{Check}
+use Rattle.limits.specs.declared.Check.the-variants as check
 use Rattle.limits.specs.declared.Refusal.{Refusal}
 use Rattle.limits.specs.declared.Refusal.the-variants.{UriTooLong, RouteSetTooLarge}
 use Rattle.text.specs.Text.{Piece, movedPiece}
 use Rattle.text.specs.Answers.{spanOf}
 use Rattle.text.specs.declared.Span.{Span}
 use Rattle.msg.specs.Block.{firstNamed}
-use Rattle.msg.proofs.LookupLaws.{Placed, linesLeft, Says}
+use Rattle.msg.proofs.LookupLaws.{Placed, linesLeft}
 use Rattle.uri.specs.SipUri.{overEstimate}
 use Rattle.uri.specs.HeaderUri.{ReadUri, headerUri}
 use Rattle.uri.proofs.Cuts.{Stands}
@@ -26,13 +27,12 @@ use Rattle.uri.proofs.Laws.{found, part-bytes}
 use Rattle.edit.specs.Edit.{putAt}
 use Rattle.edit.proofs.EditLaws.{drop-take}
 use Rattle.record.specs.Codec.{text}
-use Rattle.route_set.specs.Parts.{headerValues}
 use Rattle.route_set.specs.Routes.{recordRouteName, elementsIn}
 use Rattle.route_set.specs.Scan.{elementFrom}
 use Rattle.route_set.specs.declared.routes.Element.{Element}
 use Rattle.route_set.specs.declared.routes.Element.the-variants as element
-use Rattle.route_set.proofs.WalkLaws.{elementsLeft, Told, namedLeft, no-line-left}
-use Rattle.route_set.proofs.ScanLaws.{no-unread, is-long, is-route, same-element, open-line}
+use Rattle.route_set.proofs.WalkLaws.{Told, namedLeft, no-line-left}
+use Rattle.route_set.proofs.ScanLaws.{no-unread, is-long, is-route, same-element, ahead}
 use Rattle.route_section.specs.Filling.{Filling, placeFor, textPut, withText, fillElement, filled, Answered, Bounded}
 use Rattle.route_section.specs.declared.filling.Routes.{Routes}
 use Rattle.route_section.specs.declared.filling.Routes.the-variants as routes
@@ -80,23 +80,23 @@ module _ (v : List ℕ) (e : Piece) (placed : Placed v e) (skipped : Outcome Fil
       let w = part-bytes v (movedPiece (e .place) (r .piece)) u (part-stands v e (r .piece) placed (found (e .text) i .stands)) (k .1) in
       rw (k .0, w)
 
--- ---- the inner loop: the elements of a value
+-- ---- the inner loop: the elements of a value that stands at a, then those of later lines
 
-module _ (reversed : Bool) (f : Filling) (v : List ℕ) (from : ℕ) (p : Span) (next : ℕ) (t : Told v from p next) where
-  pub fill-full : 50 ≤ f .count → filled rustLimits reversed f (elementsLeft v from) ≡ refused RouteSetTooLarge
+module _ (reversed : Bool) (f : Filling) (a : ℕ) (v : List ℕ) (from : ℕ) (rest : List Piece) (p : Span) (next : ℕ) (t : Told v from p next) where
+  pub fill-full : 50 ≤ f .count → filled rustLimits reversed f (ahead a v from rest) ≡ refused RouteSetTooLarge
   unfolding filled
   fill-full h = rw (t .then, le-leb 50 (f .count) h)
 
   module _ (h : f .count < 50) (r : Element) (is : r ≡ elementFrom rustLimits (p .start) (headerUri (take (p .length) (drop (p .start) v)))) where
-    pub fill-unread : r ≡ element.Unreadable → filled rustLimits reversed f (elementsLeft v from) ≡ filled rustLimits reversed f (elementsLeft v next)
+    pub fill-unread : r ≡ element.Unreadable → filled rustLimits reversed f (ahead a v from rest) ≡ filled rustLimits reversed f (ahead a v next rest)
     unfolding filled
     fill-unread e = rw (t .then, lt-leb 50 (f .count) h) (by-unread v (t .piece) (t .placed) _ _ (headerUri (t .piece .text)) (sym (is ∙ same-element v from p next t) ∙ e))
 
-    pub fill-long : r ≡ element.TooLong → filled rustLimits reversed f (elementsLeft v from) ≡ refused UriTooLong
+    pub fill-long : r ≡ element.TooLong → filled rustLimits reversed f (ahead a v from rest) ≡ refused UriTooLong
     unfolding filled
     fill-long e = rw (t .then, lt-leb 50 (f .count) h) (by-long v (t .piece) (t .placed) _ _ (headerUri (t .piece .text)) (sym (is ∙ same-element v from p next t) ∙ e))
 
-    pub fill-route : (u : Span) → r ≡ element.Route u → filled rustLimits reversed f (elementsLeft v from) ≡ filled rustLimits reversed (withText reversed (take (u .start + u .length - u .start) (drop (u .start) v)) f) (elementsLeft v next)
+    pub fill-route : (u : Span) → r ≡ element.Route u → filled rustLimits reversed f (ahead a v from rest) ≡ filled rustLimits reversed (withText reversed (take (u .start + u .length - u .start) (drop (u .start) v)) f) (ahead a v next rest)
     unfolding filled
     fill-route u e = rw (t .then, lt-leb 50 (f .count) h) (by-route v (t .piece) (t .placed) _ _ (headerUri (t .piece .text)) u refl (sym (is ∙ same-element v from p next t) ∙ e))
 
@@ -109,13 +109,6 @@ pub route-held : (reversed : Bool) (f : Filling) (v : List ℕ) (u : Span) (byte
     → withText reversed (take (u .start + u .length - u .start) (drop (u .start) v)) f ≡ record { count = f .count + 1; size = f .size + (2 + u .length); bytes = bytes }
 route-held reversed f v u bytes h e = rw (← e) (ap (λ (n : ℕ). record { count = f .count + 1; size = f .size + (2 + n); bytes = bytes }) (part-long v (u .start) (u .length) h))
 
-pub value-start : (reversed : Bool) (f : Filling) (v : List ℕ) → filled rustLimits reversed f (headerValues v) ≡ filled rustLimits reversed f (elementsLeft v 0)
-value-start reversed f v = rw (le-leb 0 (length v) (omega arith))
-
-pub value-done : (reversed : Bool) (f : Filling) (v : List ℕ) (from : ℕ) → elementsLeft v from ≡ [] → filled rustLimits reversed f (elementsLeft v from) ≡ given f
-unfolding filled
-value-done reversed f v from e = rw e
-
 -- ---- what is answered
 
 pub held-answered : (o : Outcome Filling) (f : Filling) → o ≡ given f → Answered o (routes.Held (f .count) (f .size)) (f .bytes)
@@ -123,6 +116,13 @@ held-answered o f e = rw e (refl, refl)
 
 pub refused-answered : (o : Outcome Filling) (cause : Refusal) (bytes : List ℕ) → o ≡ refused cause → Answered o (routes.Refused cause) bytes
 refused-answered o cause bytes e = rw e refl
+
+-- whether the reading has ended, and by which cause
+pub not-ended : {k : Check} {cause : Refusal} → k ≡ check.Passed → k ≡ check.Refused cause → ⊥
+not-ended e f = let z : _≡_ {A = ℕ} 0 1 = cc in omega arith
+
+pub same-cause : {k : Check} {a b : Refusal} → k ≡ check.Refused a → k ≡ check.Refused b → a ≡ b
+same-cause e f = cc
 
 -- what an answer says of the routes
 pub answered-held : (o : Outcome Filling) (n k : ℕ) (bytes : List ℕ) (r : Routes) → Answered o r bytes → r ≡ routes.Held n k → o ≡ given (record { count = n; size = k; bytes = bytes })
@@ -140,40 +140,6 @@ pub bounded-held : (n k : ℕ) (r : Routes) → Bounded r → r ≡ routes.Held 
 bounded-held n k r b e = (rw e at b)
 
 -- ---- the outer loop: the lines
-
--- the elements of a line, wherever they stand, and then the rest
-module _ (reversed : Bool) (a : ℕ) (rest : List Piece) where
-  fill-append : (es : List Piece) (f : Filling) → filled rustLimits reversed f (map (movedPiece a) es ++ rest) ≡ andThen (filled rustLimits reversed f es) (λ g. filled rustLimits reversed g rest)
-  unfolding filled
-  fill-append [] f = refl
-  fill-append (e ∷ es) f = by (leb 50 (f .count)) refl (fill-append es)
-    where
-      by : (t : Bool) → leb 50 (f .count) ≡ t → ((g : Filling) → filled rustLimits reversed g (map (movedPiece a) es ++ rest) ≡ andThen (filled rustLimits reversed g es) (λ g. filled rustLimits reversed g rest))
-          → filled rustLimits reversed f (map (movedPiece a) (e ∷ es) ++ rest) ≡ andThen (filled rustLimits reversed f (e ∷ es)) (λ g. filled rustLimits reversed g rest)
-      by true t ih = rw t
-      by false t ih = rw t (of (headerUri (e .text)))
-        where
-          of : (o : Option ReadUri)
-              → fillElement rustLimits o (filled rustLimits reversed f (map (movedPiece a) es ++ rest)) (λ w. filled rustLimits reversed (withText reversed w f) (map (movedPiece a) es ++ rest))
-              ≡ andThen (fillElement rustLimits o (filled rustLimits reversed f es) (λ w. filled rustLimits reversed (withText reversed w f) es)) (λ g. filled rustLimits reversed g rest)
-          of none = ih f
-          of (some r) = size (overEstimate rustLimits (r .uri))
-            where
-              size : (b : Bool)
-                  → refuseIf b UriTooLong (filled rustLimits reversed (withText reversed (r .piece .text) f) (map (movedPiece a) es ++ rest))
-                  ≡ andThen (refuseIf b UriTooLong (filled rustLimits reversed (withText reversed (r .piece .text) f) es)) (λ g. filled rustLimits reversed g rest)
-              size true = refl
-              size false = ih (withText reversed (r .piece .text) f)
-
--- the line that the look-up found
-pub fill-line : (reversed : Bool) (f : Filling) (s : List ℕ) (at : ℕ) (v : Span) (next : ℕ) → Says s (firstNamed recordRouteName (linesLeft s at)) v next
-    → filled rustLimits reversed f (elementsIn (namedLeft s recordRouteName at))
-    ≡ andThen (filled rustLimits reversed f (headerValues (take (v .start + v .length - v .start) (drop (v .start) s)))) (λ g. filled rustLimits reversed g (elementsIn (namedLeft s recordRouteName next)))
-fill-line reversed f s at v next r =
-    let w : List ℕ = take (v .start + v .length - v .start) (drop (v .start) s) in
-    ap (filled rustLimits reversed f) (open-line s recordRouteName at v next r)
-    ∙ fill-append reversed (v .start) (elementsIn (namedLeft s recordRouteName next)) (elementsLeft w 0) f
-    ∙ ap (λ (o : Outcome Filling). andThen o (λ g. filled rustLimits reversed g (elementsIn (namedLeft s recordRouteName next)))) (sym (value-start reversed f w))
 
 pub lines-done : (reversed : Bool) (f : Filling) (s : List ℕ) (at : ℕ) → firstNamed recordRouteName (linesLeft s at) ≡ none → filled rustLimits reversed f (elementsIn (namedLeft s recordRouteName at)) ≡ given f
 unfolding filled elementsIn

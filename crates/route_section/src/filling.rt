@@ -1,5 +1,6 @@
 // Lent bytes filled with the texts of a block's routes, one line after another.
 use image_writer::write_text;
+use limits::Check;
 use limits::Limits;
 use limits::Refusal;
 use msg::Found;
@@ -7,11 +8,10 @@ use route_set::Element;
 use route_set::Part;
 use route_set::next_part;
 use route_set::read_element;
-ghost use Prim.Native.Nat.{_+_, _*_, _≤_, _<_};
+ghost use Prim.Native.Nat.{_≤_};
 ghost use mathlib.Core.Path.{_≡_};
 ghost use lib.ListN.{length};
 ghost use Rattle.limits.specs.Limits.{rustLimits};
-ghost use Rattle.route_set.specs.Parts.{headerValues};
 ghost use Rattle.route_set.specs.Routes.{routeElements};
 ghost use Rattle.route_section.specs.Filling.{textPut, filled, Answered, Bounded};
 
@@ -21,7 +21,8 @@ pub enum Routes {
     Refused(Refusal),
 }
 
-// The routes of all Record-Route lines: an element met when 50 are held ends the whole reading at once.
+// The routes of all Record-Route lines, their elements one after another: one met when 50 are held ends the whole reading at once, and so does
+// one that is too long.
 pub fn fill_routes(out: &mut [u8], block: &[u8], reversed: bool) -> Routes
     requires { ⌜ length (now block) ≤ 8192 ⌝ }
     ensures { λ r. ⌜ Answered (filled rustLimits reversed (record { count = 0; size = 0; bytes = now (out .entry) }) (routeElements (now (block .entry)))) r (now (out .exit)) ⌝ }
@@ -30,56 +31,42 @@ pub fn fill_routes(out: &mut [u8], block: &[u8], reversed: bool) -> Routes
     let mut count = 0;
     let mut size = 0;
     let mut at = 0;
-    while at < block.len() {
+    let mut ended = Check::Passed;
+    'lines: while at < block.len() {
         let Found::At(v, next) = msg::find_from(block, at, b"Record-Route") else {
             return Routes::Held(count, size);
         };
         let a = v.start;
         let e = a + v.length;
-        match fill_value(out, &block[a..e], reversed, count, size) {
-            Routes::Refused(x) => {
-                return Routes::Refused(x);
+        let value = &block[a..e];
+        let mut from = 0;
+        while from <= value.len() {
+            let Part::At(p, after) = next_part(value, from) else {
+                break;
+            };
+            if Limits::MAX_ROUTE_SET_SIZE <= count {
+                ended = Check::Refused(Refusal::RouteSetTooLarge);
+                break 'lines;
             }
-            Routes::Held(n, k) => {
-                count = n;
-                size = k;
+            match read_element(value, p) {
+                Element::Unreadable => {}
+                Element::TooLong => {
+                    ended = Check::Refused(Refusal::UriTooLong);
+                    break 'lines;
+                }
+                Element::Route(u) => {
+                    let b = u.start;
+                    put_text(out, size, &value[b..b + u.length], reversed);
+                    size += 2 + u.length;
+                    count += 1;
+                }
             }
+            from = after;
         }
         at = next;
     }
-    Routes::Held(count, size)
-}
-
-// The routes of one line's value, when so many are held already.
-fn fill_value(out: &mut [u8], value: &[u8], reversed: bool, held: usize, held_size: usize) -> Routes
-    requires { ⌜ (length (now value) ≤ 8192) × (held ≤ 50) × («held_size» ≤ held * 8194) ⌝ }
-    ensures { λ r. ⌜ Answered (filled rustLimits reversed (record { count = held; size = «held_size»; bytes = now (out .entry) }) (headerValues (now (value .entry)))) r (now (out .exit)) ⌝ }
-    ensures { λ r. ⌜ Bounded r ⌝ }
-{
-    let mut count = held;
-    let mut size = held_size;
-    let mut from = 0;
-    while from <= value.len() {
-        let Part::At(p, after) = next_part(value, from) else {
-            return Routes::Held(count, size);
-        };
-        if Limits::MAX_ROUTE_SET_SIZE <= count {
-            return Routes::Refused(Refusal::RouteSetTooLarge);
-        }
-        match read_element(value, p) {
-            Element::Unreadable => {}
-            Element::TooLong => {
-                return Routes::Refused(Refusal::UriTooLong);
-            }
-            Element::Route(u) => {
-                let a = u.start;
-                let e = a + u.length;
-                put_text(out, size, &value[a..e], reversed);
-                size += 2 + u.length;
-                count += 1;
-            }
-        }
-        from = after;
+    if let Check::Refused(x) = ended {
+        return Routes::Refused(x);
     }
     Routes::Held(count, size)
 }
