@@ -1,7 +1,8 @@
 //! One offer of a session interval as a contest (change request 12): the callee's answers by the Rust's own
-//! `negotiate_session_expires`, first and, after 13, to the retry. With small figures every callee is tried: there what is shown
-//! for all numbers is seen for some of them.
+//! `negotiate_session_expires`, first and, after 13, to the retry. What is shown for all numbers is held against it: with small
+//! figures for every callee, with document 01's for callees by chance.
 
+use crate::random::Random;
 use sip_dialog::session_timer_manager::negotiate_session_expires;
 use std::collections::BTreeSet;
 use std::time::Duration;
@@ -18,6 +19,16 @@ pub struct Figures {
 pub struct Offer {
     pub requested: u64,
     pub min_se: u64,
+}
+
+impl Offer {
+    /// The offer after 13: its minimum as both numbers.
+    fn of_retry(minimum: u64) -> Offer {
+        Offer {
+            requested: minimum,
+            min_se: minimum,
+        }
+    }
 }
 
 /// The callee's minimum and preference.
@@ -101,11 +112,7 @@ impl Reached {
             self.without.insert(callee.minimum);
             return;
         }
-        let retry = Offer {
-            requested: minimum,
-            min_se: minimum,
-        };
-        match answer(retry, callee) {
+        match answer(Offer::of_retry(minimum), callee) {
             Ok(interval) => self.retry.insert(interval),
             Err(_) => self.refused_again.insert(callee.minimum),
         };
@@ -143,13 +150,38 @@ fn as_shown(figures: &Figures, offer: Offer, reached: &Reached, largest: u64) ->
         && reached.only(requested) == (min_se == requested)
 }
 
+/// Whether one callee's answers are as shown.
+fn answers_as_shown(figures: &Figures, offer: Offer, callee: Callee) -> bool {
+    let Offer { requested, min_se } = offer;
+    let first = answer(offer, callee);
+    if callee.minimum <= requested {
+        return matches!(first, Ok(interval) if (min_se..=requested).contains(&interval));
+    }
+    if first != Err(callee.minimum) {
+        return false;
+    }
+    callee.minimum > figures.most || answer(Offer::of_retry(callee.minimum), callee) == Ok(callee.minimum)
+}
+
+/// What is shown, held against the Rust's negotiation: with small figures for every callee, with 01's for some by chance. Says
+/// whether all is as shown.
+pub fn brute_force(seed: u64) -> bool {
+    let every = every_callee();
+    let some = callees_by_chance(seed);
+    println!();
+    every && some
+}
+
+/// At most so many that aren't as shown are printed.
+const MOST_SHOWN: u64 = 3;
+
 /// The small figures: the least from 1 to this, the most up to so many above it; callees go so far above the most.
 const LARGEST_LEAST: u64 = 4;
 const WIDEST: u64 = 12;
 const ABOVE: u64 = 3;
 
-/// Tries every callee on every offer of small figures, prints how many, and says whether all is as shown.
-pub fn brute_force() -> bool {
+/// Tries every callee on every offer of small figures, and prints how many.
+fn every_callee() -> bool {
     let (mut offers, mut callees, mut differing) = (0u64, 0u64, 0u64);
     for least in 1..=LARGEST_LEAST {
         for most in least..=least + WIDEST {
@@ -161,13 +193,70 @@ pub fn brute_force() -> bool {
                 callees += reached.callees;
                 if !as_shown(&figures, offer, &reached, largest) {
                     differing += 1;
-                    println!("differing: interval contest, {figures:?}, {offer:?}: {reached:?}");
+                    if differing <= MOST_SHOWN {
+                        println!("differing: interval contest, {figures:?}, {offer:?}: {reached:?}");
+                    }
                 }
             }
         }
     }
-    println!("interval contest with small figures: {offers} offers, {callees} callees by the Rust's negotiation, {differing} offers not as shown\n");
+    println!("interval contest, small figures: {offers} offers, {callees} callees, {differing} offers not as shown");
     differing == 0 && offers > 0
+}
+
+/// So many offers by chance, and so many callees of each.
+const OFFERS: u64 = 5_000;
+const CALLEES: u64 = 200;
+
+/// Tries callees by chance on offers by chance, with 01's figures, and prints how many.
+fn callees_by_chance(seed: u64) -> bool {
+    let figures = Figures::OF_01;
+    let mut random = Random::new(seed, "contest");
+    let mut differing = 0;
+    for _ in 0..OFFERS {
+        let requested = number_to(&mut random, figures.least, figures.most);
+        let min_se = number_to(&mut random, figures.least, requested);
+        let offer = Offer { requested, min_se };
+        for _ in 0..CALLEES {
+            let callee = Callee {
+                minimum: callee_number(&mut random, offer),
+                preference: callee_number(&mut random, offer),
+            };
+            if !answers_as_shown(&figures, offer, callee) {
+                differing += 1;
+                if differing <= MOST_SHOWN {
+                    println!("differing: interval contest, {offer:?}, {callee:?}");
+                }
+            }
+        }
+    }
+    println!(
+        "interval contest, 01's figures: {OFFERS} offers, {} callees, {differing} not as shown",
+        OFFERS * CALLEES
+    );
+    differing == 0
+}
+
+/// A number between two, mostly near an end.
+fn number_to(random: &mut Random, least: u64, most: u64) -> u64 {
+    let off = random.next() % (most - least + 1);
+    match random.below(4) {
+        0 => least + off % 3.min(most - least + 1),
+        1 => most - off % 3.min(most - least + 1),
+        _ => least + off,
+    }
+}
+
+/// A callee's number: near the offer's, near the most, or any that is large enough.
+fn callee_number(random: &mut Random, offer: Offer) -> u64 {
+    let Figures { least, most } = Figures::OF_01;
+    let near = [offer.min_se, offer.requested, most][random.below(3)];
+    let number = match random.below(4) {
+        0 | 1 => near - 2 + random.next() % 5,
+        2 => least + random.next() % (most - least + 3),
+        _ => random.next() >> (30 + random.below(30)),
+    };
+    number.max(least)
 }
 
 /// Every offer within the figures.

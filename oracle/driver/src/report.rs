@@ -27,7 +27,7 @@ pub fn all(calls: u64, seed: u64) -> bool {
         faults_of(mixed::RSEQ_FAULTS),
         faults_of(mixed::PRACK_FAULTS),
     ];
-    let shown = contest::brute_force();
+    let shown = contest::brute_force(seed);
     let same = verdict(&names.concat(), |planted, table| {
         let everything = all::compare_all(calls, seed, planted);
         table.add_everything(everything);
@@ -37,7 +37,7 @@ pub fn all(calls: u64, seed: u64) -> bool {
 
 /// The same for the operations on blocks, values, texts and numbers alone, each with so many random calls.
 pub fn leaves(calls: usize, seed: u64) -> bool {
-    let shown = contest::brute_force();
+    let shown = contest::brute_force(seed);
     let same = verdict(&names_of(&operations::all()), |planted, table| {
         table.add_feeds(operations::compare_all(calls, seed, |name| name == planted));
     });

@@ -27,7 +27,7 @@ pub const OPERATIONS: &[Operation] = &[Operation {
     expect,
     ask,
     inputs: each_offer,
-    fault: "the retry is offered with the request itself as least",
+    fault: "the least of the retry's answers is the request itself",
     distort: |_, answer| {
         if answer.number == 0 && answer.outs[3] == 1 {
             answer.outs[4] -= 1;
@@ -85,14 +85,13 @@ fn callees(offer: Offer) -> Vec<Callee> {
     let mut numbers: Vec<u64> = turns.filter(|number| *number >= least).chain(chosen).collect();
     numbers.sort_unstable();
     numbers.dedup();
-    let with_each = |minimum: u64| {
-        let of = move |preference: &u64| Callee {
-            minimum,
-            preference: *preference,
-        };
-        numbers.iter().map(of).collect::<Vec<_>>()
-    };
-    numbers.iter().flat_map(|minimum| with_each(*minimum)).collect()
+    let mut callees = Vec::new();
+    for minimum in numbers.iter().copied() {
+        for preference in numbers.iter().copied() {
+            callees.push(Callee { minimum, preference });
+        }
+    }
+    callees
 }
 
 /// The request's refusals of an offer, or what the callees reach by the Rust.
