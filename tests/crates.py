@@ -1,13 +1,14 @@
-"""Prints crates.txt as the sources have it: for each crate all that it uses, also through others, leaves first.
+"""Prints crates.txt as the sources have it: for each crate those that it uses itself, leaves first.
 
 A crate uses another where its code names it (`name::`), or where its code, definitions or proofs name its definitions
-(`Rattle.name`). The order of the lines is that of the file as it is; a crate that has no line yet is named on standard error."""
+(`Rattle.name`). Comments and the order of the lines are those of the file as it is; a crate that has no line yet is named
+on standard error."""
 import os
 import re
 import sys
 
-# The toolchain's libraries, and what each of them uses.
-KIT = {"io": ["libc"], "os": ["io", "libc"], "libc": [], "check": ["libc"], "bytes": []}
+# The toolchain's libraries.
+KIT = ["io", "os", "libc", "check", "bytes"]
 
 top = os.path.dirname(os.path.dirname(os.path.abspath(__file__)))
 folder = os.path.join(top, "crates")
@@ -35,34 +36,23 @@ def direct(name):
     return {other for other in used if other in names or other in KIT} - {name}
 
 
-def reached(name, direct_of):
-    """All that the crate uses."""
-    found, todo = set(), [name]
-    while todo:
-        for other in direct_of.get(todo.pop()) or []:
-            if other not in found:
-                found.add(other)
-                todo.append(other)
-    return found
-
-
 def main():
     with open(os.path.join(top, "crates.txt"), encoding="utf-8") as file:
         lines = file.read().splitlines()
     order = [line.split(":")[0] for line in lines if ":" in line and not line.startswith("#")]
     for name in sorted(names - set(order)):
         print(f"crates.py: {name} has no line", file=sys.stderr)
-    direct_of = {name: direct(name) for name in names} | KIT
     for line in lines:
-        if line.startswith("#"):
+        name = line.split(":")[0]
+        if name not in order:
             print(line)
-    for name in (name for name in order if name in names):
-        used = reached(name, direct_of)
-        later = [other for other in order[order.index(name):] if other in used]
-        if later:
-            print(f"crates.py: {name} uses {', '.join(later)}, which stand below it", file=sys.stderr)
-        own = [other for other in order if other in used]
-        print(f"{name}:" + "".join(f" {other}" for other in own + [library for library in KIT if library in used]))
+        elif name in names:
+            used = direct(name)
+            for other in order[order.index(name):]:
+                if other in used:
+                    print(f"crates.py: {name} uses {other}, which stands below it", file=sys.stderr)
+            own = [other for other in order if other in used] + [library for library in KIT if library in used]
+            print(f"{name}:" + "".join(f" {other}" for other in own))
 
 
 main()
