@@ -1,11 +1,11 @@
 -- What RFC 4028 asks of the intervals, as facts about the definitions; and what the check of seconds says to its callers. Assumes nothing.
-use Prim.Native.Nat.{ℕ, _≤_, _*_, _/_}
+use Prim.Native.Nat.{ℕ, _≤_, _+_, _*_, _/_}
 use native.Mathlib.Omega.{arith}
-use mathlib.Core.Path.{_≡_, refl}
+use mathlib.Core.Path.{_≡_, refl, sym}
 use mathlib.Core.Bool.{Bool, true, false}
 use mathlib.Core.Option.{Option, none, some}
-use lib.Dec.{ltb}
-use borrow.Author.Tests.{ltb-false}
+use lib.Dec.{leb, ltb}
+use borrow.Author.Tests.{ltb-false, le-leb, lt-leb, leb-true, leb-false}
 use Rattle.limits.specs.Limits.{LimitSet}
 use Rattle.limits.specs.Outcome.{given, causeIf, orElse, refuseBy}
 use Rattle.limits.specs.declared.Refusal.{Refusal}
@@ -67,3 +67,15 @@ module _ (limits : LimitSet) (expires : ℕ) where
       by : (o : Option Refusal) → secondsFrom (refuseBy o (given expires)) ≡ checked.Refused cause → o ≡ some cause
       by none e = absurd (let z : _≡_ {A = ℕ} 0 1 = cc in omega arith)
       by (some own) e = cc
+
+-- ---- two thirds without a division: i an interval, e what has elapsed
+
+pub thirds-passed : (i e : ℕ) → i ≤ e → leb (i * 2 / 3) e ≡ true
+thirds-passed i e h = le-leb (i * 2 / 3) e (omega (arith, h))
+
+pub thirds-before : (i e : ℕ) → leb (i * 2) (e * 3 + 2) ≡ leb (i * 2 / 3) e
+thirds-before i e = by (leb (i * 2) (e * 3 + 2)) refl
+  where
+    by : (t : Bool) → leb (i * 2) (e * 3 + 2) ≡ t → t ≡ leb (i * 2 / 3) e
+    by true p = sym (le-leb (i * 2 / 3) e (omega (arith, leb-true (i * 2) (e * 3 + 2) p)))
+    by false p = sym (lt-leb (i * 2 / 3) e (omega (arith, leb-false (i * 2) (e * 3 + 2) p)))

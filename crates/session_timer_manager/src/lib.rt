@@ -109,8 +109,12 @@ pub fn needs_refresh(expires: OptionalSeconds, elapsed: u64) -> bool
     let OptionalSeconds::Of(seconds) = expires else {
         return false;
     };
-    let due = (seconds as u64) * NANOS_PER_SECOND * 2 / 3;
-    due <= elapsed
+    let interval = (seconds as u64) * NANOS_PER_SECOND;
+    if interval <= elapsed {
+        return true;
+    }
+    // Nothing is divided: two thirds, rounded down, are at most n exactly if twice the interval is at most 3 n + 2.
+    interval * 2 <= elapsed * 3 + 2
 }
 
 // lib.rs's own `validate_session_expires`, a step of creation and of `set_session_expires`: the seconds, or a refusal
