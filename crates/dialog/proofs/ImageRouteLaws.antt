@@ -23,7 +23,8 @@ use Rattle.image_writer.specs.Parts.{idsBytes, urisBytes, numbersBytes, mapOfPa
 use Rattle.image_writer.proofs.FieldLaws.{uris-size, numbers-size}
 use Rattle.image_writer.proofs.ImageLaws.{partsIn, routesBytes, image-parts}
 use Rattle.image_edit.proofs.ImageCuts.{ids-end}
-use Rattle.dialog.specs.OneImage.{alone, onlyOne, oneRecord, imageAnswer}
+use Rattle.dialog_rules.specs.OneImage.{alone, onlyOne, oneRecord}
+use Rattle.dialog.specs.Readings.{imageAnswer}
 use Rattle.dialog.specs.ImageRoutes.{textAt, routeAt, imageRoute}
 use Rattle.dialog.specs.declared.readings.ImageAnswer.the-variants as answer
 

@@ -18,7 +18,7 @@ ghost use Rattle.record.specs.NumbersForm.{kindIn};
 ghost use Rattle.image.specs.Places.{recordFrom};
 ghost use Rattle.image.specs.declared.RecordReading.the-variants.{Whole};
 ghost use Rattle.image_edit.specs.Changes.{readAt};
-ghost use Rattle.dialog.specs.Updates.{kindOf, requestUpdate};
+ghost use Rattle.dialog_rules.specs.Updates.{kindOf, requestUpdate};
 ghost use Rattle.dialog_updates.specs.AtPlace.{stepped};
 ghost use Rattle.dialog_updates.specs.Messages.{requested};
 

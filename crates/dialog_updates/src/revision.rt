@@ -21,7 +21,7 @@ ghost use Rattle.route_set.specs.Routes.{routesOf};
 ghost use Rattle.route_section.specs.Section.{sectionFrom};
 ghost use Rattle.route_section.specs.declared.Section.the-variants.{Of};
 ghost use Rattle.routes_edit.specs.Rerouted.{renewedBy};
-ghost use Rattle.dialog.specs.Updates.{retargeted};
+ghost use Rattle.dialog_rules.specs.Updates.{retargeted};
 
 // For the record whose image begins at a place of the used bytes: 18. Answers the new used length.
 pub fn revise(

@@ -18,7 +18,7 @@ use Rattle.distinct.specs.Ends.{endAt}
 use Rattle.distinct.specs.Pairs.{WholeFrom, aloneFrom}
 use Rattle.distinct.proofs.Identities.{same-key}
 use Rattle.distinct.proofs.Images.{back, key-is}
-use Rattle.distinct.proofs.Sames.{equal-same, equal-is}
+use Rattle.text.proofs.Sames.{equal-same, equal-is}
 use Rattle.distinct.proofs.Walks.{From, Next, next, from-end, from-more}
 
 module _ (s : List ℕ) (b : Bytes s) where

@@ -13,7 +13,7 @@ use Rattle.ordered_store.proofs.OrderLaws.{order-itself, order-transitive}
 use Rattle.distinct.specs.Keys.{At, keyAt}
 use Rattle.distinct.specs.Sorting.{EachAt, Ascending, tally}
 use Rattle.distinct.proofs.Bits.{bit-le}
-use Rattle.distinct.proofs.Sames.{equal-same, equal-is}
+use Rattle.text.proofs.Sames.{equal-same, equal-is}
 
 module _ (s : List ℕ) where
   -- ---- each place

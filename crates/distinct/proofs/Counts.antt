@@ -15,7 +15,7 @@ use Rattle.distinct.specs.Ends.{endAt}
 use Rattle.distinct.specs.Sorting.{EachAt, tally, SortedOr}
 use Rattle.distinct.proofs.Ascents.{once}
 use Rattle.distinct.proofs.Identities.{same-key}
-use Rattle.distinct.proofs.Sames.{equal-same, equal-is}
+use Rattle.text.proofs.Sames.{equal-same, equal-is}
 use Rattle.distinct.proofs.Walks.{From, next, each-formed, each-place}
 
 -- how many of the records have a key

@@ -16,7 +16,7 @@ use Rattle.record.proofs.RecordLaws.{GoodId}
 use Rattle.record.proofs.WellFormedLaws.{good}
 use Rattle.distinct.specs.Keys.{idsBytes, keyOf}
 use Rattle.distinct.proofs.Bits.{bit-le, bit-same}
-use Rattle.distinct.proofs.Sames.{both, equal-same, equal-is}
+use Rattle.text.proofs.Sames.{both, equal-same, equal-is}
 
 -- ---- the bytes of an identifier under its flags
 

@@ -8,7 +8,6 @@ pub mod Identities
 pub mod Images
 pub mod Merges
 pub mod Parts
-pub mod Sames
 pub mod Tails
 pub mod Texts
 pub mod Walks

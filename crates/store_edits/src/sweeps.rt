@@ -12,7 +12,7 @@ ghost use Rattle.edit.specs.Edit.{over};
 ghost use Rattle.distinct.specs.Keys.{At};
 ghost use Rattle.record.specs.Store.{decodeAll};
 ghost use Rattle.book.specs.Store.{run};
-ghost use Rattle.book.specs.Returned.{writtenIn};
+ghost use Rattle.dialog_manager.specs.Answers.{writtenIn};
 ghost use Rattle.dialog_manager.specs.Search.{Stored};
 ghost use Rattle.store_edits.specs.Edits.{sweeping, livingIn, StayingAt};
 

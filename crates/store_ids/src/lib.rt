@@ -16,7 +16,7 @@ ghost use Rattle.text.specs.Spans.{partIn};
 ghost use Rattle.book.specs.Calls.{read, allIds};
 ghost use Rattle.record.specs.Store.{decodeAll};
 ghost use Rattle.book.specs.Store.{run, outputAfter};
-ghost use Rattle.book.specs.Returned.{idsWritten};
+ghost use Rattle.dialog_manager.specs.Answers.{idsWritten};
 ghost use Rattle.dialog_manager.specs.Search.{Stored, IdsWithin};
 ghost use Rattle.store_ids.specs.Identifiers.{idsIn, IdsShort, lengthAt, textsAt};
 

@@ -13,7 +13,7 @@ use Rattle.record.specs.Record.{State, Record, stateByteOf, image}
 use Rattle.record.specs.NumbersForm.{stateIn}
 use Rattle.record.specs.declared.numbers.State.{State as CodeState}
 use Rattle.image.specs.declared.sections.IdsAt.{IdsAt}
-use Rattle.dialog.specs.OneImage.{oneRecord}
+use Rattle.dialog_rules.specs.OneImage.{oneRecord}
 use Rattle.dialog_id.specs.Ident.{Ident, ident}
 use Rattle.book.specs.Calls.{Call, put}
 use Rattle.record.specs.Store.{decodeAll}

@@ -17,7 +17,7 @@ ghost use Rattle.limits.specs.Limits.{rustLimits};
 ghost use Rattle.edit.specs.Edit.{spliced};
 ghost use Rattle.output.specs.Output.{fitted, leaves, writtenFrom};
 ghost use Rattle.book.specs.Store.{run};
-ghost use Rattle.book.specs.Returned.{writtenIn};
+ghost use Rattle.dialog_manager.specs.Answers.{writtenIn};
 ghost use Rattle.store_puts.specs.Puts.{putting, Named, Open};
 
 // DialogManager::insert of one record image: 3, 16, 17, 18. A replacement keeps its place; a new record is written into the free end of the store.

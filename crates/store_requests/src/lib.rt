@@ -17,7 +17,7 @@ ghost use Rattle.limits.specs.Limits.{rustLimits};
 ghost use Rattle.text.specs.Spans.{partIn};
 ghost use Rattle.dialog_id.specs.Ident.{ident};
 ghost use Rattle.book.specs.Book.{namedIn};
-ghost use Rattle.book.specs.Returned.{writtenIn};
+ghost use Rattle.dialog_manager.specs.Answers.{writtenIn};
 ghost use Rattle.store_entries.specs.Entries.{usedAfter, requesting, spotIn, spotNamed, standingOf, Ready};
 
 // The request entry: 1, 2, 3, 15, 4, 9; ACK: 11; others: 10, 11, 12; 18. The record that the block names is changed as by Dialog::update_from_request.

@@ -13,7 +13,7 @@ use Rattle.record.specs.Record.{Numbers}
 use Rattle.record.specs.Rules.{Kind, requestStep}
 use Rattle.image_edit.specs.Changes.{changed}
 use Rattle.image_edit.proofs.ImageCuts.{Held, held-used}
-use Rattle.dialog.specs.Updates.{kindOf, retargeted, requestUpdate}
+use Rattle.dialog_rules.specs.Updates.{kindOf, retargeted, requestUpdate}
 use Rattle.dialog_updates.specs.AtPlace.{stepped}
 use Rattle.dialog_updates.proofs.PlaceLaws.{numbers-read, stepped-refused, stepped-given, refused-leaves, result-as}
 use Rattle.dialog_requests.proofs.RequestLaws.{no-number, number-refused, number-taken}

@@ -2,7 +2,7 @@
 use native.Mathlib.Omega.{arith}
 use mathlib.Core.Path.{sym, ap, _∙_}
 use mathlib.Core.Option.{Option}
-use Rattle.dialog.proofs.MatchLaws.{Asked, asked, not-asked}
+use Rattle.dialog_rules.proofs.PlacedLaws.{Asked, asked, not-asked}
 use Rattle.dialog_id.specs.Ident.{Ident}
 use Rattle.store_entries.specs.Entries.{spotNamed, standingOf}
 use Rattle.store_requests.proofs.RequestLaws.{named-is, named-none}

@@ -11,7 +11,7 @@ use Rattle.image_edit.specs.Changes.{changed}
 use Rattle.image_edit.proofs.ImageCuts.{Held, held-used}
 use Rattle.record_gaps.specs.Revised.{revised}
 use Rattle.route_set.specs.Routes.{contactOf}
-use Rattle.dialog.specs.Updates.{retargeted}
+use Rattle.dialog_rules.specs.Updates.{retargeted}
 use Rattle.dialog_updates.proofs.ContactLaws.{no-contact, contact-within, contact-target}
 use Rattle.dialog_updates.proofs.PlaceLaws.{changed-as, result-as}
 use native.Mathlib.Omega.{arith}

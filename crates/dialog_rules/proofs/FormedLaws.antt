@@ -15,13 +15,13 @@ use Rattle.session_timer_manager.specs.Intervals.{secondsCause}
 use Rattle.session_timer_manager.proofs.Laws.{seconds-within}
 use Rattle.record.specs.Record.{Numbers, Record, UriPart, OptionalPart, EachUri, WellFormed}
 use Rattle.record.specs.Rules.{Kind, withSeconds, intervalStep, confirmStep, terminateStep, localStep}
-use Rattle.dialog.specs.Updates.{textOr, retargeted, isSuccess, confirms, routesOr, rerouted, intervalFrom, answered, responseUpdate, confirmUpdate, terminateUpdate, localUpdate, intervalUpdate}
+use Rattle.dialog_rules.specs.Updates.{textOr, retargeted, isSuccess, confirms, routesOr, rerouted, intervalFrom, answered, responseUpdate, confirmUpdate, terminateUpdate, localUpdate, intervalUpdate}
 use Rattle.record.specs.Changes.{withNumbers, withRoutes}
-use Rattle.dialog.proofs.StepLaws.{given-same, never-given, Taken, moved, acknowledged, taken}
-use Rattle.dialog.proofs.UpdateLaws.{Request}
-use Rattle.dialog.proofs.RefusalLaws.{passed-cause}
-use Rattle.dialog.proofs.ReadLaws.{cseq-below, expires-below, contact-within}
-use Rattle.dialog.proofs.RouteLaws.{reversed-formed}
+use Rattle.dialog_rules.proofs.StepLaws.{given-same, never-given, Taken, moved, acknowledged, taken}
+use Rattle.dialog_rules.proofs.UpdateLaws.{Request}
+use Rattle.dialog_rules.proofs.RefusalLaws.{passed-cause}
+use Rattle.dialog_rules.proofs.ReadLaws.{cseq-below, expires-below, contact-within}
+use Rattle.dialog_rules.proofs.RouteLaws.{reversed-formed}
 
 -- ---- parts of a record changed
 

@@ -21,10 +21,10 @@ use Rattle.route_set.specs.Parts.{isCut, quoteAfter, depthAfter, segments, elem
 use Rattle.route_set.specs.Routes.{recordRouteName, elementsOf, elementsIn, routeElements, routeBefore, withElement, routesFrom, routesOf}
 use Rattle.record.specs.Record.{EachUri}
 use Rattle.record.proofs.CodecLaws.{GoodAll}
-use Rattle.dialog.proofs.StepLaws.{given-same, never-given, past-test}
-use Rattle.dialog.proofs.RefusalLaws.{passed-test}
-use Rattle.dialog.proofs.PieceLaws.{BoundedLine, values-bounded}
-use Rattle.dialog.proofs.ReadLaws.{UriWithin, uri-within}
+use Rattle.dialog_rules.proofs.StepLaws.{given-same, never-given, past-test}
+use Rattle.dialog_rules.proofs.RefusalLaws.{passed-test}
+use Rattle.dialog_rules.proofs.PieceLaws.{BoundedLine, values-bounded}
+use Rattle.dialog_rules.proofs.ReadLaws.{UriWithin, uri-within}
 
 -- ---- what holds of every element of a list
 

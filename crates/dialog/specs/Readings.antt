@@ -1,32 +1,17 @@
--- One record's image given by itself: exactly one image, and nothing after it (document 01, refusal 3). The readings of a record that need no store:
--- the Rust's accessors, and `needs_refresh`.
+-- The readings of a record that need no store, of its image given by itself (document 01, refusal 3): the Rust's accessors, and `needs_refresh`
+-- (lib.rs).
 use Prim.Native.Nat.{ℕ}
-use mathlib.Core.Bool.{Bool, true, false, cond}
-use mathlib.Core.List.{List, [], _∷_}
-use mathlib.Core.Option.{Option, none, some}
-use Rattle.limits.specs.Outcome.{Outcome, refused, given, andThen, orRefuse}
-use Rattle.limits.specs.declared.Refusal.the-variants.{BadStore}
+use mathlib.Core.Bool.{Bool, true, false}
+use mathlib.Core.List.{List}
+use Rattle.limits.specs.Outcome.{Outcome, refused, given, andThen}
 use Rattle.session_timer_manager.specs.Intervals.{refreshDue}
-use Rattle.record.specs.Codec.{Reading}
-use Rattle.record.specs.Record.{Record, image}
+use Rattle.record.specs.Record.{Record}
 use Rattle.image.specs.Places.{recordPlaces}
+use Rattle.dialog_rules.specs.OneImage.{oneRecord}
 use Rattle.dialog.specs.declared.readings.ImageAnswer.{ImageAnswer}
 use Rattle.dialog.specs.declared.readings.ImageAnswer.the-variants as answer
 use Rattle.dialog.specs.declared.readings.Refresh.{Refresh}
 use Rattle.dialog.specs.declared.readings.Refresh.the-variants as refresh
-
--- nothing stands after the image
-abbrev pub alone : Reading Record → List ℕ → Option Record
-alone x [] = some (x .value)
-alone x (b ∷ s) = none
-
-abbrev pub onlyOne : Option (Reading Record) → Option Record
-onlyOne none = none
-onlyOne (some x) = alone x (x .rest)
-
--- 3; then the record
-unfoldable pub oneRecord : List ℕ → Outcome Record
-oneRecord bytes = orRefuse BadStore (onlyOne (image .read bytes))
 
 -- the accessors: where the parts lie, and the numbers
 abbrev pub imageAnswer : Outcome Record → ImageAnswer

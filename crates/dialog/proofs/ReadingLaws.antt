@@ -18,7 +18,8 @@ use Rattle.image.specs.Places.{recordFrom, recordPlaces}
 use Rattle.image.specs.declared.RecordAt.{RecordAt}
 use Rattle.image.specs.declared.RecordReading.the-variants.{Whole, Broken}
 use Rattle.image.proofs.AnswerLaws.{RecordGot, record-got, record-not}
-use Rattle.dialog.specs.OneImage.{alone, onlyOne, oneRecord, imageAnswer, refreshOf, refreshAnswer}
+use Rattle.dialog_rules.specs.OneImage.{alone, onlyOne, oneRecord}
+use Rattle.dialog.specs.Readings.{imageAnswer, refreshOf, refreshAnswer}
 use Rattle.dialog.specs.declared.readings.ImageAnswer.the-variants as answer
 use Rattle.dialog.specs.declared.readings.Refresh.{Refresh}
 use Rattle.dialog.specs.declared.readings.Refresh.the-variants as refresh

@@ -22,14 +22,14 @@ use Rattle.headers.proofs.TagLaws.{tag-placed}
 use Rattle.route_set.specs.Routes.{routesOf, inOrder}
 use Rattle.prack_headers.specs.Sequence.{cseqNumber}
 use Rattle.record.specs.Record.{State, Side, uac, uas, Record, isReadable, IdPart, EachUri, WellFormed}
-use Rattle.dialog.specs.Updates.{intervalFrom}
-use Rattle.dialog.specs.Creation.{Creation, peerBlock, identifierIn, targetOf, routesIn, numbersAt, textsCause, formCause, uriCause, estimateCause, stateBy, sequenceIn, intervalCause, recordWith, madeBy, created}
-use Rattle.dialog.proofs.StepLaws.{given-same, past-test}
-use Rattle.dialog.proofs.RefusalLaws.{passed-cause, no-causes, no-cause, both-given, was-read}
-use Rattle.dialog.proofs.PieceLaws.{Bounded, take-bounded, drop-bounded, value-bounded}
-use Rattle.dialog.proofs.ReadLaws.{UriWithin, cseq-below}
-use Rattle.dialog.proofs.RouteLaws.{received-formed, reversed-formed}
-use Rattle.dialog.proofs.FormedLaws.{FormedNumbers, read-formed, contact-formed}
+use Rattle.dialog_rules.specs.Updates.{intervalFrom}
+use Rattle.dialog_rules.specs.Creation.{Creation, peerBlock, identifierIn, targetOf, routesIn, numbersAt, textsCause, formCause, uriCause, estimateCause, stateBy, sequenceIn, intervalCause, recordWith, madeBy, created}
+use Rattle.dialog_rules.proofs.StepLaws.{given-same, past-test}
+use Rattle.dialog_rules.proofs.RefusalLaws.{passed-cause, no-causes, no-cause, both-given, was-read}
+use Rattle.dialog_rules.proofs.PieceLaws.{Bounded, take-bounded, drop-bounded, value-bounded}
+use Rattle.dialog_rules.proofs.ReadLaws.{UriWithin, cseq-below}
+use Rattle.dialog_rules.proofs.RouteLaws.{received-formed, reversed-formed}
+use Rattle.dialog_rules.proofs.FormedLaws.{FormedNumbers, read-formed, contact-formed}
 
 -- ---- the identifier
 

@@ -23,7 +23,7 @@ use Rattle.route_set.specs.Routes.{contactOf, routesOf, inOrder}
 use Rattle.prack_headers.specs.Sequence.{cseqNumber}
 use Rattle.session_timer_manager.specs.Intervals.{secondsCause}
 use Rattle.record.specs.Record.{State, early, confirmed, Side, uac, uas, Numbers, Record, isRead}
-use Rattle.dialog.specs.Updates.{textOr, intervalFrom}
+use Rattle.dialog_rules.specs.Updates.{textOr, intervalFrom}
 
 -- what a creation is given
 pub record Creation : Type 0 where

@@ -6,7 +6,7 @@ use mathlib.Core.Bool.{Bool, true, false}
 use mathlib.Core.Option.{Option, none, some}
 use Rattle.limits.specs.Outcome.{Outcome, refused, given, causeIf, orElse, refuseBy, refuseIf, andThen, orRefuse}
 use Rattle.limits.specs.declared.Refusal.{Refusal}
-use Rattle.dialog.proofs.StepLaws.{given-same, never-given}
+use Rattle.dialog_rules.proofs.StepLaws.{given-same, never-given}
 
 -- a test that refuses did not hold
 pub passed-test : {A : Type 0} (t : Bool) (cause : Refusal) (o : Outcome A) {a : A} → refuseIf t cause o ≡ given a → t ≡ false

@@ -17,7 +17,7 @@ use Rattle.route_set.specs.Routes.{contactName, uriIn, contactOf}
 use Rattle.words.specs.Words.{wordAt}
 use Rattle.prack_headers.specs.Sequence.{cseqName, valueText, cseqNumber}
 use Rattle.record.specs.Record.{isRead, isReadable}
-use Rattle.dialog.proofs.PieceLaws.{value-bounded}
+use Rattle.dialog_rules.proofs.PieceLaws.{value-bounded}
 
 -- ---- numbers
 

@@ -1,4 +1,5 @@
--- The parts of an identifier and the Contact's URI that are read from a block lie in the block. Assumes nothing.
+-- The parts of an identifier and the Contact's URI that are read from a block lie in the block; those of a request's identifier at the places that
+-- `request_id` answers. Assumes nothing.
 use Prim.Native.Nat.{ℕ, _+_, _-_, _≤_}
 use native.Mathlib.Nat.{add-assoc}
 use native.Mathlib.Omega.{arith}
@@ -16,7 +17,9 @@ use Rattle.uri.specs.HeaderUri.{ReadUri, headerUri, pieceOf}
 use Rattle.uri.proofs.Laws.{Found, found}
 use Rattle.route_set.specs.Routes.{contactName, uriIn, contactOf}
 use Rattle.headers.specs.Tag.{tagOf}
-use Rattle.dialog_id.specs.DialogId.{Identifier, callIdName, tagIn, tagNamed, identifier, identifierOf}
+use Rattle.dialog_id.specs.DialogId.{Identifier, callIdName, fromName, toName, tagIn, tagNamed, identifier, identifierOf, dialogIdFrom, idFrom}
+use Rattle.dialog_id.specs.declared.DialogId.{DialogId}
+use Rattle.dialog_id.specs.declared.IdPart.the-variants as part
 use Rattle.headers.proofs.TagLaws.{tag-placed}
 
 -- the value of a header
@@ -92,3 +95,24 @@ contact-placed block p e = by (valueNamed contactName block) refl e
     by : (o : Option Piece) → valueNamed contactName block ≡ o → uriIn o ≡ some p → Placed block p
     by none q e = absurd (let z : _≡_ {A = ℕ} 0 1 = cc in omega arith)
     by (some v) q e = in-value v (headerUri (v .text)) refl (value-placed contactName block v q) e
+
+-- ---- the identifier of a request
+
+-- what was read, and where its parts lie
+pub record Asked (block : List ℕ) (i : DialogId) : Type 0 where
+  pub parts : Identifier
+  pub reads : identifierOf fromName toName block ≡ some parts
+  pub spans : i ≡ dialogIdFrom parts
+  pub placed : PlacedId block parts
+
+pub asked : (block : List ℕ) (i : DialogId) → part.At i ≡ idFrom (identifierOf fromName toName block) → Asked block i
+asked block i e = by (identifierOf fromName toName block) refl e
+  where
+    by : (o : Option Identifier) → identifierOf fromName toName block ≡ o → part.At i ≡ idFrom o → Asked block i
+    by none q h = absurd (let z : _≡_ {A = ℕ} 0 1 = cc in omega arith)
+    by (some p) q h = record { parts = p; reads = q; spans = (cc); placed = identifier-placed fromName toName block p q }
+
+-- no answer where a part is absent
+pub not-asked : (o : Option Identifier) → part.Nothing ≡ idFrom o → o ≡ none
+not-asked none h = refl
+not-asked (some p) h = absurd (let z : _≡_ {A = ℕ} 0 1 = cc in omega arith)

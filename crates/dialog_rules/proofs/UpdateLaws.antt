@@ -14,10 +14,10 @@ use Rattle.prack_headers.specs.Sequence.{cseqNumber}
 use Rattle.session_timer_manager.specs.Intervals.{secondsCause}
 use Rattle.record.specs.Record.{State, early, confirmed, terminated, Numbers, Record}
 use Rattle.record.specs.Rules.{Kind, requestStep, withSeconds, intervalStep, confirmStep}
-use Rattle.dialog.specs.Updates.{retargeted, requestUpdate, isSuccess, confirms, rerouted, intervalFrom, confirmedBy, answered, responseUpdate, confirmUpdate, terminateUpdate, localUpdate, intervalUpdate}
+use Rattle.dialog_rules.specs.Updates.{retargeted, requestUpdate, isSuccess, confirms, rerouted, intervalFrom, confirmedBy, answered, responseUpdate, confirmUpdate, terminateUpdate, localUpdate, intervalUpdate}
 use Rattle.record.specs.Changes.{withNumbers}
-use Rattle.dialog.proofs.StepLaws.{given-same, never-given, Taken, moved, acknowledged, taken, rank, confirm-on, terminate-on}
-use Rattle.dialog.proofs.RefusalLaws.{passed-cause}
+use Rattle.dialog_rules.proofs.StepLaws.{given-same, never-given, Taken, moved, acknowledged, taken, rank, confirm-on, terminate-on}
+use Rattle.dialog_rules.proofs.RefusalLaws.{passed-cause}
 
 -- ---- what every update keeps
 
