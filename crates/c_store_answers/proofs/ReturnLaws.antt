@@ -16,7 +16,7 @@ use Rattle.limits.specs.declared.Refusal.the-variants.{BadStore, NoRoom}
 use Rattle.edit.specs.Edit.{over}
 use Rattle.output.specs.declared.Written.{Written}
 use Rattle.output.specs.declared.Written.the-variants as written
-use Rattle.record.proofs.CodecLaws.{Bytes, bytes-take}
+use Rattle.codec.proofs.CodecLaws.{Bytes, bytes-take}
 use Rattle.record.proofs.StoreLaws.{decoded}
 use Rattle.book.specs.Calls.{Call, read, Reading, Value, Answer}
 use Rattle.record.specs.Store.{decodeAll}

@@ -15,7 +15,7 @@ use Rattle.output.specs.Output.{fitted}
 use Rattle.output.specs.declared.Written.{Written}
 use Rattle.output.specs.declared.Written.the-variants as written
 use Rattle.record.specs.Record.{Record}
-use Rattle.record.proofs.CodecLaws.{Bytes}
+use Rattle.codec.proofs.CodecLaws.{Bytes}
 use Rattle.store.specs.Counting.{recordsHeld, countAnswer}
 use Rattle.store.specs.declared.Held.{Held}
 use Rattle.store.specs.declared.Held.the-variants as held

@@ -19,13 +19,14 @@ use Rattle.msg.proofs.LookupLaws.{Placed}
 use Rattle.dialog_id.specs.DialogId.{Identifier, identifierOf, fromName, toName, readIdentifier, dialogIdFrom, idFrom, fromRequest}
 use Rattle.dialog_id.specs.declared.DialogId.{DialogId}
 use Rattle.dialog_id.specs.declared.IdPart.the-variants as part
-use Rattle.record.specs.Codec.{Reading}
+use Rattle.codec.specs.Codec.{Reading}
 use Rattle.record.specs.Record.{Record, image}
-use Rattle.record.proofs.CodecLaws.{Bytes}
+use Rattle.codec.proofs.CodecLaws.{Bytes}
 use Rattle.image.specs.Places.{recordPlaces, idsOf, idsPlaces}
 use Rattle.image.specs.declared.RecordAt.{RecordAt}
 use Rattle.image_writer.proofs.LieLaws.{Lie, record-lies}
-use Rattle.image.proofs.SizeLaws.{Got, got, recordSize, record-sized}
+use Rattle.codec.proofs.SizeLaws.{Got, got}
+use Rattle.image.proofs.SizeLaws.{recordSize, record-sized}
 use Rattle.dialog.specs.OneImage.{alone, onlyOne, oneRecord, imageAnswer}
 use Rattle.text.specs.Spans.{partIn}
 use Rattle.dialog.specs.Matching.{namedBy, matchesRequest, matchesAnswer}

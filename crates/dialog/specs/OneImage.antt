@@ -7,7 +7,7 @@ use mathlib.Core.Option.{Option, none, some}
 use Rattle.limits.specs.Outcome.{Outcome, refused, given, andThen, orRefuse}
 use Rattle.limits.specs.declared.Refusal.the-variants.{BadStore}
 use Rattle.session_timer_manager.specs.Intervals.{refreshDue}
-use Rattle.record.specs.Codec.{Reading}
+use Rattle.codec.specs.Codec.{Reading}
 use Rattle.record.specs.Record.{Record, image}
 use Rattle.image.specs.Places.{recordPlaces}
 use Rattle.dialog.specs.declared.readings.ImageAnswer.{ImageAnswer}

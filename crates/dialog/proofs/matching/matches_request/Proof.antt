@@ -6,7 +6,7 @@ use mathlib.Core.Bool.{true, false}
 use mathlib.Core.Option.{none}
 use Rattle.dialog.proofs.MatchLaws.{Asked, asked, not-asked, Held, held, ids-within, bad-block, bad-image, no-part, matched}
 use Rattle.dialog.specs.declared.matching.Matches.the-variants.{Yes, No}
-use Rattle.record.proofs.CodecLaws.{Bytes, bytes-all}
+use Rattle.codec.proofs.CodecLaws.{Bytes, bytes-all}
 use Rattle.msg.specs.Block.{blockCause}
 use Rattle.limits.proofs.Laws.{passed}
 use Rattle.limits.specs.Limits.{rustLimits}
