@@ -18,7 +18,7 @@ use Rattle.output.specs.Output.{fitted}
 use Rattle.edit.specs.Edit.{over}
 use Rattle.record.specs.Record.{Record}
 use Rattle.record.specs.Store.{decodeAll}
-use Rattle.record.proofs.CodecLaws.{Bytes, bytes-take}
+use Rattle.codec.proofs.CodecLaws.{Bytes, bytes-take}
 use Rattle.record.proofs.StoreLaws.{decoded}
 use Rattle.dialog_id.specs.Ident.{Ident}
 use Rattle.dialog_rules.specs.Updates.{localUpdate}

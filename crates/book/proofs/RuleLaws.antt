@@ -21,7 +21,7 @@ use Rattle.text.specs.Answers.{lengthCause}
 use Rattle.msg.specs.Block.{linesAfter, isBlock, blockCause}
 use Rattle.output.specs.Output.{fitted}
 use Rattle.prack_headers.specs.Sequence.{cseqNumber}
-use Rattle.session_timer_manager.specs.Intervals.{secondsCause}
+use Rattle.session_seconds.specs.Seconds.{secondsCause}
 use Rattle.record.specs.Record.{State, early, confirmed, terminated, Record, Numbers, WellFormed, image}
 use Rattle.headers.specs.SessionExpires.{Interval, expiresNamed}
 use Rattle.record.specs.Changes.{withNumbers}

@@ -18,7 +18,7 @@ use Rattle.limits.specs.declared.Refusal.the-variants.{BadStore, NotFound, TooM
 use Rattle.text.specs.Text.{equal}
 use Rattle.dialog_id.specs.DialogId.{Identifier, identifierOf, fromName, toName}
 use Rattle.text.proofs.Sames.{both, equal-same, equal-is}
-use Rattle.record.specs.Codec.{writeAll}
+use Rattle.codec.specs.Codec.{writeAll}
 use Rattle.record.specs.Record.{State, early, confirmed, terminated, Record, image}
 use Rattle.dialog_rules.specs.OneImage.{oneRecord}
 use Rattle.dialog_rules.specs.Matching.{namedBy}

@@ -12,7 +12,7 @@ use borrow.Author.Tests.{le-ltb}
 use Rattle.limits.specs.Limits.{LimitSet}
 use Rattle.limits.specs.Outcome.{Outcome, refused, given, refuseIf, andThen}
 use Rattle.limits.specs.declared.Refusal.the-variants.{NotFound, NoRoom}
-use Rattle.record.specs.Codec.{writeAll}
+use Rattle.codec.specs.Codec.{writeAll}
 use Rattle.record.specs.Record.{State, Record, mapOf, image}
 use Rattle.record.specs.Changes.{withNumbers}
 use Rattle.record.specs.Rules.{withState}

@@ -17,10 +17,10 @@ use Rattle.limits.specs.declared.Refusal.the-variants.{BadStore, SessionExpires
 use Rattle.text.specs.Text.{Piece, equal}
 use Rattle.msg.specs.Block.{valueNamed}
 use Rattle.text.proofs.Sames.{equal-same, equal-is}
-use Rattle.record.specs.Codec.{Reading, text, writeAll}
+use Rattle.codec.specs.Codec.{Reading, text, writeAll}
 use Rattle.record.specs.Record.{State, early, confirmed, terminated, Record, WellFormed, image}
 use Rattle.record.specs.Rules.{Kind, ack, other}
-use Rattle.record.proofs.CodecLaws.{Bytes}
+use Rattle.codec.proofs.CodecLaws.{Bytes}
 use Rattle.record.proofs.WellFormedLaws.{image-round, image-back}
 use Rattle.dialog_rules.specs.OneImage.{alone, onlyOne, oneRecord}
 use Rattle.dialog_rules.specs.Updates.{ackName, kindOf}

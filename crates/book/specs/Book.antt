@@ -17,14 +17,13 @@ use Rattle.text.specs.Answers.{lengthCause}
 use Rattle.msg.specs.Block.{blockCause}
 use Rattle.dialog_id.specs.DialogId.{Identifier, identifierOf, fromName, toName}
 use Rattle.output.specs.Output.{fitted}
-use Rattle.record.specs.Codec.{text}
+use Rattle.codec.specs.Codec.{text}
 use Rattle.record.specs.Record.{State, early, confirmed, terminated, Record, image}
 use Rattle.record.specs.Store.{encodeAll, decodeAll}
 use Rattle.dialog_rules.specs.OneImage.{oneRecord}
 use Rattle.dialog_rules.specs.Updates.{kindOf, requestUpdate, responseUpdate, terminateUpdate, localUpdate, intervalUpdate}
 use Rattle.dialog_id.specs.Ident.{Ident, ident, sameIdent, identCause}
-use Rattle.book.specs.Calls.{Update, request, response, terminate, localNumber, interval, Reading, get, findByRequest, findByCallId, count, allIds}
-use Rattle.book.specs.Calls.{Call, put, update, remove, sweep, read, lent, Value, noValue, number, imageAt, written, Answer}
+use Rattle.book.specs.Calls.{Update, request, response, terminate, localNumber, interval, Reading, get, findByRequest, findByCallId, count, allIds, Call, put, update, remove, sweep, read, lent, Value, noValue, number, imageAt, written, Answer}
 
 -- the records held, in order
 abbrev pub Book : Type 0

@@ -15,7 +15,7 @@ use Rattle.limits.specs.Limits.{LimitSet}
 use Rattle.text.specs.Text.{Piece, equal}
 use Rattle.msg.specs.Block.{isBlock, valueNamed}
 use Rattle.edit.specs.Edit.{over}
-use Rattle.record.specs.Codec.{text}
+use Rattle.codec.specs.Codec.{text}
 use Rattle.record.specs.Record.{early, confirmed, terminated, Record, WellFormed, image}
 use Rattle.record.specs.Changes.{withNumbers}
 use Rattle.record.specs.Rules.{withAck, withState, withSeconds}

@@ -6,7 +6,7 @@ use Rattle.limits.specs.Limits.{LimitSet}
 use Rattle.limits.specs.Outcome.{refused, given, numberIn}
 use Rattle.output.specs.declared.Written.{Written}
 use Rattle.output.specs.declared.Written.the-variants as written
-use Rattle.record.proofs.CodecLaws.{Bytes}
+use Rattle.codec.proofs.CodecLaws.{Bytes}
 use Rattle.book.specs.Calls.{Call, read, Reading, Answer}
 use Rattle.book.specs.Store.{Left, run}
 use Rattle.book.specs.Returned.{Returns, countAfter}

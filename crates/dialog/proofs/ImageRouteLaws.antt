@@ -13,9 +13,9 @@ use Rattle.text.specs.Text.{Piece}
 use Rattle.text.specs.Answers.{lookupOf}
 use Rattle.text.specs.declared.Lookup.{Lookup}
 use Rattle.text.specs.declared.Lookup.the-variants as lookup
-use Rattle.record.specs.Codec.{Reading, two, writeAll}
+use Rattle.codec.specs.Codec.{Reading, two, writeAll}
 use Rattle.record.specs.Record.{Record, Numbers, isFilled, uriText, routesField, image}
-use Rattle.record.proofs.CodecLaws.{Bytes, bytes-all}
+use Rattle.codec.proofs.CodecLaws.{Bytes, bytes-all}
 use Rattle.record.proofs.WellFormedLaws.{image-back}
 use Rattle.image.specs.Places.{idsOf, urisOf, recordPlaces}
 use Rattle.image.specs.declared.RecordAt.{RecordAt}

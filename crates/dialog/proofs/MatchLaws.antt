@@ -17,13 +17,14 @@ use Rattle.text.specs.Text.{equal}
 use Rattle.msg.specs.Block.{blockCause}
 use Rattle.dialog_id.specs.DialogId.{identifierOf, fromName, toName}
 use Rattle.dialog_id.specs.declared.DialogId.{DialogId}
-use Rattle.record.specs.Codec.{Reading}
+use Rattle.codec.specs.Codec.{Reading}
 use Rattle.record.specs.Record.{Record, image}
-use Rattle.record.proofs.CodecLaws.{Bytes}
+use Rattle.codec.proofs.CodecLaws.{Bytes}
 use Rattle.image.specs.Places.{recordPlaces, idsOf, idsPlaces}
 use Rattle.image.specs.declared.RecordAt.{RecordAt}
 use Rattle.image_writer.proofs.LieLaws.{Lie, record-lies}
-use Rattle.image.proofs.SizeLaws.{Got, got, recordSize, record-sized}
+use Rattle.codec.proofs.SizeLaws.{Got, got}
+use Rattle.image.proofs.SizeLaws.{recordSize, record-sized}
 use Rattle.dialog_rules.specs.OneImage.{alone, onlyOne, oneRecord}
 use Rattle.dialog.specs.Readings.{imageAnswer}
 use Rattle.text.specs.Spans.{partIn}

@@ -10,7 +10,7 @@ use Rattle.limits.specs.Outcome.{Outcome, refused, given, andThen, orRefuse}
 use Rattle.limits.specs.declared.Refusal.{Refusal}
 use Rattle.limits.specs.declared.Refusal.the-variants.{BadStore}
 use Rattle.session_timer_manager.specs.Intervals.{refreshDue}
-use Rattle.record.specs.Codec.{Reading}
+use Rattle.codec.specs.Codec.{Reading}
 use Rattle.record.specs.Record.{Record, Numbers, image}
 use Rattle.record.specs.NumbersForm.{numberIn}
 use Rattle.record.proofs.NumberLaws.{number-same}

@@ -13,10 +13,10 @@ use Rattle.limits.specs.Outcome.{Outcome, refused, given, causeIf, refuseBy, re
 use Rattle.limits.specs.declared.Refusal.{Refusal}
 use Rattle.limits.specs.declared.Refusal.the-variants.{TextTooLong, BadStore, NotFound}
 use Rattle.text.specs.Answers.{tooLong}
-use Rattle.record.specs.Codec as codec
+use Rattle.codec.specs.Codec as codec
 use Rattle.record.specs.Record.{Record, image}
 use Rattle.record.specs.Store.{decodeAll}
-use Rattle.record.proofs.CodecLaws.{Bytes}
+use Rattle.codec.proofs.CodecLaws.{Bytes}
 use Rattle.image.specs.declared.RecordAt.{RecordAt}
 use Rattle.image.proofs.AnswerLaws.{record-got}
 use Rattle.store.specs.Counting.{recordsHeld, countAnswer}
@@ -31,7 +31,7 @@ use Rattle.book.specs.Calls.{Reading, findByCallId, findByRequest, read, Value,
 use Rattle.book.specs.Book.{Book, Contents, contentsOf, storeRead, isOf, find, namedIn, firstPlace, placeOf, reply, readingCause}
 use Rattle.book.specs.Store.{Left, run}
 use Rattle.book.proofs.ReadingLaws.{reading-run}
-use Rattle.dialog_manager.specs.Search.{named, Spot, first, foundOf, foundIn, Stored, Stands}
+use Rattle.dialog_manager.specs.Search.{named, ofCallId, Spot, first, foundOf, foundIn, Stored, Stands}
 use Rattle.dialog_manager.specs.Lookups.{getting, placeIn}
 use Rattle.dialog_manager.specs.declared.finding.Found.the-variants as found
 use Rattle.dialog_manager.specs.declared.placing.Place.the-variants as place
@@ -177,17 +177,17 @@ unfolding readingCause
 call-cause L c t e = ap (λ (x : Bool). causeIf x TextTooLong) e
 
 module _ (bytes : List ℕ) (used : ℕ) (k : Kept bytes used) where
-  pub get-reply : (c l r : List ℕ) → placeIn (named true c l r) (decodeAll (take used bytes)) ≡ reply (getting c l r) (k .contents .records)
+  pub get-reply : (c l r : List ℕ) → placeIn (named c l r) (decodeAll (take used bytes)) ≡ reply (getting c l r) (k .contents .records)
   unfolding reply
-  get-reply c l r = ap (placeIn (named true c l r)) (k .are)
+  get-reply c l r = ap (placeIn (named c l r)) (k .are)
 
-  pub call-reply : (c l r : List ℕ) → placeIn (named false c l r) (decodeAll (take used bytes)) ≡ reply (findByCallId c) (k .contents .records)
+  pub call-reply : (c : List ℕ) → placeIn (ofCallId c) (decodeAll (take used bytes)) ≡ reply (findByCallId c) (k .contents .records)
   unfolding reply
-  call-reply c l r = ap (placeIn (named false c l r)) (k .are)
+  call-reply c = ap (placeIn (ofCallId c)) (k .are)
 
   -- the identifier that a request names, its tags swapped
   pub named-reply : (block : List ℕ) (i : DialogId) → Asked block i
-      → placeIn (named true (partIn block (i .«call_id»)) (partIn block (i .«remote_tag»)) (partIn block (i .«local_tag»))) (decodeAll (take used bytes)) ≡ reply (findByRequest block) (k .contents .records)
+      → placeIn (named (partIn block (i .«call_id»)) (partIn block (i .«remote_tag»)) (partIn block (i .«local_tag»))) (decodeAll (take used bytes)) ≡ reply (findByRequest block) (k .contents .records)
   unfolding reply namedIn
   named-reply block i a = rw (k .are, a .reads, a .spans, a .placed .callId .there, a .placed .localTag .there, a .placed .remoteTag .there)
 

@@ -11,8 +11,8 @@ use Rattle.limits.specs.Outcome.{Outcome, refused, given, andThen}
 use Rattle.text.specs.Text.{Piece}
 use Rattle.headers.specs.SessionExpires.{Interval, expiresNamed}
 use Rattle.route_set.specs.Routes.{contactOf, routesOf}
-use Rattle.session_timer_manager.specs.Intervals.{secondsCause}
-use Rattle.session_timer_manager.proofs.Laws.{seconds-within}
+use Rattle.session_seconds.specs.Seconds.{secondsCause}
+use Rattle.session_seconds.proofs.Laws.{seconds-within}
 use Rattle.record.specs.Record.{Numbers, Record, UriPart, OptionalPart, EachUri, WellFormed}
 use Rattle.record.specs.Rules.{Kind, withSeconds, intervalStep, confirmStep, terminateStep, localStep}
 use Rattle.dialog_rules.specs.Updates.{textOr, retargeted, isSuccess, confirms, routesOr, rerouted, intervalFrom, answered, responseUpdate, confirmUpdate, terminateUpdate, localUpdate, intervalUpdate}

@@ -12,7 +12,7 @@ use Rattle.msg.specs.Block.{nameLength, valueLength, lineAt, HeaderLine, named,
 use Rattle.msg.specs.declared.Line.{Line}
 use Rattle.msg.specs.declared.Line.the-variants.{Of, Malformed}
 use Rattle.output.proofs.ClassLaws.{both-left, both-right}
-use Rattle.record.proofs.CodecLaws.{GoodAll}
+use Rattle.codec.proofs.CodecLaws.{GoodAll}
 
 -- at most k bytes, each of them allowed in values
 abbrev pub Bounded : ℕ → List ℕ → Type 0

@@ -20,7 +20,7 @@ use Rattle.uri.specs.HeaderUri.{ReadUri, headerUri}
 use Rattle.route_set.specs.Parts.{isCut, quoteAfter, depthAfter, segments, elements, headerValues}
 use Rattle.route_set.specs.Routes.{recordRouteName, elementsOf, elementsIn, routeElements, routeBefore, withElement, routesFrom, routesOf}
 use Rattle.record.specs.Record.{EachUri}
-use Rattle.record.proofs.CodecLaws.{GoodAll}
+use Rattle.codec.proofs.CodecLaws.{GoodAll}
 use Rattle.dialog_rules.proofs.StepLaws.{given-same, never-given, past-test}
 use Rattle.dialog_rules.proofs.RefusalLaws.{passed-test}
 use Rattle.dialog_rules.proofs.PieceLaws.{BoundedLine, values-bounded}

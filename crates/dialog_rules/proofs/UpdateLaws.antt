@@ -11,7 +11,7 @@ use Rattle.limits.specs.Outcome.{Outcome, refused, given, andThen, orRefuse}
 use Rattle.limits.specs.declared.Refusal.the-variants.{MissingHeader}
 use Rattle.headers.specs.SessionExpires.{Interval, expiresNamed}
 use Rattle.prack_headers.specs.Sequence.{cseqNumber}
-use Rattle.session_timer_manager.specs.Intervals.{secondsCause}
+use Rattle.session_seconds.specs.Seconds.{secondsCause}
 use Rattle.record.specs.Record.{State, early, confirmed, terminated, Numbers, Record}
 use Rattle.record.specs.Rules.{Kind, requestStep, withSeconds, intervalStep, confirmStep}
 use Rattle.dialog_rules.specs.Updates.{retargeted, requestUpdate, isSuccess, confirms, rerouted, intervalFrom, confirmedBy, answered, responseUpdate, confirmUpdate, terminateUpdate, localUpdate, intervalUpdate}

@@ -21,7 +21,7 @@ use Rattle.dialog_id.specs.DialogId.{Identifier, identifierOf, fromName, toName
 use Rattle.headers.specs.SessionExpires.{Interval, expiresNamed}
 use Rattle.route_set.specs.Routes.{contactOf, routesOf, inOrder}
 use Rattle.prack_headers.specs.Sequence.{cseqNumber}
-use Rattle.session_timer_manager.specs.Intervals.{secondsCause}
+use Rattle.session_seconds.specs.Seconds.{secondsCause}
 use Rattle.record.specs.Record.{State, early, confirmed, Side, uac, uas, Numbers, Record, isRead}
 use Rattle.dialog_rules.specs.Updates.{textOr, intervalFrom}
 

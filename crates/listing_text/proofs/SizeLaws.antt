@@ -16,10 +16,10 @@ use Rattle.uri.specs.SipUri.{sip, sips, hostText, isHostText, withHost, withUse
 use Rattle.uri.proofs.Parts.{starts-fits}
 use Rattle.output.specs.Decimal.{decimalOf}
 use Rattle.output.proofs.DecimalLaws.{few-digits, ten-digits}
-use Rattle.record.specs.Codec.{writeAll}
+use Rattle.codec.specs.Codec.{writeAll}
 use Rattle.record.specs.Record.{State, early, confirmed, terminated, Record, isRead, isReadable, bitOf, image, OptionalPart, WellFormed}
 use Rattle.record.specs.Store.{encodeAll, decodeAll}
-use Rattle.record.proofs.CodecLaws.{Bytes}
+use Rattle.codec.proofs.CodecLaws.{Bytes}
 use Rattle.record.proofs.WellFormedLaws.{image-round}
 use Rattle.record.proofs.StoreLaws.{EachFormed, decoded}
 use Rattle.image.specs.Places.{numberSize, optionSize}

@@ -16,10 +16,10 @@ use Rattle.limits.specs.declared.Refusal.the-variants.{BadStore, NotFound}
 use Rattle.output.specs.declared.Written.the-variants as written
 use Rattle.edit.specs.Edit.{over, spliced}
 use Rattle.text.proofs.Sames.{both}
-use Rattle.record.specs.Codec.{writeAll}
+use Rattle.codec.specs.Codec.{writeAll}
 use Rattle.record.specs.Record.{Record, image}
 use Rattle.record.specs.Store.{sameId, lacks, distinct, decodeAll}
-use Rattle.record.proofs.CodecLaws.{Bytes, bytes-take}
+use Rattle.codec.proofs.CodecLaws.{Bytes, bytes-take}
 use Rattle.record.proofs.StoreLaws.{EachFormed, decoded}
 use Rattle.store.specs.Counting.{recordsHeld, countAnswer}
 use Rattle.store.specs.declared.Held.{Held}

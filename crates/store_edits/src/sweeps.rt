@@ -1,7 +1,7 @@
 // All Terminated records taken out of a store.
-use distinct::record_end;
 use limits::Refusal;
 use output::Written;
+use record_walk::record_end;
 use store::Held;
 use store::ids_at;
 ghost use mathlib.Core.Path.{_≡_};
@@ -9,7 +9,7 @@ ghost use Prim.Native.Nat.{_≤_};
 ghost use lib.ListN.{length, take};
 ghost use Rattle.limits.specs.Limits.{rustLimits};
 ghost use Rattle.edit.specs.Edit.{over};
-ghost use Rattle.distinct.specs.Keys.{At};
+ghost use Rattle.record_walk.specs.Walk.{At};
 ghost use Rattle.record.specs.Store.{decodeAll};
 ghost use Rattle.book.specs.Store.{run};
 ghost use Rattle.dialog_manager.specs.Answers.{writtenIn};

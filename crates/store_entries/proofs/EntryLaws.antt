@@ -17,9 +17,9 @@ use Rattle.edit.specs.Edit.{over, spliced}
 use Rattle.output.specs.Output.{fitted, leaves, writtenFrom}
 use Rattle.output.specs.declared.Written.{Written}
 use Rattle.output.specs.declared.Written.the-variants as written
-use Rattle.record.specs.Codec.{writeAll}
+use Rattle.codec.specs.Codec.{writeAll}
 use Rattle.record.specs.Record.{Record, image}
-use Rattle.record.proofs.CodecLaws.{Bytes, bytes-take}
+use Rattle.codec.proofs.CodecLaws.{Bytes, bytes-take}
 use Rattle.record.proofs.StoreLaws.{decoded}
 use Rattle.image.specs.Places.{recordPlaces}
 use Rattle.image.specs.declared.RecordAt.{RecordAt}

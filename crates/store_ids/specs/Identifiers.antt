@@ -4,7 +4,7 @@
 use Prim.Native.Nat.{ℕ, _+_, _<_}
 use mathlib.Core.List.{List, [], _++_}
 use mathlib.Core.Option.{Option, none, some}
-use Rattle.record.specs.Codec.{text}
+use Rattle.codec.specs.Codec.{text}
 use Rattle.image.specs.declared.sections.IdsAt.{IdsAt}
 use Rattle.text.specs.Spans.{partIn}
 use Rattle.book.specs.Book.{Book, identifiersOf}

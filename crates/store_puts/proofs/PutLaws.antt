@@ -23,7 +23,7 @@ use Rattle.edit.specs.Edit.{over, spliced}
 use Rattle.record.specs.Record.{State, Record, image}
 use Rattle.record.specs.NumbersForm.{stateIn}
 use Rattle.record.specs.declared.numbers.State.{State as CodeState}
-use Rattle.record.proofs.CodecLaws.{Bytes, bytes-all, bytes-take}
+use Rattle.codec.proofs.CodecLaws.{Bytes, bytes-all, bytes-take}
 use Rattle.record.proofs.NumberLaws.{state-same}
 use Rattle.image.specs.Places.{idsOf}
 use Rattle.image.specs.declared.RecordAt.{RecordAt}
@@ -302,7 +302,7 @@ module _ (L : LimitSet) (n : ℕ) (img s : List ℕ) (used : ℕ) (state : CodeS
   crowded e = too-many-early L n img s used read-so (a .value) (a .one) (o .free) (sym crowded-is ∙ e)
 
   abbrev test : Record → Bool
-  test = named true c l r
+  test = named c l r
 
   module _ (hb : Bytes s) (e : crowdedIn L (stateIn state) (ident c l r) (decodeAll (take used s)) ≡ false) where
     -- the place is asked of the record's own identifier

@@ -18,7 +18,7 @@ use Rattle.dialog_id.specs.declared.DialogId.{DialogId}
 use Rattle.output.specs.Output.{leaves, writtenFrom}
 use Rattle.output.specs.declared.Written.{Written}
 use Rattle.output.specs.declared.Written.the-variants as written
-use Rattle.record.proofs.CodecLaws.{Bytes}
+use Rattle.codec.proofs.CodecLaws.{Bytes}
 use Rattle.image.specs.declared.RecordAt.{RecordAt}
 use Rattle.text.specs.Spans.{partIn}
 use Rattle.dialog_rules.specs.Updates.{kindOf, requestUpdate}

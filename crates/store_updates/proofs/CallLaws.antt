@@ -17,7 +17,7 @@ use Rattle.output.specs.declared.Written.the-variants as written
 use Rattle.record.specs.NumbersForm.{meaning}
 use Rattle.record.specs.Record.{Numbers}
 use Rattle.record.specs.Rules.{localStep}
-use Rattle.record.proofs.CodecLaws.{Bytes}
+use Rattle.codec.proofs.CodecLaws.{Bytes}
 use Rattle.record.proofs.NumberLaws.{meaning-same}
 use Rattle.image.specs.declared.RecordAt.{RecordAt}
 use Rattle.dialog_rules.specs.Updates.{localUpdate}

@@ -6,7 +6,7 @@ use lib.ListN.{length, take}
 use lib.Seq.{length-take-le}
 use Rattle.limits.specs.Limits.{rustLimits}
 use Rattle.output.specs.declared.Written.the-variants as written
-use Rattle.record.proofs.CodecLaws.{Bytes, bytes-all}
+use Rattle.codec.proofs.CodecLaws.{Bytes, bytes-all}
 use Rattle.book.specs.Calls.{Answer}
 use Rattle.record.specs.Store.{decodeAll}
 use Rattle.book.specs.Store.{outputAfter}

@@ -8,7 +8,7 @@ use Rattle.limits.specs.declared.Check.the-variants as check
 use Rattle.limits.proofs.Laws.{passed}
 use Rattle.text.specs.Answers.{tooLong}
 use Rattle.msg.specs.Block.{blockCause}
-use Rattle.record.proofs.CodecLaws.{bytes-all}
+use Rattle.codec.proofs.CodecLaws.{bytes-all}
 use Rattle.dialog_updates.proofs.BlockLaws.{short-block}
 use Rattle.store_entries.specs.Entries.{Ready}
 use Rattle.store_requests.proofs.RequestLaws.{request-long, request-bad, request-turned, request-done}
