@@ -21,9 +21,6 @@ put-requires c κs = search needs
 add-write-two : tie.Need-add-write-two
 add-write-two c = search needs
 
-cast-write-two : tie.Need-cast-write-two
-cast-write-two c = search needs
-
 write-two-requires : tie.Need-write-two-requires
 write-two-requires c κs = search needs
 
@@ -54,7 +51,6 @@ write-entry-spec =
     slice-aggregate-put
     put-requires
     add-write-two
-    cast-write-two
     write-two-requires
     slice-aggregate-put-2
     put-requires-2
