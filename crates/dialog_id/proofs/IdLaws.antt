@@ -18,7 +18,7 @@ use Rattle.msg.specs.Block.{firstNamed, linesOf, foundOf, blockCause}
 use Rattle.msg.specs.Table.{valueAt, endOf}
 use Rattle.msg.specs.declared.Found.{Found}
 use Rattle.msg.specs.declared.Found.the-variants as found
-use Rattle.msg.proofs.TableLaws.{value-at, end-of}
+use Rattle.msg.proofs.TableLaws.{value-at}
 use Rattle.headers.specs.Tag.{tagOf, partOf}
 use Rattle.headers.specs.declared.tag.Part.the-variants.{At, Nothing}
 use Rattle.dialog_id.specs.declared.DialogId.{DialogId}
@@ -74,9 +74,6 @@ pub id-found : (a b block : List ℕ) (c l r : Found) → c ≡ foundOf (firstNa
     → idFrom (identifier (valueAt c block) (tagIn (valueAt l block)) (tagIn (valueAt r block))) ≡ idFrom (identifierOf a b block)
 unfolding identifierOf tagNamed
 id-found a b block c l r p q s = rw (p, q, s, value-at callIdName block, value-at a block, value-at b block)
-
-pub found-end : (name block : List ℕ) (f : Found) → f ≡ foundOf (firstNamed name (linesOf block)) → endOf f ≤ length block
-found-end name block f e = rw e (end-of name block)
 
 pub no-local : (c : Option Piece) (r : Option Piece) → identifier c none r ≡ none
 no-local none r = refl

@@ -10,17 +10,21 @@ use mathlib.Core.Option.{Option, none, some}
 use lib.ListN.{length, take, drop}
 use lib.Dec.{eqb, eqb·zero-suc, eqb·suc-zero, eqb·suc-suc}
 use borrow.Author.Tests.{eq-eqb, ne-eqb, eqb-true}
+use Rattle.limits.specs.Outcome.{checkOf}
+use Rattle.limits.specs.declared.Refusal.{Refusal}
+use Rattle.limits.specs.declared.Check.the-variants as check
 use Rattle.text.specs.Text.{alike, lower, same, trimmedSpan}
 use Rattle.text.specs.Answers.{spanOf}
 use Rattle.text.specs.declared.Span.{Span}
 use Rattle.text.proofs.Alike.{alike-length}
 use Rattle.text.proofs.Runs.{drop-part}
 use Rattle.msg.specs.Block.{HeaderLine, named, firstNamed, foundOf, lineAt, lineOf, linesOf, valueOf, textOf, valueNamed}
-use Rattle.msg.specs.Table.{names, nameIn, nameAt, slotIn, slotOf, tabled, tableOf, lookedUp, orFound, kept, noted, hereOf, textAt, valueAt, endOf}
+use Rattle.msg.specs.Table.{names, nameIn, nameAt, slotIn, slotOf, tabled, tableOf, headersOf, lookedUp, orFound, kept, noted, hereOf, textAt, valueAt, endOf}
 use Rattle.msg.specs.declared.Found.{Found}
 use Rattle.msg.specs.declared.Found.the-variants.{At, Nothing}
 use Rattle.msg.specs.declared.Line.the-variants.{Of}
 use Rattle.msg.specs.declared.table.HeaderTable.{HeaderTable}
+use Rattle.msg.specs.declared.table.Headers.the-variants as headers
 use Rattle.msg.proofs.LookupLaws.{linesLeft, left-line, Says, found-at}
 
 -- ---- a line has at most one of the names
@@ -130,17 +134,6 @@ looked-up f (suc (suc (suc (suc (suc (suc zero)))))) l = refl
 looked-up f (suc (suc (suc (suc (suc (suc (suc zero))))))) l = refl
 looked-up f (suc (suc (suc (suc (suc (suc (suc (suc k)))))))) l = absurd (omega arith)
 
--- the last place of eight
-pub last-slot : (k : ℕ) → k < 8 → (k ≡ 0 → ⊥) → (k ≡ 1 → ⊥) → (k ≡ 2 → ⊥) → (k ≡ 3 → ⊥) → (k ≡ 4 → ⊥) → (k ≡ 5 → ⊥) → (k ≡ 6 → ⊥) → k ≡ 7
-last-slot zero l h0 h1 h2 h3 h4 h5 h6 = absurd (h0 refl)
-last-slot (suc zero) l h0 h1 h2 h3 h4 h5 h6 = absurd (h1 refl)
-last-slot (suc (suc zero)) l h0 h1 h2 h3 h4 h5 h6 = absurd (h2 refl)
-last-slot (suc (suc (suc zero))) l h0 h1 h2 h3 h4 h5 h6 = absurd (h3 refl)
-last-slot (suc (suc (suc (suc zero)))) l h0 h1 h2 h3 h4 h5 h6 = absurd (h4 refl)
-last-slot (suc (suc (suc (suc (suc zero))))) l h0 h1 h2 h3 h4 h5 h6 = absurd (h5 refl)
-last-slot (suc (suc (suc (suc (suc (suc zero)))))) l h0 h1 h2 h3 h4 h5 h6 = absurd (h6 refl)
-last-slot (suc (suc (suc (suc (suc (suc (suc k))))))) l h0 h1 h2 h3 h4 h5 h6 = omega arith
-
 -- what a table comes to after the lines that are left
 abbrev pub tableAfter : HeaderTable → List HeaderLine → HeaderTable
 tableAfter t ls = tabled (λ k. orFound (lookedUp t k) (foundOf (firstNamed (nameAt k) ls)))
@@ -224,9 +217,23 @@ module _ (name block : List ℕ) where
       by (some l) e = looked l e .0
 
 -- the same of a line that is at hand
+pub found-end : (name block : List ℕ) (f : Found) → f ≡ foundOf (firstNamed name (linesOf block)) → endOf f ≤ length block
+found-end name block f e = rw e (end-of name block)
+
 module _ (f : Found) (v : Span) (next : ℕ) (e : f ≡ At v next) where
   pub at-fits : (n : ℕ) → endOf f ≤ n → v .start + v .length ≤ n
   at-fits n h = subst (λ (x : Found). endOf x ≤ n) e h
 
   pub at-text : (s : List ℕ) → take (v .start + v .length - v .start) (drop (v .start) s) ≡ textAt f s
   at-text s = rw (e, add-sub-cancel-left)
+
+-- ---- what a reading answers
+
+-- a block with a table, and one without
+pub headers-read : (o : Option Refusal) (u t : HeaderTable) → headersOf o u ≡ headers.Of t → (o ≡ none) × (t ≡ u)
+headers-read none u t e = (refl, (cc))
+headers-read (some x) u t e = absurd (let z : _≡_ {A = ℕ} 0 1 = cc in omega arith)
+
+pub headers-bad : (o : Option Refusal) (u : HeaderTable) (x : Refusal) → headersOf o u ≡ headers.Refused x → checkOf o ≡ check.Refused x
+headers-bad none u x e = absurd (let z : _≡_ {A = ℕ} 0 1 = cc in omega arith)
+headers-bad (some y) u x e = let q : y ≡ x = cc in ap check.Refused q

@@ -1,4 +1,5 @@
--- One reading of a block: the first line of each name that a request, a response or a creation looks up.
+-- One reading of a block of document 01, "Block": the first line of each name that a request, a response or a creation looks up
+-- ("Identifier", "CSeq", "Contact", "Routes" and "Intervals, PRACK, RSeq" say of which). Each is the look-up of Block.antt.
 use Prim.Native.Nat.{ℕ, zero, suc, _+_}
 use mathlib.Core.Bool.{Bool, true, false, cond}
 use mathlib.Core.List.{List, [], _∷_}

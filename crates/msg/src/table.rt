@@ -9,10 +9,11 @@ ghost use mathlib.Core.Path.{_≡_};
 ghost use mathlib.Core.List.{[]};
 ghost use Prim.Native.Nat.{_+_, _≤_, _<_};
 ghost use lib.ListN.{length};
+ghost use lib.Dec.{eqb};
 ghost use Rattle.limits.specs.Limits.{rustLimits};
 ghost use mathlib.Core.Bool.{cond};
 ghost use Rattle.msg.specs.Block.{linesOf, blockCause, named};
-ghost use Rattle.msg.specs.Table.{slotOf, orFound, noted, tableOf, headersOf, hereOf, textAt, endOf};
+ghost use Rattle.msg.specs.Table.{slotOf, kept, noted, tableOf, headersOf, hereOf, textAt, endOf};
 
 // The first line of each name.
 pub struct HeaderTable {
@@ -100,7 +101,6 @@ fn line_found(rest: &[u8], at: usize, n: usize, m: usize) -> Found
 
 // The table with a line of the k-th name: the first line of a name stays.
 fn note(t: HeaderTable, k: usize, here: Found) -> HeaderTable
-    requires { ⌜ k < 8 ⌝ }
     ensures { λ r. ⌜ r ≡ noted k here t ⌝ }
 {
     let call_id = t.call_id;
@@ -111,110 +111,29 @@ fn note(t: HeaderTable, k: usize, here: Found) -> HeaderTable
     let session_expires = t.session_expires;
     let rseq = t.rseq;
     let record_route = t.record_route;
-    if k == 0 {
-        return HeaderTable {
-            call_id: first(call_id, here),
-            from,
-            to,
-            cseq,
-            contact,
-            session_expires,
-            rseq,
-            record_route,
-        };
-    }
-    if k == 1 {
-        return HeaderTable {
-            call_id,
-            from: first(from, here),
-            to,
-            cseq,
-            contact,
-            session_expires,
-            rseq,
-            record_route,
-        };
-    }
-    if k == 2 {
-        return HeaderTable {
-            call_id,
-            from,
-            to: first(to, here),
-            cseq,
-            contact,
-            session_expires,
-            rseq,
-            record_route,
-        };
-    }
-    if k == 3 {
-        return HeaderTable {
-            call_id,
-            from,
-            to,
-            cseq: first(cseq, here),
-            contact,
-            session_expires,
-            rseq,
-            record_route,
-        };
-    }
-    if k == 4 {
-        return HeaderTable {
-            call_id,
-            from,
-            to,
-            cseq,
-            contact: first(contact, here),
-            session_expires,
-            rseq,
-            record_route,
-        };
-    }
-    if k == 5 {
-        return HeaderTable {
-            call_id,
-            from,
-            to,
-            cseq,
-            contact,
-            session_expires: first(session_expires, here),
-            rseq,
-            record_route,
-        };
-    }
-    if k == 6 {
-        return HeaderTable {
-            call_id,
-            from,
-            to,
-            cseq,
-            contact,
-            session_expires,
-            rseq: first(rseq, here),
-            record_route,
-        };
-    }
     HeaderTable {
-        call_id,
-        from,
-        to,
-        cseq,
-        contact,
-        session_expires,
-        rseq,
-        record_route: first(record_route, here),
+        call_id: keep(k, 0, call_id, here),
+        from: keep(k, 1, from, here),
+        to: keep(k, 2, to, here),
+        cseq: keep(k, 3, cseq, here),
+        contact: keep(k, 4, contact, here),
+        session_expires: keep(k, 5, session_expires, here),
+        rseq: keep(k, 6, rseq, here),
+        record_route: keep(k, 7, record_route, here),
     }
 }
 
-// What was found before, or else this.
-fn first(have: Found, here: Found) -> Found
-    ensures { λ r. ⌜ r ≡ orFound have here ⌝ }
+// The look-up of the j-th name with a line of the k-th: another name's, or a line that was found before, stays.
+fn keep(k: usize, j: usize, have: Found, here: Found) -> Found
+    ensures { λ r. ⌜ r ≡ kept (eqb k j) have here ⌝ }
 {
-    if let Found::Nothing = have {
-        return here;
+    if k != j {
+        return have;
     }
-    have
+    if let Found::At(v, next) = have {
+        return Found::At(v, next);
+    }
+    here
 }
 
 // The place of a name in the table, 8 where it has none.

@@ -1,7 +1,6 @@
 -- The ways out of the request entry, and the identifier that a request names. Assumes nothing.
 use Prim.Native.Nat.{ℕ}
-use native.Mathlib.Omega.{arith}
-use mathlib.Core.Path.{_≡_, refl, ap}
+use mathlib.Core.Path.{_≡_, refl}
 use mathlib.Core.Bool.{true, false}
 use mathlib.Core.List.{List}
 use mathlib.Core.Option.{Option, none, some}
@@ -14,9 +13,6 @@ use Rattle.limits.specs.declared.Refusal.the-variants.{TextTooLong}
 use Rattle.limits.proofs.Laws.{stopped}
 use Rattle.text.specs.Answers.{tooLong}
 use Rattle.msg.specs.Block.{blockCause}
-use Rattle.msg.specs.Table.{headersOf}
-use Rattle.msg.specs.declared.table.HeaderTable.{HeaderTable}
-use Rattle.msg.specs.declared.table.Headers.the-variants as headers
 use Rattle.dialog_id.specs.DialogId.{identifierOf, fromName, toName}
 use Rattle.dialog_id.specs.declared.DialogId.{DialogId}
 use Rattle.output.specs.Output.{leaves, writtenFrom}
@@ -34,16 +30,6 @@ use Rattle.book.specs.Book.{namedIn, updateCause, revised}
 use Rattle.store_entries.specs.Entries.{spotNamed, standingOf}
 use Rattle.store_entries.specs.declared.Standing.the-variants as standing
 use Rattle.store_entries.proofs.EntryLaws.{permitted, Done, arguments-done, turned, step-done, unnamed, never-at, not-named}
-
--- ---- the reading of the block
-
-pub headers-read : (o : Option Refusal) (u t : HeaderTable) → headersOf o u ≡ headers.Of t → (o ≡ none) × (t ≡ u)
-headers-read none u t e = (refl, (cc))
-headers-read (some x) u t e = absurd (let z : _≡_ {A = ℕ} 0 1 = cc in omega arith)
-
-pub headers-bad : (o : Option Refusal) (u : HeaderTable) (x : Refusal) → headersOf o u ≡ headers.Refused x → checkOf o ≡ check.Refused x
-headers-bad none u x e = absurd (let z : _≡_ {A = ℕ} 0 1 = cc in omega arith)
-headers-bad (some y) u x e = let q : y ≡ x = cc in ap check.Refused q
 
 -- ---- the identifier that a request names
 

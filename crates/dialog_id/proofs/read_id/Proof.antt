@@ -1,7 +1,8 @@
 -- `dialog_id::read_id` meets its contract: by the three look-ups. Assumes nothing.
 use mathlib.Core.Path.{_∙_}
 use Rattle.dialog_id.specs.DialogId.{callIdName}
-use Rattle.dialog_id.proofs.IdLaws.{id-found, found-end}
+use Rattle.msg.proofs.TableLaws.{found-end}
+use Rattle.dialog_id.proofs.IdLaws.{id-found}
 use borrow.Author.Needs.{needs}
 use Rattle.dialog_id.proofs.read_id.Statement.{statement}
 use Rattle.dialog_id.proofs.read_id.Tie as tie

@@ -1,7 +1,8 @@
 -- `dialog_id::request_id_in` meets its contract: the table's three lines are the look-ups'. Assumes nothing.
 use mathlib.Core.Path.{ap, _∙_}
 use Rattle.dialog_id.specs.DialogId.{callIdName, fromName, toName}
-use Rattle.dialog_id.proofs.IdLaws.{id-found, found-end}
+use Rattle.msg.proofs.TableLaws.{found-end}
+use Rattle.dialog_id.proofs.IdLaws.{id-found}
 use Rattle.msg.specs.declared.table.HeaderTable.{HeaderTable}
 use Rattle.dialog_id.proofs.request_id_in.Statement.{statement}
 use Rattle.dialog_id.proofs.request_id_in.Tie as tie

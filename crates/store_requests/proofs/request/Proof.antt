@@ -9,10 +9,11 @@ use Rattle.text.specs.Answers.{tooLong}
 use Rattle.msg.specs.Block.{blockCause, linesOf}
 use Rattle.msg.specs.Table.{tableOf}
 use Rattle.msg.specs.declared.table.HeaderTable.{HeaderTable}
+use Rattle.msg.proofs.TableLaws.{headers-read, headers-bad}
 use Rattle.record.proofs.CodecLaws.{bytes-all}
 use Rattle.dialog_updates.proofs.BlockLaws.{short-block}
 use Rattle.store_entries.specs.Entries.{Ready}
-use Rattle.store_requests.proofs.RequestLaws.{headers-read, headers-bad, request-long, request-bad, request-turned, request-done}
+use Rattle.store_requests.proofs.RequestLaws.{request-long, request-bad, request-turned, request-done}
 use borrow.Author.Needs.{needs}
 use Rattle.store_requests.proofs.request.Statement.{statement}
 use Rattle.store_requests.proofs.request.Tie as tie
