@@ -4,12 +4,23 @@ use limits::Refusal;
 use text::Span;
 ghost use mathlib.Core.Path.{_≡_};
 ghost use Rattle.limits.specs.Limits.{rustLimits};
-ghost use Rattle.headers.specs.Tag.{isTag, tagOf, extractTag, partOf, partAnswer};
+ghost use Prim.Native.Nat.{_≤_};
+ghost use lib.ListN.{length};
+ghost use Rattle.headers.specs.declared.tag.Mode.the-variants.{Outside as outside, Quoted as quoted, Bracketed as bracketed};
+ghost use Rattle.headers.specs.Tag.{modeAfter, cutsAt, cutLength, isTag, tagOf, extractTag, partOf, partAnswer};
 
 // A part of a value: where it stands, or that there is none.
 pub enum Part {
     At(Span),
     Nothing,
+}
+
+// How a value is read from the left.
+pub enum Mode {
+    Outside,
+    Quoted,
+    Escaped,
+    Bracketed,
 }
 
 // What a reading of a part answers.
@@ -38,7 +49,7 @@ pub fn find_tag(value: &[u8]) -> Part
     let mut at = 0;
     while at <= value.len() {
         let rest = &value[at..];
-        let n = text::find(rest, 59);
+        let n = segment_length(rest);
         let g = &rest[..n];
         let lead = text::leading(g);
         let t = text::trim(g);
@@ -51,6 +62,80 @@ pub fn find_tag(value: &[u8]) -> Part
         at = at + n + 1;
     }
     Part::Nothing
+}
+
+// How long the segment is that stands first.
+fn segment_length(s: &[u8]) -> usize
+    ensures { λ r. ⌜ r ≡ cutLength outside (now (s .entry)) ⌝ }
+    ensures { λ r. ⌜ r ≤ length (now (s .entry)) ⌝ }
+{
+    let mut mode = Mode::Outside;
+    let mut i = 0;
+    while i < s.len() {
+        if is_cut(mode, s[i]) {
+            return i;
+        }
+        mode = after(mode, s[i]);
+        i += 1;
+    }
+    i
+}
+
+// Whether a byte is a semicolon that cuts.
+fn is_cut(mode: Mode, b: u8) -> bool
+    ensures { λ r. ⌜ r ≡ cutsAt mode b ⌝ }
+{
+    match mode {
+        Mode::Outside => b == 59,
+        Mode::Quoted => false,
+        Mode::Escaped => false,
+        Mode::Bracketed => false,
+    }
+}
+
+// How the byte after this one is read.
+fn after(mode: Mode, b: u8) -> Mode
+    ensures { λ r. ⌜ r ≡ modeAfter mode b ⌝ }
+{
+    match mode {
+        Mode::Outside => after_outside(b),
+        Mode::Quoted => after_quoted(b),
+        Mode::Escaped => Mode::Quoted,
+        Mode::Bracketed => after_bracketed(b),
+    }
+}
+
+fn after_outside(b: u8) -> Mode
+    ensures { λ r. ⌜ r ≡ modeAfter outside b ⌝ }
+{
+    if b == 34 {
+        return Mode::Quoted;
+    }
+    if b == 60 {
+        return Mode::Bracketed;
+    }
+    Mode::Outside
+}
+
+fn after_quoted(b: u8) -> Mode
+    ensures { λ r. ⌜ r ≡ modeAfter quoted b ⌝ }
+{
+    if b == 92 {
+        return Mode::Escaped;
+    }
+    if b == 34 {
+        return Mode::Outside;
+    }
+    Mode::Quoted
+}
+
+fn after_bracketed(b: u8) -> Mode
+    ensures { λ r. ⌜ r ≡ modeAfter bracketed b ⌝ }
+{
+    if b == 62 {
+        return Mode::Outside;
+    }
+    Mode::Bracketed
 }
 
 // Whether the first four bytes are `tag=`, letter case ignored.
