@@ -9,7 +9,7 @@ use lib.ListN.{length, take, drop, length-drop, length-take}
 use lib.Seq.{length-take-le, drop-drop}
 use lib.Dec.{ltb}
 use borrow.Author.Tests.{ltb-true, ltb-false}
-use Rattle.text.specs.Text.{is, other, span, blanks, trimmed, split, Piece}
+use Rattle.text.specs.Text.{blanks, trimmed, Piece}
 use Rattle.text.specs.Answers.{spanOf}
 use Rattle.text.specs.declared.Span.{Span}
 use Rattle.text.proofs.Runs.{part-length, drop-part}
@@ -35,7 +35,7 @@ pub tag-done : (v : List ℕ) (at : ℕ) → length v < at → tagFrom v at ≡ 
 unfolding firstTag
 tag-done v at h = rw (left-done v at h)
 
--- n is what the search for the next semicolon answers of the part from `at` on
+-- n is how many bytes of the part from `at` on stand before the next cut
 module _ (v : List ℕ) (at n : ℕ) (h : at ≤ length v) (hn : n ≡ cutLength Outside (take (length v - at) (drop at v))) where
   -- the segment that starts at `at`
   abbrev segment : List ℕ

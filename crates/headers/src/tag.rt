@@ -3,11 +3,11 @@ use limits::Check;
 use limits::Refusal;
 use text::Span;
 ghost use mathlib.Core.Path.{_≡_};
-ghost use Rattle.limits.specs.Limits.{rustLimits};
 ghost use Prim.Native.Nat.{_≤_};
 ghost use lib.ListN.{length};
+ghost use Rattle.limits.specs.Limits.{rustLimits};
 ghost use Rattle.headers.specs.declared.tag.Mode.the-variants.{Outside as outside, Quoted as quoted, Bracketed as bracketed};
-ghost use Rattle.headers.specs.Tag.{modeAfter, cutsAt, cutLength, isTag, tagOf, extractTag, partOf, partAnswer};
+ghost use Rattle.headers.specs.Tag.{modeAfter, isOutside, isCut, cutLength, isTag, tagOf, extractTag, partOf, partAnswer};
 
 // A part of a value: where it stands, or that there is none.
 pub enum Part {
@@ -15,7 +15,7 @@ pub enum Part {
     Nothing,
 }
 
-// How a value is read from the left.
+// How a byte of a value is read: outside quotes and angle brackets, in quotes, in quotes right after a backslash, or in brackets.
 pub enum Mode {
     Outside,
     Quoted,
@@ -42,7 +42,7 @@ pub fn extract_tag(value: &[u8]) -> PartAnswer
     PartAnswer::At(t)
 }
 
-// What follows `tag=` in the first segment between semicolons that, trimmed, begins so.
+// What follows `tag=` in the first segment that, trimmed, begins so.
 pub fn find_tag(value: &[u8]) -> Part
     ensures { λ r. ⌜ r ≡ partOf (tagOf (now (value .entry))) ⌝ }
 {
@@ -64,7 +64,7 @@ pub fn find_tag(value: &[u8]) -> Part
     Part::Nothing
 }
 
-// How long the segment is that stands first.
+// How many bytes stand before the first semicolon outside quotes and angle brackets.
 fn segment_length(s: &[u8]) -> usize
     ensures { λ r. ⌜ r ≡ cutLength outside (now (s .entry)) ⌝ }
     ensures { λ r. ⌜ r ≤ length (now (s .entry)) ⌝ }
@@ -72,29 +72,38 @@ fn segment_length(s: &[u8]) -> usize
     let mut mode = Mode::Outside;
     let mut i = 0;
     while i < s.len() {
-        if is_cut(mode, s[i]) {
+        let b = s[i];
+        if is_cut(mode, b) {
             return i;
         }
-        mode = after(mode, s[i]);
+        mode = mode_after(mode, b);
         i += 1;
     }
     i
 }
 
-// Whether a byte is a semicolon that cuts.
 fn is_cut(mode: Mode, b: u8) -> bool
-    ensures { λ r. ⌜ r ≡ cutsAt mode b ⌝ }
+    ensures { λ r. ⌜ r ≡ isCut mode b ⌝ }
+{
+    if b != b';' {
+        return false;
+    }
+    is_outside(mode)
+}
+
+fn is_outside(mode: Mode) -> bool
+    ensures { λ r. ⌜ r ≡ isOutside mode ⌝ }
 {
     match mode {
-        Mode::Outside => b == 59,
+        Mode::Outside => true,
         Mode::Quoted => false,
         Mode::Escaped => false,
         Mode::Bracketed => false,
     }
 }
 
-// How the byte after this one is read.
-fn after(mode: Mode, b: u8) -> Mode
+// How the byte after b is read.
+fn mode_after(mode: Mode, b: u8) -> Mode
     ensures { λ r. ⌜ r ≡ modeAfter mode b ⌝ }
 {
     match mode {
@@ -108,10 +117,10 @@ fn after(mode: Mode, b: u8) -> Mode
 fn after_outside(b: u8) -> Mode
     ensures { λ r. ⌜ r ≡ modeAfter outside b ⌝ }
 {
-    if b == 34 {
+    if b == b'"' {
         return Mode::Quoted;
     }
-    if b == 60 {
+    if b == b'<' {
         return Mode::Bracketed;
     }
     Mode::Outside
@@ -120,10 +129,10 @@ fn after_outside(b: u8) -> Mode
 fn after_quoted(b: u8) -> Mode
     ensures { λ r. ⌜ r ≡ modeAfter quoted b ⌝ }
 {
-    if b == 92 {
+    if b == b'\\' {
         return Mode::Escaped;
     }
-    if b == 34 {
+    if b == b'"' {
         return Mode::Outside;
     }
     Mode::Quoted
@@ -132,7 +141,7 @@ fn after_quoted(b: u8) -> Mode
 fn after_bracketed(b: u8) -> Mode
     ensures { λ r. ⌜ r ≡ modeAfter bracketed b ⌝ }
 {
-    if b == 62 {
+    if b == b'>' {
         return Mode::Outside;
     }
     Mode::Bracketed

@@ -1,16 +1,13 @@
+-- `headers::after_bracketed` meets its contract. Assumes nothing.
 use native.Mathlib.Omega.{arith}
 use borrow.Author.Tests.{eq-eqb, ne-eqb}
 use borrow.Author.Needs.{needs}
 use Rattle.headers.proofs.tag.after_bracketed.Statement.{statement}
 use Rattle.headers.proofs.tag.after_bracketed.Tie as tie
-use Rattle.headers.proofs.tag.after_bracketed.Reads as reads
-use Rattle.headers.proofs.tag.after_bracketed.Lts as lts
 
--- src/tag.rt:136:9
 returns : tie.Need-returns
 returns c = rw (eq-eqb (c .before .args .b) 62 (omega arith))
 
--- src/tag.rt:132:1
 returns-2 : tie.Need-returns-2
 returns-2 c = rw (ne-eqb (c .before .args .b) 62 (omega arith))
 

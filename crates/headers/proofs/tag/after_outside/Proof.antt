@@ -1,20 +1,16 @@
+-- `headers::after_outside` meets its contract. Assumes nothing.
 use native.Mathlib.Omega.{arith}
 use borrow.Author.Tests.{eq-eqb, ne-eqb}
 use borrow.Author.Needs.{needs}
 use Rattle.headers.proofs.tag.after_outside.Statement.{statement}
 use Rattle.headers.proofs.tag.after_outside.Tie as tie
-use Rattle.headers.proofs.tag.after_outside.Reads as reads
-use Rattle.headers.proofs.tag.after_outside.Lts as lts
 
--- src/tag.rt:112:9
 returns : tie.Need-returns
 returns c = rw (eq-eqb (c .before .args .b) 34 (omega arith))
 
--- src/tag.rt:115:9
 returns-2 : tie.Need-returns-2
 returns-2 c = rw (ne-eqb (c .before .before .args .b) 34 (omega arith), eq-eqb (c .before .before .args .b) 60 (omega arith))
 
--- src/tag.rt:108:1
 returns-3 : tie.Need-returns-3
 returns-3 c = rw (ne-eqb (c .before .before .args .b) 34 (omega arith), ne-eqb (c .before .before .args .b) 60 (omega arith))
 

@@ -1,43 +1,18 @@
+-- `headers::is_cut` meets its contract. Assumes nothing.
+use borrow.Author.Tests.{eq-eqb, ne-eqb}
 use native.Mathlib.Omega.{arith}
 use borrow.Author.Needs.{needs}
 use Rattle.headers.proofs.tag.is_cut.Statement.{statement}
 use Rattle.headers.proofs.tag.is_cut.Tie as tie
-use Rattle.headers.proofs.tag.is_cut.Reads as reads
-use Rattle.headers.proofs.tag.is_cut.Lts as lts
 
--- src/tag.rt:89:26
-enum-told : tie.Need-enum-told
-enum-told c = search needs
-
--- src/tag.rt:90:25
-enum-told-2 : tie.Need-enum-told-2
-enum-told-2 c = search needs
-
--- src/tag.rt:91:26
-enum-told-3 : tie.Need-enum-told-3
-enum-told-3 c = search needs
-
--- src/tag.rt:92:28
-enum-told-4 : tie.Need-enum-told-4
-enum-told-4 c = search needs
-
--- src/tag.rt:85:1
 returns : tie.Need-returns
-returns c = rw (c .enum-told .given .1)
+returns c = rw (ne-eqb _ _ (c .if1 .taken))
 
--- src/tag.rt:85:1
+is-outside-requires : tie.Need-is-outside-requires
+is-outside-requires c κs = search needs
+
 returns-2 : tie.Need-returns-2
-returns-2 c = search needs
-
--- src/tag.rt:85:1
-returns-3 : tie.Need-returns-3
-returns-3 c = search needs
-
--- src/tag.rt:85:1
-returns-4 : tie.Need-returns-4
-returns-4 c = search needs
+returns-2 c = rw (eq-eqb _ _ (c .before .if1 .left)) (c .is-outside .ensures)
 
 pub is-cut-spec : {M : Type 1} → statement M
-is-cut-spec =
-    tie.close
-    (tie.spec enum-told enum-told-2 enum-told-3 enum-told-4 returns returns-2 returns-3 returns-4)
+is-cut-spec = tie.close (tie.spec returns is-outside-requires returns-2)
