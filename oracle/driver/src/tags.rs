@@ -102,13 +102,16 @@ pub fn holds(value: &[u8]) -> bool {
     cuts(&REQUEST_3, value).cuts.len() < semicolons
 }
 
-/// What is bounded of the values of an operation: who says the tags, and what holds a semicolon.
-pub const SAID_BY: &str = "tags said by";
-pub const HELD: &str = "semicolon held";
+/// What is bounded of an operation's values: who says their tags, what holds a semicolon in them, and whether one that holds a
+/// semicolon leads to an answer.
+const SAID_BY: &str = "tags said by";
+const HELD: &str = "semicolon held";
+const ANSWER: &str = "semicolon held, answer";
 
-/// Says who says the tags of these values, and what holds semicolons in them.
-pub fn meet(operation: &'static str, values: &[&[u8]]) {
-    let who = match values.iter().any(|value| holds(value)) {
+/// Says who says the tags of these values, and what holds semicolons in them; whether any does.
+pub fn meet(operation: &'static str, values: &[&[u8]]) -> bool {
+    let held = values.iter().any(|value| holds(value));
+    let who = match held {
         true => "the run's own reading",
         false => "the Rust",
     };
@@ -134,6 +137,14 @@ pub fn meet(operation: &'static str, values: &[&[u8]]) {
             bounds::met(operation, HELD, side);
         }
     }
+    held
+}
+
+/// Says whether values of which one holds a semicolon lead to a tag, an identifier or a record.
+pub fn meet_answer(operation: &'static str, held: bool, found: bool) {
+    if held {
+        bounds::met(operation, ANSWER, if found { "found" } else { "none" });
+    }
 }
 
 /// Whose identifier a block gives: a request's or, for the two sides, a response's.
@@ -158,9 +169,9 @@ pub fn block_holds(block: &[u8]) -> bool {
 /// Where the parts of a valid block's identifier lie: Call-ID, local tag, remote tag. They are the Rust's where From and To hold no
 /// semicolon.
 pub fn identifier(operation: &'static str, block: &[u8], message: Message) -> Option<[Range<usize>; 3]> {
-    meet(operation, &values(block));
+    let held_one = meet(operation, &values(block));
     let parts = parts_by(&REQUEST_3, block, message);
-    if !block_holds(block) {
+    if !held_one {
         let id = rust_id(rules::headers(block).expect("a valid block"), message);
         let texts = id.as_ref().map(|id| [id.call_id(), id.local_tag(), id.remote_tag()]);
         assert_eq!(parts.is_some(), texts.is_some(), "the run's tags aren't the Rust's");
@@ -184,7 +195,9 @@ pub fn parts_by(reading: &Reading, block: &[u8], message: Message) -> Option<[Ra
 
 /// The identifier of these parts.
 pub fn id_of(block: &[u8], parts: &[Range<usize>; 3]) -> DialogId {
-    let [call_id, local, remote] = parts.clone().map(|part| std::str::from_utf8(&block[part]).expect("ASCII"));
+    let [call_id, local, remote] = parts
+        .clone()
+        .map(|part| std::str::from_utf8(&block[part]).expect("ASCII"));
     DialogId::unchecked_new(call_id, local, remote)
 }
 
@@ -205,7 +218,9 @@ fn rust_id(headers: Headers, message: Message) -> Option<DialogId> {
 /// A valid block in which the values of From and To that hold a semicolon are others that hold none: with a tag where this reading
 /// finds one, with none where it doesn't. The Rust is given it for what doesn't depend on the tags' texts.
 pub fn without_held(block: &[u8]) -> Vec<u8> {
-    rewritten(block, |value| holds(value).then(|| tag(value, 0..value.len()).map(|_| b"x".to_vec())))
+    rewritten(block, |value| {
+        holds(value).then(|| tag(value, 0..value.len()).map(|_| b"x".to_vec()))
+    })
 }
 
 /// A valid block in which the values of From and To have the tags that a reading finds, and hold no semicolon outside them.
