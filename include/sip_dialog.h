@@ -125,8 +125,9 @@ uint8_t sip_dialog_parse_uri_from_header(const uint8_t *value, size_t value_len,
 
 /* ---- Identifiers */
 
-/* The tag of a From or To value: place and length in the value; it may be empty. It is the first `;` segment that begins with
-   `tag=`, in quotes too. Refuses with 1, 2, 4 (no tag). */
+/* The tag of a From or To value: place and length in the value; it may be empty. It is what follows `tag=` in the first segment
+   that begins so. Segments end at semicolons outside quotes (in which a backslash covers the next byte) and outside angle brackets;
+   an opened quote or bracket holds all up to its own close or the end. Refuses with 1, 2, 4 (no tag). */
 uint8_t sip_dialog_extract_tag(const uint8_t *value, size_t value_len, size_t *place, size_t *length);
 
 /* Whether three texts may be a dialog's identifier. Refuses with 1 (any of them); then 25, 26, 27 of the Call-ID, then of the

@@ -23,6 +23,7 @@ mod contest;
 mod dialogs;
 mod differences;
 mod messages;
+mod misreadings;
 mod mixed;
 mod operations;
 mod places;
@@ -35,6 +36,7 @@ mod rseq;
 mod rules;
 mod run;
 mod store;
+mod tags;
 mod texts;
 mod uris;
 

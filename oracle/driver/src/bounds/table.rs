@@ -12,6 +12,19 @@ const REFRESH: &[&str] = &["image_needs_refresh"];
 const LISTING: &[&str] = &["listing"];
 const CONTEST: &[&str] = &["interval_contest"];
 
+/// All that read the tags of From and To.
+const TAGGED: &[&str] = &[
+    "extract_tag",
+    "from_request",
+    "from_response_uac",
+    "from_response_uas",
+    "new_uac",
+    "new_uas",
+    "image_matches_request",
+    "request",
+    "find_by_request",
+];
+
 /// The changes of an image, and those of them that can make it larger.
 const CHANGES: &[&str] = &[
     "image_update_from_request",
@@ -133,6 +146,19 @@ const PLACES: &[&str] = &["the only one", "the first", "between others", "the la
 const COUNTS: &[&str] = &["0", "18446744073709551614", "18446744073709551615"];
 
 pub const BOUNDS: &[Bound] = &[
+    (TAGGED, "tags said by", &["the Rust", "the run's own reading"]),
+    (
+        TAGGED,
+        "semicolon held",
+        &[
+            "in quotes",
+            "in quotes with a backslash",
+            "in brackets",
+            "by quotes left open",
+            "by a bracket left open",
+        ],
+    ),
+    (TAGGED, "semicolon held, answer", &["found", "none"]),
     (CREATIONS, "method, bytes", &["0", "8192", "8193"]),
     (CREATIONS, "request, bytes", &["0", "8192", "8193"]),
     (CREATIONS, "response, bytes", &["0", "8192", "8193"]),

@@ -18,7 +18,7 @@ use crate::prack;
 use crate::prack::call::Pracks;
 use crate::rseq;
 use crate::rseq::call::RSeqs;
-use crate::run::{compare_each, Operation, PATTERNS};
+use crate::run::{Operation, PATTERNS};
 use crate::store;
 use crate::store::dialogs::Dialogs;
 use crate::store::kind::Kind;
@@ -255,7 +255,7 @@ fn arguments_of(name: &str, input: &Input, outs: &[u64; 8], lent: &[u8]) -> Stri
 /// Makes the list and what a right program prints, and writes both.
 pub fn run() -> bool {
     RECORDER.set(Some(Recorder::default()));
-    drop(compare_each(operations::all(), CALLS, SEED, |_| false));
+    drop(operations::compare_all(CALLS, SEED, |_| false));
     with(|recorder| recorder.directed = true);
     edges::each_call();
     with(|recorder| recorder.directed = false);
