@@ -30,8 +30,16 @@ keep-requires-8 c κs = search needs
 returns : tie.Need-returns
 returns c =
     let d = c .before .before .before .before in
-    rw (d .before .before .before .keep .ensures, d .before .before .keep2 .ensures, d .before .keep3 .ensures, d .keep4 .ensures,
-    c .before .before .before .keep5 .ensures, c .before .before .keep6 .ensures, c .before .keep7 .ensures, c .keep8 .ensures)
+    rw (
+      d .before .before .before .keep .ensures,
+      d .before .before .keep2 .ensures,
+      d .before .keep3 .ensures,
+      d .keep4 .ensures,
+      c .before .before .before .keep5 .ensures,
+      c .before .before .keep6 .ensures,
+      c .before .keep7 .ensures,
+      c .keep8 .ensures,
+    )
 
 pub note-spec : {M : Type 1} → statement M
 note-spec =
