@@ -7,6 +7,7 @@
 //!     driver store [--calls N] [--seed S]      the same for N lists of calls on a store of records
 //!     driver rseq [--calls N] [--seed S]       the same for N lists of calls on an RSeq store
 //!     driver prack [--calls N] [--seed S]      the same for N lists of calls on a PRACK store
+//!     driver verdicts [--calls N] [--seed S]   the same for N lists of calls on a run of verdicts, against the run's own count
 //!     driver planted [--calls N] [--seed S]    plants faults, fails if any goes unreported or if a C function has none
 //!     driver differences                       runs the inputs of docs/DIFFERENCES.md on both sides, fails if an answer is another
 //!     driver record                            writes the list of recorded answers that the program replay runs
@@ -37,11 +38,12 @@ mod run;
 mod store;
 mod texts;
 mod uris;
+mod verdicts;
 
 use std::process::ExitCode;
 
 const USAGE: &str =
-    "use: driver all|leaves|dialogs|store|rseq|prack|planted [--calls N] [--seed S], driver differences|bench|record";
+    "use: driver all|leaves|dialogs|store|rseq|prack|verdicts|planted [--calls N] [--seed S], driver differences|bench|record";
 
 /// How many calls (or lists of calls) where --calls doesn't say it, and how many in all for `all`.
 const CALLS: usize = 20_000;
@@ -74,6 +76,7 @@ fn main() -> ExitCode {
         "store" => report::store(calls, options.seed),
         "rseq" => report::rseq(calls, options.seed),
         "prack" => report::prack(calls, options.seed),
+        "verdicts" => report::verdicts(calls, options.seed),
         "planted" => report::planted(calls, options.seed),
         "differences" => differences::run(),
         "record" => record::run(),
