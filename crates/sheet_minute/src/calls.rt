@@ -14,7 +14,7 @@ pub fn add(time: u64, number: u8, run: &mut [u8], used: usize) -> usize {
     changed(w, run, used)
 }
 
-// So many verdicts alike: a line for all of them.
+// So many verdicts alike: a line for all of them, or for the first that is refused.
 pub fn add_many(count: u64, time: u64, number: u8, run: &mut [u8], used: usize) -> usize {
     tell(b"add_verdict at ", time);
     tell(b", number ", number as u64);
@@ -23,10 +23,13 @@ pub fn add_many(count: u64, time: u64, number: u8, run: &mut [u8], used: usize) 
     let mut n = used;
     let mut i = 0;
     while i < count {
-        n = next(worst_minute::add_verdict(time, number, run, n), n);
+        match worst_minute::add_verdict(time, number, run, n) {
+            Written::Length(length) => n = length,
+            Written::Refused(x) => return changed(Written::Refused(x), run, n),
+        }
         i += 1;
     }
-    changed(Written::Length(n), run, used)
+    changed(Written::Length(n), run, n)
 }
 
 // The worst minute.
@@ -43,14 +46,7 @@ pub fn worst(run: &[u8], used: usize) {
     end(run, used);
 }
 
-// The used length after a call.
-fn next(w: Written, used: usize) -> usize {
-    match w {
-        Written::Length(n) => n,
-        Written::Refused(_) => used,
-    }
-}
-
+// What was answered to an `add`; the used length afterwards.
 fn changed(w: Written, run: &[u8], used: usize) -> usize {
     match w {
         Written::Length(n) => {

@@ -86,7 +86,7 @@ fn largest() {
     worst(&run, n);
 }
 
-// 4,096 verdicts; a 4,097th, which drops the oldest; and 5,000.
+// 4,096 verdicts; a 4,097th, which drops the oldest; and 5,000, of which the first 904 are dropped.
 fn many() {
     let mut run = [0u8; 36864];
     let n = add_many(4096, 0, 11, &mut run, 0);
@@ -95,9 +95,9 @@ fn many() {
     worst(&run, n);
     let n = add(1, 11, &mut run, n);
     worst(&run, n);
-    let n = add_many(904, 0, 11, &mut run, 0);
+    let n = add_many(1000, 0, 11, &mut run, 0);
     worst(&run, n);
-    let n = add_many(4096, MINUTE, 0, &mut run, n);
+    let n = add_many(4000, MINUTE, 0, &mut run, n);
     worst(&run, n);
 }
 

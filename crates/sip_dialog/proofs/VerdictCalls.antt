@@ -12,7 +12,8 @@ use denote.Ref.{RefT}
 use Rattle.limits.specs.Outcome.{Outcome, refused, given, numberIn}
 use Rattle.output.specs.Output.{writtenFrom}
 use Rattle.ordered_store.specs.History.{Seen, EachShows}
-use Rattle.worst_minute.specs.Minute.{Minute}
+use Rattle.worst_minute.specs.Minute.{Verdict, Minute}
+use Rattle.worst_minute.specs.Calls.{added}
 use Rattle.worst_minute.specs.History.{Call, add, ask, answers, World, Left, usedAfter, nothingAsked, lentTo, onBytes, lending, world, runAnswers, Typed, EachSent, Follows}
 use Rattle.worst_minute.proofs.HistoryLaws.{stands, follows}
 use Rattle.c_answers.specs.Given.{writtenNumber, writtenAfter}
@@ -62,7 +63,10 @@ pub record Keeps (c : Call) (bytes : List ℕ) (used : ℕ) (after : List ℕ) (
   pub typed : Typed c
 
 contracts : {c : Call} {bytes : List ℕ} {used : ℕ} {after : List ℕ} {left number : ℕ} {given kept : Lent} → Served c bytes used after left number given kept → Keeps c bytes used after left number given kept
-contracts (by-add κs time number run used r run′ used′ p) = record { bytes-are = p .1 .0; used-is = p .0 .left-is ∙ used-same _ (used .now); number-is = p .0 .number-is ∙ number-same _; values-are = refl; lends-all = refl; typed = p .1 .1 }
+contracts (by-add κs time number run used r run′ used′ p) =
+    let v : Verdict = record { time = time; number = number } in
+    let o : Outcome (List ℕ) = added v (run .now) (used .now) in
+    record { bytes-are = p .1 .0; used-is = p .0 .left-is ∙ used-same o (used .now); number-is = p .0 .number-is ∙ number-same o; values-are = refl; lends-all = refl; typed = p .1 .1 }
 contracts (by-ask κs run used refusals found start r run′ refusals′ found′ start′ p) = record { bytes-are = refl; used-is = refl; number-is = p .number-is; values-are = ap some (p .left-is); lends-all = refl; typed = tt }
 
 -- ---- every list of calls

@@ -1,12 +1,12 @@
 -- After every list of calls from an empty run, what the run holds, and every answer, are those of a fresh count over the times as taken. Assumes nothing.
-use Prim.Native.Nat.{ℕ, _+_, _≤_, _<_}
+use Prim.Native.Nat.{ℕ, _+_, _-_, _≤_, _<_}
 use native.Mathlib.Omega.{arith}
 use mathlib.Core.Path.{_≡_, refl, sym, ap, ap₂, subst, _∙_}
 use mathlib.Core.Bool.{Bool, true, false}
 use mathlib.Core.List.{List, [], _∷_, _++_, append-assoc}
 use mathlib.Core.Option.{none, some}
 use lib.ListN.{length, take, drop, length-append, length-drop, take-append-drop}
-use lib.Seq.{take-take, take-append-seam, length-take-le}
+use lib.Seq.{take-take, take-append-seam, drop-append-seam, drop-append-le, drop-drop, length-take-le}
 use lib.Dec.{ltb}
 use borrow.Author.Tests.{ltb-true, ltb-false, le-ltb}
 use Rattle.limits.specs.Outcome.{given, andThen, orRefuse, causeIf, refuseBy, refuseIf}
@@ -18,7 +18,7 @@ use Rattle.worst_minute.specs.Layout.{encodeRun, decodeRun}
 use Rattle.worst_minute.specs.Calls.{readRun, withVerdict, added, worstIn}
 use Rattle.worst_minute.specs.History.{Call, add, ask, sizeOf, decide, withGiven, verdicts, answers, allGiven, EachRoomy, World, Left, usedAfter, nothingAsked, lentTo, lending, world, runAnswers, Typed, EachSent, Follows}
 use Rattle.worst_minute.proofs.LayoutLaws.{AllFit, length-run, decode-encode}
-use Rattle.worst_minute.proofs.TakenLaws.{one-more, few, rises-counted, fit-counted, fit-snoc}
+use Rattle.worst_minute.proofs.TakenLaws.{one-more, few, no-fewer, rises-counted, fit-counted, fit-snoc}
 use Rattle.worst_minute.proofs.CallLaws.{read-over, read-within}
 
 -- 18, as one test
@@ -31,12 +31,13 @@ fitted-is n s = by (ltb n (length s))
 
 -- ---- the run between two calls
 
--- its used bytes are those of what counts of the verdicts given
+-- its used bytes are those of what counts of the verdicts given; those past them were never written
 pub record Stands (m : List ℕ) (w : World) (vs : List Verdict) : Type 0 where
   pub room : length (w .memory) ≡ length m
   pub used-is : w .used ≡ sizeOf (counted vs)
   pub within : w .used ≤ length m
   pub front : take (w .used) (w .memory) ≡ encodeRun (counted vs)
+  pub rest : drop (w .used) (w .memory) ≡ drop (w .used) m
   pub fit : AllFit vs
 
 module _ (m : List ℕ) (w : World) (vs : List Verdict) (s : Stands m w vs) (lent : ℕ) (fits : lent ≤ length m) where
@@ -102,7 +103,13 @@ module _ (m : List ℕ) (w : World) (vs : List Verdict) (s : Stands m w vs) (len
 same-world : (m : List ℕ) (w : World) (vs : List Verdict) → Stands m w vs → (lent : ℕ) → Stands m (record { memory = take lent (w .memory) ++ drop lent (w .memory); used = w .used }) vs
 same-world m w vs s lent =
     let e : take lent (w .memory) ++ drop lent (w .memory) ≡ w .memory = take-append-drop lent (w .memory) in
-    record { room = ap length e ∙ s .room; used-is = s .used-is; within = s .within; front = ap (take (w .used)) e ∙ s .front; fit = s .fit }
+    record { room = ap length e ∙ s .room; used-is = s .used-is; within = s .within; front = ap (take (w .used)) e ∙ s .front; rest = ap (drop (w .used)) e ∙ s .rest; fit = s .fit }
+
+-- what is past a place is past each later one
+rest-later : (a b : ℕ) (s m : List ℕ) → a ≤ b → drop a s ≡ drop a m → drop b s ≡ drop b m
+rest-later a b s m h e =
+    let k : a + (b - a) ≡ b = omega arith in
+    ap (λ n. drop n s) (sym k) ∙ sym (drop-drop (b - a) a s) ∙ ap (drop (b - a)) e ∙ drop-drop (b - a) a m ∙ ap (λ n. drop n m) k
 
 -- an accepted one leaves the new run over the front of the lent bytes
 new-world : (m : List ℕ) (w : World) (vs : List Verdict) → Stands m w vs → (lent : ℕ) → lent ≤ length m → (v : Verdict) → v .time < 18446744073709551616 → sizeOf (counted (vs ++ (v ∷ []))) ≤ lent
@@ -113,11 +120,18 @@ new-world m w vs s lent fits v t h =
     let long : length (take lent (w .memory)) ≡ lent = length-take-le lent (w .memory) (omega (arith, s .room, fits)) in
     let split : over new (take lent (w .memory)) ++ drop lent (w .memory) ≡ new ++ (drop (length new) (take lent (w .memory)) ++ drop lent (w .memory)) =
     append-assoc new (drop (length new) (take lent (w .memory))) (drop lent (w .memory)) in
+    let past : drop (length new) (w .memory) ≡ drop (length new) m = rest-later (w .used) (length new) (w .memory) m (omega (arith, s .used-is, size, no-fewer vs v)) (s .rest) in
     record {
       room = ap length split ∙ simp (length-append, length-drop) (omega (arith, long, s .room, size, fits));
       used-is = size;
       within = omega (arith, size, fits);
       front = ap (take (length new)) split ∙ take-append-seam new (drop (length new) (take lent (w .memory)) ++ drop lent (w .memory));
+      rest =
+          ap (drop (length new)) split
+          ∙ drop-append-seam new (drop (length new) (take lent (w .memory)) ++ drop lent (w .memory))
+          ∙ sym (drop-append-le (length new) (take lent (w .memory)) (drop lent (w .memory)) (omega (arith, long, size)))
+          ∙ ap (drop (length new)) (take-append-drop lent (w .memory))
+          ∙ past;
       fit = fit-snoc vs v (s .fit) t;
     }
 
@@ -148,7 +162,7 @@ module _ (m : List ℕ) (w : World) (vs : List Verdict) (s : Stands m w vs) wher
 module _ (m : List ℕ) where
   pub stands : (cs : List Call) → EachSent m cs → Stands m (world m cs) (verdicts cs)
   unfolding world verdicts encodeRun
-  stands [] s = record { room = refl; used-is = refl; within = omega arith; front = refl; fit = tt }
+  stands [] s = record { room = refl; used-is = refl; within = omega arith; front = refl; rest = refl; fit = tt }
   stands (c ∷ cs) s = stands-next m (world m cs) (verdicts cs) (stands cs (s .1)) c (s .0 .0) (s .0 .1)
 
   same-answers : (cs : List Call) → EachSent m cs → runAnswers m cs ≡ answers cs
@@ -158,7 +172,7 @@ module _ (m : List ℕ) where
 
   -- the run follows the verdicts given, after every list of calls
   pub follows : (cs : List Call) → EachSent m cs → Follows m cs
-  follows cs s = record { holds = stands cs s .front; answers-are = same-answers cs s }
+  follows cs s = let k = stands cs s in record { holds = k .front; used-is = k .used-is; rest = k .rest; answers-are = same-answers cs s }
 
 -- ---- calls that are lent enough
 

@@ -66,6 +66,14 @@ one-more vs v =
 pub few : (vs : List Verdict) → length (counted vs) ≤ 4096
 few vs = simp length-drop (omega arith)
 
+-- never fewer than before
+pub no-fewer : (vs : List Verdict) (v : Verdict) → length (counted vs) ≤ length (counted (vs ++ (v ∷ [])))
+no-fewer vs v =
+    let a : length (taken (vs ++ (v ∷ []))) ≡ length (taken vs) + 1 = ap length (taken-one-more vs v) ∙ length-append (taken vs) (takenAfter (lastTime 0 (taken vs)) v ∷ []) in
+    let b = length-drop (length (taken vs) - 4096) (taken vs) in
+    let e = length-drop (length (taken (vs ++ (v ∷ []))) - 4096) (taken (vs ++ (v ∷ []))) in
+    omega (arith, a, b, e)
+
 rises-taken : (last : ℕ) (vs : List Verdict) → risesFrom last (allTakenAfter last vs) ≡ true
 unfolding risesFrom allTakenAfter
 rises-taken last [] = refl

@@ -106,8 +106,10 @@ abbrev pub EachSent : List ℕ → List Call → Type 0
 EachSent m [] = Unit {0}
 EachSent m (c ∷ cs) = ((lentTo c ≤ length m) × Typed c) × EachSent m cs
 
--- the claim: after the calls the used bytes are those of a fresh run of the verdicts given, their times as taken and cut to the last 4,096; and every answer is that of a
--- fresh count over it
+-- the claim: after the calls the used bytes are those of a fresh run of the verdicts given, their times as taken and cut to the last 4,096, and there are as many as it has;
+-- those past them are as they were before the first call; and every answer is that of a fresh count over it
 pub record Follows (m : List ℕ) (cs : List Call) : Type 0 where
   pub holds : take (world m cs .used) (world m cs .memory) ≡ encodeRun (counted (verdicts cs))
+  pub used-is : world m cs .used ≡ sizeOf (counted (verdicts cs))
+  pub rest : drop (world m cs .used) (world m cs .memory) ≡ drop (world m cs .used) m
   pub answers-are : runAnswers m cs ≡ answers cs

@@ -15,7 +15,8 @@ same-length c = search needs
 returns : tie.Need-returns
 returns c =
     let k = c .before .before .before .before .add-verdict .ensures in
-    (rw (← k .0) (c .give-written .ensures), (k .1, c .before .before .before .before .before .before .before .before .before .fits .time .fits))
+    let t = c .before .before .before .before .before .before .before .before in
+    (rw (← k .0) (c .give-written .ensures), (k .1, t .fits .time .fits))
 
 pub sip-dialog-add-verdict-spec : {M : Type 1} → statement M
 sip-dialog-add-verdict-spec = tie.close (tie.spec add-verdict-requires give-written-requires same-length returns)

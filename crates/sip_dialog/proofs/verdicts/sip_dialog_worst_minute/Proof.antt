@@ -12,7 +12,10 @@ give-worst-requires : tie.Need-give-worst-requires
 give-worst-requires c κs = search needs
 
 returns : tie.Need-returns
-returns c = ?
+returns c =
+    let k = c .before .before .before .before in
+    let a = k .before .before .args in
+    minute-given (worstIn (a .run .now) (a .used)) _ _ _ _ (k .worst-minute .ensures) (c .give-worst .ensures)
 
 pub sip-dialog-worst-minute-spec : {M : Type 1} → statement M
 sip-dialog-worst-minute-spec = tie.close (tie.spec worst-minute-requires give-worst-requires returns)

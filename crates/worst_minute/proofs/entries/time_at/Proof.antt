@@ -3,31 +3,22 @@ use Rattle.worst_minute.proofs.NumberLaws.{time-told}
 use borrow.Author.Needs.{needs}
 use Rattle.worst_minute.proofs.entries.time_at.Statement.{statement}
 use Rattle.worst_minute.proofs.entries.time_at.Tie as tie
-use Rattle.worst_minute.proofs.entries.time_at.Reads as reads
-use Rattle.worst_minute.proofs.entries.time_at.Lts as lts
-use Rattle.worst_minute.proofs.entries.word_at.Reads as word-at-reads
 
--- src/entries.rt:54:5
 word-at-requires : tie.Need-word-at-requires
 word-at-requires c κs = search needs
 
--- src/entries.rt:54:5
 mul-result : tie.Need-mul-result
 mul-result c = search needs
 
--- src/entries.rt:54:50
 add-word-at : tie.Need-add-word-at
 add-word-at c = search needs
 
--- src/entries.rt:54:37
 word-at-requires-2 : tie.Need-word-at-requires-2
 word-at-requires-2 c κs = search needs
 
--- src/entries.rt:54:5
 add-result : tie.Need-add-result
 add-result c = search needs
 
--- src/entries.rt:50:1
 returns : tie.Need-returns
 returns c = let a = c .before .before .before .args in time-told (a .run .now) (a .at) (c .before .before .before .pre) (c .before .word-at .ensures .0) (c .word-at2 .ensures .0)
 

@@ -4,79 +4,58 @@ use Rattle.worst_minute.proofs.NumberLaws.{word-told}
 use borrow.Author.Needs.{needs}
 use Rattle.worst_minute.proofs.entries.word_at.Statement.{statement}
 use Rattle.worst_minute.proofs.entries.word_at.Tie as tie
-use Rattle.worst_minute.proofs.entries.word_at.Reads as reads
-use Rattle.worst_minute.proofs.entries.word_at.Lts as lts
-use Rattle.worst_minute.proofs.entries.long.Reads as long-reads
 
--- src/entries.rt:62:12
 shared-slice-read-long : tie.Need-shared-slice-read-long
 shared-slice-read-long c = search needs
 
--- src/entries.rt:62:7
 long-requires : tie.Need-long-requires
 long-requires c κs = search needs
 
--- src/entries.rt:62:7
 mul-result : tie.Need-mul-result
 mul-result c = search needs
 
--- src/entries.rt:62:38
 add-long : tie.Need-add-long
 add-long c = search needs
 
--- src/entries.rt:62:34
 shared-slice-read-long-2 : tie.Need-shared-slice-read-long-2
 shared-slice-read-long-2 c = search needs
 
--- src/entries.rt:62:29
 long-requires-2 : tie.Need-long-requires-2
 long-requires-2 c κs = search needs
 
--- src/entries.rt:62:7
 add-result : tie.Need-add-result
 add-result c = search needs
 
--- src/entries.rt:62:6
 mul-result-2 : tie.Need-mul-result-2
 mul-result-2 c = search needs
 
--- src/entries.rt:62:65
 add-long-2 : tie.Need-add-long-2
 add-long-2 c = search needs
 
--- src/entries.rt:62:61
 shared-slice-read-long-3 : tie.Need-shared-slice-read-long-3
 shared-slice-read-long-3 c = search needs
 
--- src/entries.rt:62:56
 long-requires-3 : tie.Need-long-requires-3
 long-requires-3 c κs = search needs
 
--- src/entries.rt:62:6
 add-result-2 : tie.Need-add-result-2
 add-result-2 c = search needs
 
--- src/entries.rt:62:5
 mul-result-3 : tie.Need-mul-result-3
 mul-result-3 c = search needs
 
--- src/entries.rt:62:92
 add-long-3 : tie.Need-add-long-3
 add-long-3 c = search needs
 
--- src/entries.rt:62:88
 shared-slice-read-long-4 : tie.Need-shared-slice-read-long-4
 shared-slice-read-long-4 c = search needs
 
--- src/entries.rt:62:83
 long-requires-4 : tie.Need-long-requires-4
 long-requires-4 c κs = search needs
 
--- src/entries.rt:62:5
 add-result-3 : tie.Need-add-result-3
 add-result-3 c = search needs
 
--- src/entries.rt:58:1
 returns : tie.Need-returns
 returns c =
     let a = c .before .before .before .before .before .before .before .before .before .args in (
