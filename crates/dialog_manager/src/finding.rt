@@ -11,7 +11,7 @@ ghost use lib.ListN.{length};
 ghost use Rattle.text.specs.Text.{equal};
 ghost use Rattle.text.specs.Spans.{partIn};
 ghost use Rattle.record.specs.Store.{decodeAll};
-ghost use Rattle.dialog_manager.specs.Search.{named, ofCallId, namedAt, IdsWithin, Stored, foundIn, Stands};
+ghost use Rattle.dialog_manager.specs.Search.{named, ofCallId, namedAt, ofCallIdAt, IdsWithin, Stored, foundIn, Stands};
 
 // Where its image begins, and its parts.
 pub enum Found {
@@ -48,7 +48,7 @@ pub fn search_call_id(bytes: &[u8], call_id: &[u8]) -> Found
     let mut at = 0;
     while at < bytes.len() {
         let ids = ids_at(bytes, at);
-        if is_part(bytes, ids.call_id, call_id) {
+        if is_of_call_id(bytes, ids, call_id) {
             let RecordReading::Whole(first) = image::read_record(bytes, at) else {
                 return Found::Nothing;
             };
@@ -71,6 +71,14 @@ fn is_named(bytes: &[u8], ids: IdsAt, call_id: &[u8], local_tag: &[u8], remote_t
         return false;
     }
     is_part(bytes, ids.remote_tag, remote_tag)
+}
+
+// The Call-ID at these places is the text.
+fn is_of_call_id(bytes: &[u8], ids: IdsAt, call_id: &[u8]) -> bool
+    requires { ⌜ IdsWithin (now bytes) ids ⌝ }
+    ensures { λ r. ⌜ r ≡ ofCallIdAt (now (bytes .entry)) ids (now («call_id» .entry)) ⌝ }
+{
+    is_part(bytes, ids.call_id, call_id)
 }
 
 // The bytes that a span names are the text.

@@ -18,7 +18,7 @@ use Rattle.dialog_manager.proofs.finding.search_call_id.Statement.{stat
 use Rattle.dialog_manager.proofs.finding.search_call_id.Tie as tie
 use Rattle.dialog_manager.proofs.finding.search_call_id.Reads as reads
 use Rattle.dialog_manager.proofs.finding.search_call_id.Lts as lts
-use Rattle.dialog_manager.proofs.finding.is_part.Reads as is-part-reads
+use Rattle.dialog_manager.proofs.finding.is_of_call_id.Reads as is-of-call-id-reads
 use Rattle.record_walk.proofs.record_end.Reads as record-end-reads
 use Rattle.image.proofs.read_record.Reads as read-record-reads
 use Rattle.store.proofs.ids_at.Reads as ids-at-reads
@@ -68,18 +68,15 @@ ids-at-requires c κs = here c
 placed : (c : tie.After-ids-at Inv-loop μ-loop) → c .ids-at .result ≡ R (c .before) .ids
 placed c = c .ids-at .ensures (here (c .before) .reading) (here (c .before) .reads)
 
-is-part-requires : tie.Need-is-part-requires Inv-loop μ-loop
-is-part-requires c κs =
-    let l = c .before in
-    let w = subst (IdsWithin (s l)) (sym (placed c)) (ids-within (s l) (at l) (R l) (held l)) in
-    omega (arith, w .0, w .1, w .2)
+is-of-call-id-requires : tie.Need-is-of-call-id-requires Inv-loop μ-loop
+is-of-call-id-requires c κs = let l = c .before in subst (IdsWithin (s l)) (sym (placed c)) (ids-within (s l) (at l) (R l) (held l))
 
 -- what the comparison says of it
-compares : (c : tie.After-is-part Inv-loop μ-loop) → c .is-part .result ≡ test (c .before .before) (held (c .before .before) .step .value)
+compares : (c : tie.After-is-of-call-id Inv-loop μ-loop) → c .is-of-call-id .result ≡ test (c .before .before) (held (c .before .before) .step .value)
 compares c =
     let l = c .before .before in
     let a = l .before .before .before .before .args in
-    c .is-part .ensures
+    c .is-of-call-id .ensures
     ∙ ap (λ (i : IdsAt). ofCallIdAt (s l) i (a .call-id .now)) (placed (c .before))
     ∙ call-compared (s l) (at l) (R l) (held l) (known l) (a .call-id .now)
 
@@ -137,7 +134,7 @@ search-call-id-spec =
     μ-loop
     loop-holds
     ids-at-requires
-    is-part-requires
+    is-of-call-id-requires
     read-record-requires
     enum-known-first
     enum-told
