@@ -3565,7 +3565,7 @@ int main(void)
         test_image_request_rest, test_image_request_order, test_image_response_state, test_image_response_routes,
         test_image_response_most_routes, test_image_response_no_routes, test_image_response_interval,
         test_image_response_any_interval, test_image_response_target, test_image_response_parts, test_image_response_order,
-        test_new_uac, test_new_uas, test_counts, test_stores, test_rseq_stores, test_prack_stores, test_rfc_rows,
+        test_new_uac, test_new_uas, test_counts, test_stores, test_rseq_stores, test_prack_stores, test_rfc_rows, test_verdicts,
     };
     size_t i;
     for (i = 0; i < sizeof tests / sizeof tests[0]; i++) {

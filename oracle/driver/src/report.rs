@@ -1,4 +1,4 @@
-//! The tables and verdicts of `all`, of its parts (`leaves`, `dialogs`, `store`, `rseq`, `prack`), and of `planted`.
+//! The tables and verdicts of `all`, of its parts (`leaves`, `dialogs`, `store`, `rseq`, `prack`, `verdicts`), and of `planted`.
 
 use crate::all::{self, Everything};
 use crate::bounds;
@@ -12,6 +12,7 @@ use crate::run::{self, row_name, Entry, Feed, Operation, Tally, LEAST_CALLS, LEA
 use crate::store;
 use crate::store::kind::Kind;
 use crate::store::run::{each_fault, faults_named, Fault, Run};
+use crate::verdicts;
 use std::collections::BTreeSet;
 
 /// Compares everything, so many calls in all, and says whether all agree and every minimum is met. The environment variable
@@ -23,6 +24,7 @@ pub fn all(calls: u64, seed: u64) -> bool {
         faults_of(store::FAULTS),
         faults_of(rseq::FAULTS),
         faults_of(prack::FAULTS),
+        faults_of(verdicts::FAULTS),
         faults_of(mixed::RECORD_FAULTS),
         faults_of(mixed::RSEQ_FAULTS),
         faults_of(mixed::PRACK_FAULTS),
@@ -75,6 +77,18 @@ pub fn prack(lists: usize, seed: u64) -> bool {
     })
 }
 
+/// The same for lists of calls on a run of verdicts, against the run's own count.
+pub fn verdicts(lists: usize, seed: u64) -> bool {
+    println!("{lists} random lists of calls, three in four from an empty run, and the directed ones\n");
+    verdict(&faults_of(verdicts::FAULTS), |planted, table| {
+        table.add_run(verdicts::compare_all(
+            lists,
+            seed,
+            &faults_named(verdicts::FAULTS, planted),
+        ));
+    })
+}
+
 /// Fills the table, with the one of these faults put in that PLANTED names, and prints its end.
 fn verdict(names: &[&str], fill: impl FnOnce(&str, &mut Table)) -> bool {
     let Some(planted) = planted_name(names) else {
@@ -117,6 +131,7 @@ impl Table {
         self.add_run(everything.records);
         self.add_run(everything.rseqs);
         self.add_run(everything.pracks);
+        self.add_run(everything.verdicts);
     }
 
     /// Takes the counts of operations without a store.
@@ -260,6 +275,11 @@ pub fn planted(calls: usize, seed: u64) -> bool {
     faults.extend(planted_run(store::compare_all(lists, seed, &each_fault(store::FAULTS))));
     faults.extend(planted_run(rseq::compare_all(lists, seed, &each_fault(rseq::FAULTS))));
     faults.extend(planted_run(prack::compare_all(lists, seed, &each_fault(prack::FAULTS))));
+    faults.extend(planted_run(verdicts::compare_all(
+        lists,
+        seed,
+        &each_fault(verdicts::FAULTS),
+    )));
     let mixed = mixed::planted(lists, seed);
     faults.extend(planted_run(mixed.records));
     faults.extend(planted_run(mixed.rseqs));

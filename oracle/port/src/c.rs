@@ -554,4 +554,15 @@ extern "C" {
         store_len: usize,
         used: *mut usize,
     ) -> u8;
+
+    // A run of verdicts
+    pub fn sip_dialog_add_verdict(time: u64, number: u8, run: *mut u8, run_len: usize, used: *mut usize) -> u8;
+    pub fn sip_dialog_worst_minute(
+        run: *const u8,
+        run_len: usize,
+        used: usize,
+        refusals: *mut usize,
+        found: *mut u8,
+        start: *mut u64,
+    ) -> u8;
 }

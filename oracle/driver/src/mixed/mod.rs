@@ -29,6 +29,7 @@ pub fn planted(lists: usize, seed: u64) -> Everything {
         records: Run::new(&each_fault(RECORD_FAULTS)),
         rseqs: Run::new(&each_fault(RSEQ_FAULTS)),
         pracks: Run::new(&each_fault(PRACK_FAULTS)),
+        verdicts: Run::new(&[]),
     };
     let mut random = Random::new(seed, "mixed");
     each_plain(&mut everything, &mut random);

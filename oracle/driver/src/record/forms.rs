@@ -13,7 +13,7 @@ const fn form(name: &'static str, kinds: &'static str, arguments: &'static str) 
     Form { name, kinds, arguments }
 }
 
-pub const FORMS: [Form; 82] = [
+pub const FORMS: [Form; 84] = [
     form("check_block", "t=n", "t0"),
     form("header", "ttnnn=nnnn", "t0 t1 o0 o1 o2"),
     form("next_header", "ttnnnnn=nnnnn", "t0 t1 n0 o0 o1 o2 o3"),
@@ -100,6 +100,8 @@ pub const FORMS: [Form; 82] = [
         "nnnnnnnnnn=nnnnnnnnn",
         "n0 n1 o0 o1 o2 o3 o4 o5 o6 o7",
     ),
+    form("add_verdict", "nnsn=nn", ""),
+    form("worst_minute", "snnnn=nnnnn", ""),
 ];
 
 /// The form of an operation.

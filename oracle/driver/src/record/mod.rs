@@ -23,6 +23,8 @@ use crate::store;
 use crate::store::dialogs::Dialogs;
 use crate::store::kind::Kind;
 use crate::store::memory::Left;
+use crate::verdicts;
+use crate::verdicts::call::Verdicts;
 use arguments::Recorded;
 use forms::form_of;
 use std::cell::RefCell;
@@ -263,6 +265,7 @@ pub fn run() -> bool {
     drop(store::compare_all(LISTS, SEED, &[]));
     drop(rseq::compare_all(LISTS, SEED, &[]));
     drop(prack::compare_all(LISTS, SEED, &[]));
+    drop(verdicts::compare_all(LISTS, SEED, &[]));
     let mut writer = Writer::new();
     let recorder = RECORDER.take().expect("the recorder");
     let mut covered: BTreeSet<Key> = recorder.kept.keys().cloned().collect();
@@ -277,7 +280,13 @@ pub fn run() -> bool {
 /// Prints the rows and the sides of bounds that no recorded call has.
 fn report(covered: &BTreeSet<Key>) {
     let mut lacking = 0;
-    let stores = [Dialogs::OPERATIONS, RSeqs::OPERATIONS, Pracks::OPERATIONS].concat();
+    let stores = [
+        Dialogs::OPERATIONS,
+        RSeqs::OPERATIONS,
+        Pracks::OPERATIONS,
+        Verdicts::OPERATIONS,
+    ]
+    .concat();
     let leaves = operations::all()
         .into_iter()
         .chain(dialogs::all())
