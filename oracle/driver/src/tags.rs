@@ -238,7 +238,7 @@ fn rewritten(block: &[u8], tag_for: impl Fn(&[u8]) -> Option<Option<Vec<u8>>>) -
             continue;
         };
         if let Some(tag) = tag_for(&block[at.clone()]) {
-            let value = tag.map_or(Vec::new(), |tag| [b";tag=", tag.as_slice()].concat());
+            let value = tag.map_or(Vec::new(), |tag| [b"tag=", tag.as_slice()].concat());
             block.splice(at, value);
         }
     }

@@ -249,7 +249,7 @@ fn named_lines(random: &mut Random, lines: &mut Vec<Vec<u8>>, id: &DialogId) {
         (from, to) = (to, from);
     }
     let absent = random.below(36);
-    let front = |random: &mut Random| match random.one_in(8) {
+    let front = |random: &mut Random| match random.one_in(12) {
         true => random.pick(&HELD_FRONTS),
         false => ";tag=",
     };
