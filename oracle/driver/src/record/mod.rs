@@ -7,6 +7,7 @@ mod edges;
 mod forms;
 mod full;
 mod line;
+mod rows;
 mod store_call;
 mod writer;
 
@@ -26,7 +27,7 @@ use crate::store::memory::Left;
 use crate::verdicts;
 use crate::verdicts::call::Verdicts;
 use arguments::Recorded;
-use forms::form_of;
+use forms::{form_of, sources_of};
 use std::cell::RefCell;
 use std::collections::{BTreeMap, BTreeSet};
 use store_call::StoreCall;
@@ -241,7 +242,7 @@ fn one_line(operation: &Operation, input: &Input, expected: &Answer) -> String {
 /// The name and the arguments in the order of the C declaration.
 fn arguments_of(name: &str, input: &Input, outs: &[u64; 8], lent: &[u8]) -> String {
     let mut text = name.to_string();
-    for word in form_of(name).arguments.split_whitespace() {
+    for word in sources_of(name).split_whitespace() {
         let index: usize = word[1..].parse().unwrap_or_default();
         let argument = match &word[..1] {
             "t" => line::text(input.texts[index]),
