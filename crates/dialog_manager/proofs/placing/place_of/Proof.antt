@@ -52,12 +52,12 @@ r c = c .before .before .at .given .0 .1 .0
 stands : (c : tie.After-struct-known) → Stands (s (start c)) (found.At (at c) (r c))
 stands c = subst (Stands (s (start c))) (c .before .before .at .given .1) (c .before .before .before .before .search-id .ensures .1)
 
-sub-t10 : tie.Need-sub-t10
-sub-t10 c = let a = start c in ends-after (test a) (s a) (a .pre) (known c) (at c) (r c) (stands c)
+sub-t9 : tie.Need-sub-t9
+sub-t9 c = let a = start c in ends-after (test a) (s a) (a .pre) (known c) (at c) (r c) (stands c)
 
 returns-2 : tie.Need-returns-2
 returns-2 c = let a = start c in one-found (test a) (s a) (a .pre) (known c) (at c) (r c) (stands c) (sym (c .before .before .at .given .1) ∙ c .before .before .before .before .search-id .ensures .0)
 
 pub place-of-spec : {M : Type 1} → statement M
 place-of-spec =
-    tie.close (tie.spec search-id-requires enum-known-at enum-told returns sub-t10 returns-2)
+    tie.close (tie.spec search-id-requires enum-known-at enum-told returns sub-t9 returns-2)
