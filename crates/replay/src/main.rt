@@ -21,15 +21,15 @@ fn main() {
 }
 
 // Room for a list, or for the memory of a store.
-fn zeros() -> [u8; 720896]
-    ensures { λ r. ⌜ 720896 ≡ length r ⌝ }
+fn zeros() -> [u8; 786432]
+    ensures { λ r. ⌜ 786432 ≡ length r ⌝ }
 {
-    [0; 720896]
+    [0; 786432]
 }
 
 // The head of the list has a row for each of the 84 operations, and ends before the first empty line.
 fn replay(list: &[u8]) {
-    if list.len() == 720896 {
+    if list.len() == 786432 {
         show(b"the list is too long\n");
         return;
     }
