@@ -47,10 +47,11 @@ pub fn each_pair(run: &mut Run<Verdicts>, random: &mut Random) {
 /// The damage that only the number of entries has.
 const TOO_MANY: Damage = "4,097 verdicts";
 
-/// How often each list is gone through.
+/// How often each list is gone through, and how often the one from 4,095 verdicts each time.
 const TIMES: usize = 3;
+const TIMES_BELOW: usize = 8;
 
-/// From a few verdicts below 4,096 over it, with every way that the times can go; 5,000 from an empty run; 4,097 handed in.
+/// From a few verdicts below 4,096 over it, with every way that the times can go; from 4,095; 5,000 from an empty run; 4,097 handed in.
 pub fn each_full(run: &mut Run<Verdicts>, random: &mut Random) {
     for turn in 0..TIMES {
         let verdicts = rising(random, MOST - 4, turn);
@@ -61,6 +62,9 @@ pub fn each_full(run: &mut Run<Verdicts>, random: &mut Random) {
             if !done {
                 return;
             }
+        }
+        for _ in 0..TIMES_BELOW {
+            from_one_below(run, random, turn);
         }
         over(run, random, turn);
     }
@@ -76,6 +80,19 @@ fn rising(random: &mut Random, many: usize, turn: usize) -> Vec<Verdict> {
         _ => at as u64 * 1_000_000_000,
     };
     (0..many).map(|at| (time(at), number(random))).collect()
+}
+
+/// From 4,095 verdicts to 4,096, and one more, which drops the oldest; the worst minute before and after each.
+fn from_one_below(run: &mut Run<Verdicts>, random: &mut Random, turn: usize) {
+    let verdicts = rising(random, MOST - 1, turn);
+    let mut list = List::new(run, random, &encode(&verdicts), [0, 0]);
+    for _ in 0..2 {
+        let call = add((time(list.random, list.sides.book()), number(list.random)));
+        if !list.each_roomy(&[Call::Worst, call]) {
+            return;
+        }
+    }
+    list.each_roomy(&[Call::Worst]);
 }
 
 /// Both operations on 4,097 verdicts, which are no run.

@@ -26,7 +26,11 @@ abbrev μ-loop : tie.MeasureT-loop
 worse : (c : tie.Joined3 Inv-loop μ-loop)
     → _≡_ {A = Minute} (record { start = c .if3 .start; refusals = c .if3 .most })
     (let l = c .before .before .before .before .before .before .before .loop in orMore (record { start = l .start; refusals = l .most }) (record { start = l .w .start; refusals = l .w .refusals }))
-worse c = let l = c .before .before .before .before .before .before .before .loop in ⊎-elim (λ k. has-more _ _ (k .0 .taken) (k .1) (k .2)) (λ k. has-no-more _ _ (k .0 .left) (k .1) (k .2)) (c .if3 .came)
+worse c =
+    let l = c .before .before .before .before .before .before .before .loop in
+    let best : Minute = record { start = l .start; refusals = l .most } in
+    let m : Minute = record { start = l .w .start; refusals = l .w .refusals } in
+    ⊎-elim (λ k. has-more best m (omega (arith, k .0 .taken)) (k .1) (k .2)) (λ k. has-no-more best m (omega (arith, k .0 .left)) (k .1) (k .2)) (c .if3 .came)
 
 -- the window is where the verdict at the place belongs to it
 ready : (c : tie.Joined2 Inv-loop μ-loop)
@@ -41,8 +45,8 @@ ready c =
     ⊎-elim
     (λ k.
     let j : tie.Joined3 Inv-loop μ-loop = record { before = record { before = record { before = c .before; if2 = k .0 }; struct-known2 = k .1 }; if3 = k .2 } in
-    ready-as s (record { start = k .2 .start; refusals = k .2 .most }) (moved-on s (p .1) (p .0) (l .loop .inv) h e f (k .0 .taken) (k .3 .ensures) (worse j)) (k .4) (k .5) (k .6))
-    (λ k. ready-as s (record { start = l .loop .start; refusals = l .loop .most }) (stays s (p .1) (p .0) (l .loop .inv) h e f (k .0 .left)) (k .1) (k .2) (k .3))
+    ready-as s (record { start = k .2 .start; refusals = k .2 .most }) (moved-on s (p .1) (p .0) (l .loop .inv) h e f (omega (arith, k .0 .taken)) (k .3 .ensures) (worse j)) (k .4) (k .5) (k .6))
+    (λ k. ready-as s (record { start = l .loop .start; refusals = l .loop .most }) (stays s (p .1) (p .0) (l .loop .inv) h e f (omega (arith, k .0 .left))) (k .1) (k .2) (k .3))
     (c .if2 .came)
 
 -- at the end the answer is the worst so far with the window
@@ -115,13 +119,13 @@ returns-2 : tie.Need-returns-2 Inv-loop μ-loop
 returns-2 c =
     let l = c .before .before .before in
     ended (c .before .before)
-    (has-no-more (record { start = l .loop .start; refusals = l .loop .most }) (record { start = l .loop .w .start; refusals = l .loop .w .refusals }) (c .if5 .taken) refl refl)
+    (has-no-more (record { start = l .loop .start; refusals = l .loop .most }) (record { start = l .loop .w .start; refusals = l .loop .w .refusals }) (omega (arith, c .if5 .taken)) refl refl)
 
 returns-3 : tie.Need-returns-3 Inv-loop μ-loop
 returns-3 c =
     let l = c .before .before .before in
     ended (c .before .before)
-    (has-more (record { start = l .loop .start; refusals = l .loop .most }) (record { start = l .loop .w .start; refusals = l .loop .w .refusals }) (c .if5 .left) refl refl)
+    (has-more (record { start = l .loop .start; refusals = l .loop .most }) (record { start = l .loop .w .start; refusals = l .loop .w .refusals }) (omega (arith, c .if5 .left)) refl refl)
 
 pub count-spec : {M : Type 1} → statement M
 count-spec =
