@@ -131,7 +131,8 @@ static void test_worst(void)
     /* the start included, the end excluded */
     WORST(2, 0, {0, 1}, {MINUTE - 1, 1});
     WORST(1, 0, {0, 1}, {MINUTE, 1});
-    WORST(2, 1, {0, 1}, {1, 1}, {MINUTE, 1});
+    WORST(2, 0, {0, 1}, {1, 1}, {MINUTE, 1});
+    WORST(2, 1, {0, 0}, {1, 1}, {MINUTE, 1});
     /* the earliest of equals, and the later one with more */
     WORST(2, 10, {10, 9}, {20, 9}, {2 * MINUTE, 9}, {2 * MINUTE + 1, 9});
     WORST(3, 2 * MINUTE, {10, 9}, {20, 9}, {2 * MINUTE, 9}, {2 * MINUTE + 1, 9}, {2 * MINUTE + 1, 9});
