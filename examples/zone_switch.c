@@ -19,11 +19,19 @@
 /* A text as the library takes it: where it starts, and how many bytes it has. */
 #define TEXT(text) (const uint8_t *)(text), strlen(text)
 
-/* All that is remembered between two calls: the records, how many bytes they use, and the two counts. */
+/* All that is remembered between two calls: the records, how many bytes they use, and the two counts; and the verdicts of the
+   requests, with how many bytes they use. */
 static uint8_t store[4096];
 static size_t used;
 static uint64_t created;
 static uint64_t terminated;
+static uint8_t verdicts[SIP_DIALOG_RUN_SIZE];
+static size_t verdicts_used;
+
+/* The clock, in nanoseconds: here a request comes every 20 s. */
+static uint64_t now;
+
+enum { SECOND = 1000000000 };
 
 /* What a request's verdict means to the people at the switch. */
 static const char *words(uint8_t number)
@@ -124,6 +132,8 @@ static void judge(const char *method, const char *block)
 {
     uint8_t number = sip_dialog_request(TEXT(method), TEXT(block), store, sizeof store, &used);
 
+    must("add_verdict", sip_dialog_add_verdict(now, number, verdicts, sizeof verdicts, &verdicts_used));
+    now += 20 * (uint64_t)SECOND;
     printf("%s (%u)\n", words(number), (unsigned)number);
     if (number == SIP_DIALOG_BAD_STORE) {
         exit(EXIT_FAILURE);
@@ -163,6 +173,21 @@ static void print_identifiers(void)
     }
 }
 
+/* The minute with the most refused requests, which the people at the switch are to look into. */
+static void print_worst_minute(void)
+{
+    size_t refusals = 0;
+    uint8_t found = 0;
+    uint64_t start = 0;
+
+    must("worst_minute", sip_dialog_worst_minute(verdicts, sizeof verdicts, verdicts_used, &refusals, &found, &start));
+    printf("%zu refused in the worst minute", refusals);
+    if (found) {
+        printf(", from %llu s on", (unsigned long long)(start / SECOND));
+    }
+    putchar('\n');
+}
+
 int main(void)
 {
     static uint8_t listing[4096];
@@ -182,6 +207,7 @@ int main(void)
     judge("BYE", "Call-ID: hall2@control.example\nCSeq: 8 BYE\n");
     receive("INFO", "1007", "stair1");
     receive("BYE", "8", "hall2");
+    print_worst_minute();
     print_identifiers();
 
     must("sweep", sip_dialog_sweep(store, sizeof store, &used));

@@ -125,8 +125,9 @@ uint8_t sip_dialog_parse_uri_from_header(const uint8_t *value, size_t value_len,
 
 /* ---- Identifiers */
 
-/* The tag of a From or To value: place and length in the value; it may be empty. It is the first `;` segment that begins with
-   `tag=`, in quotes too. Refuses with 1, 2, 4 (no tag). */
+/* The tag of a From or To value: place and length in the value; it may be empty. It is what follows `tag=` in the first segment
+   that begins so. Segments end at semicolons outside quotes (in which a backslash covers the next byte) and outside angle brackets;
+   an opened quote or bracket holds all up to its own close or the end. Refuses with 1, 2, 4 (no tag). */
 uint8_t sip_dialog_extract_tag(const uint8_t *value, size_t value_len, size_t *place, size_t *length);
 
 /* Whether three texts may be a dialog's identifier. Refuses with 1 (any of them); then 25, 26, 27 of the Call-ID, then of the
@@ -504,6 +505,23 @@ uint64_t sip_dialog_record_terminated(uint64_t terminated);
 uint8_t sip_dialog_interval_contest(uint64_t requested, uint64_t min_se, uint8_t *has_first, uint64_t *first_least,
                                     uint64_t *first_most, uint8_t *has_retry, uint64_t *retry_least, uint64_t *retry_most,
                                     uint8_t *only_requested, uint64_t *least);
+
+/* ---- Refusals in the worst minute: a run of request verdicts in lent bytes (docs/LAYOUTS.md, "The run of verdicts"), of which `used`
+   are used: at most SIP_DIALOG_RUN_SIZE of them, 4,096 verdicts. An empty run has used 0. Refused, every byte and used stay;
+   accepted, bytes past the new used length stay. 3: used over run_len, or used bytes that aren't of the layout. */
+
+enum sip_dialog_run {
+    SIP_DIALOG_ENTRY_SIZE = 9,   /* the bytes of a verdict */
+    SIP_DIALOG_RUN_SIZE = 36864  /* the bytes of 4,096 */
+};
+
+/* Adds a verdict at the end: its time in nanoseconds, and its number, 0 where the request was taken (what sip_dialog_request returned). A
+   time below the last one is taken as that one. The 4,097th drops the oldest; then used stays. Refuses with 3, 18. */
+uint8_t sip_dialog_add_verdict(uint64_t time, uint8_t number, uint8_t *run, size_t run_len, size_t *used);
+
+/* The most refusals (numbers other than 0) in any 60 s that start at a verdict, the start included and the end excluded, in refusals; the
+   earliest start that has them in start, with found 1. An empty run gives refusals 0 and found 0, and start keeps its value. Refuses with 3. */
+uint8_t sip_dialog_worst_minute(const uint8_t *run, size_t run_len, size_t used, size_t *refusals, uint8_t *found, uint64_t *start);
 
 #ifdef __cplusplus
 }

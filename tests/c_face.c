@@ -517,9 +517,7 @@ static struct lookup extract_tag(const char *value)
 
 static void test_extract_tag(void)
 {
-    const char *quoted = "\"a;tag=x\" <sip:r@h>;tag=y";
     char buffer[LONGEST + 2];
-    CHECK(is_part(extract_tag(quoted), quoted, "x\" <sip:r@h>"));
     CHECK(is_at(extract_tag("<sip:a@h>;x;\t TaG=12\t;tag=3"), 18, 2));
     CHECK(is_at(extract_tag("tag=x"), 4, 1));
     CHECK(is_at(extract_tag("a;tag="), 6, 0));
@@ -532,6 +530,27 @@ static void test_extract_tag(void)
     CHECK(is_at(extract_tag(filled(buffer, "tag=", 'x', "", LONGEST)), 4, LONGEST - 4));
     CHECK(is_refused(extract_tag(filled(buffer, "tag=", 'x', "", LONGEST + 1)), 1));
     CHECK(is_refused(extract_tag(filled(buffer, "", '\r', "", LONGEST + 1)), 1));
+}
+
+/* Semicolons in quotes and in angle brackets: change request 3. */
+static void test_held_semicolons(void)
+{
+    char buffer[LONGEST + 2];
+    CHECK(is_at(extract_tag("\"a;tag=x\" <sip:r@h>;tag=y"), 24, 1));
+    CHECK(is_at(extract_tag("<sip:r@h;tag=x>;tag=y"), 20, 1));
+    CHECK(is_at(extract_tag("\"<\";tag=a"), 8, 1));
+    CHECK(is_at(extract_tag("<<a>;tag=b>"), 9, 2));
+    CHECK(is_at(extract_tag("<\"a>;tag=b"), 9, 1));
+    CHECK(is_refused(extract_tag("\"a;tag=x"), 4));
+    CHECK(is_refused(extract_tag("<a;tag=x"), 4));
+    CHECK(is_refused(extract_tag("\\\";tag=a"), 4));
+    CHECK(is_at(extract_tag("<\\>;tag=a"), 8, 1));
+    CHECK(is_at(extract_tag("\"\\\";tag=a\";tag=b"), 15, 1));
+    CHECK(is_at(extract_tag("\"\\\\\";tag=a"), 9, 1));
+    CHECK(is_at(extract_tag(";tag=\"a;b\""), 5, 5));
+    CHECK(is_at(extract_tag(filled(buffer, "\"", ';', "\";tag=z", LONGEST)), LONGEST - 1, 1));
+    CHECK(is_at(extract_tag(filled(buffer, "<", ';', ">;tag=z", LONGEST)), LONGEST - 1, 1));
+    CHECK(is_refused(extract_tag(filled(buffer, "\"", ';', ";tag=z", LONGEST)), 4));
 }
 
 static uint8_t dialog_id_new(const char *call_id, const char *local_tag, const char *remote_tag)
@@ -628,17 +647,21 @@ static bool id_is_refused(identifier_function *read, const char *block, uint8_t 
 static void test_identifier(identifier_function *read, const char *local, const char *remote)
 {
     const char *parts = "To:<sip:b@h>;tag=two\r\nfrom:<sip:a@h>;tag=one\r\nCALL-ID: id@x \r\n";
+    const char *held = "To:\"b;tag=x\" <sip:b@h>;tag=two\r\nfrom:<sip:a@h;tag=x>;tag=one\r\nCALL-ID: id@x \r\n";
     const char *empty = "From:;tag=\r\nTo:;tag=\r\nCall-ID:\r\n";
     char buffer[LONGEST + 2];
     struct identifier i = identifier_of(read, empty);
     CHECK(i.number == 0 && i.call_id == 30 && i.call_id_length == 0);
     CHECK(i.local_tag_length == 0 && i.remote_tag_length == 0 && i.local_tag + i.remote_tag == 10 + 20);
     CHECK(id_is(read, parts, "id@x", local, remote));
+    CHECK(id_is(read, held, "id@x", local, remote));
     CHECK(id_is(read, long_block(buffer, parts, LONGEST), "id@x", local, remote));
     CHECK(id_is_refused(read, long_block(buffer, parts, LONGEST + 1), 1));
     CHECK(id_is_refused(read, "From:;tag=one\r\nTo:;tag=two\r\n", 4));
     CHECK(id_is_refused(read, "From:a\r\nTo:;tag=two\r\nCall-ID:c\r\n", 4));
     CHECK(id_is_refused(read, "From:;tag=one\r\nTo:b\r\nCall-ID:c\r\n", 4));
+    CHECK(id_is_refused(read, "From:\"a;tag=one\"\r\nTo:;tag=two\r\nCall-ID:c\r\n", 4));
+    CHECK(id_is_refused(read, "From:;tag=one\r\nTo:<b;tag=two>\r\nCall-ID:c\r\n", 4));
     CHECK(id_is_refused(read, "From:;tag=one\r\nCall-ID:c\r\n", 4));
     CHECK(id_is_refused(read, "f:;tag=one\r\nt:;tag=two\r\ni:c\r\n", 4));
     CHECK(id_is_refused(read, "", 4));
@@ -1963,6 +1986,8 @@ static void test_image_matches_request(void)
     const char *request = "Call-ID:c1\r\nFrom:<sip:r@h>;tag=R\r\nTo:<sip:l@h>;tag=L\r\n";
     char buffer[LONGEST + 2];
     CHECK(match_is(request, sheet, 0, 1));
+    CHECK(match_is("Call-ID:c1\r\nFrom:\"a;tag=x\" <sip:r@h;lr>;tag=R\r\nTo:<sip:l@h;tag=x>;tag=L\r\n", sheet, 0, 1));
+    CHECK(match_is("Call-ID:c1\r\nFrom:\"a;tag=R\r\nTo:;tag=L\r\n", sheet, 0, 0));
     CHECK(match_is("Call-ID:c1\r\nFrom:;tag=L\r\nTo:;tag=R\r\n", sheet, 0, 0));
     CHECK(match_is("Call-ID:c2\r\nFrom:;tag=R\r\nTo:;tag=L\r\n", sheet, 0, 0));
     CHECK(match_is("Call-ID:c1\r\nFrom:;tag=r\r\nTo:;tag=L\r\n", sheet, 0, 0));
@@ -3111,12 +3136,13 @@ static void test_creation_identifier(creation_function *call)
     bool uac = call == sip_dialog_new_uac;
     size_t from_tag = uac ? NEW_LOCAL_TAG : NEW_REMOTE_TAG;
     size_t to_tag = uac ? NEW_REMOTE_TAG : NEW_LOCAL_TAG;
-    const char *mixed = "to: <sip:t@h>;x;TAG=U\r\nCALL-ID: \tid 1@x\t\r\nCall-ID:c2\r\nFROM:\"a;tag=G;b\" <sip:f@h>;tag=y\r\n";
+    const char *mixed = "to: <sip:t@h>;x;TAG=U\r\nCALL-ID: \tid 1@x\t\r\nCall-ID:c2\r\nFROM:\"a;tag=y;b\" <sip:f@h>;tag=G\r\n";
     /* for uac From's tag is the local one, for uas To's */
     CHECK(makes(with_response(c, mixed),
                 with_text(with_text(with_text(plain, from_tag, "G"), to_tag, "U"), NEW_CALL_ID, "id 1@x")));
     CHECK(makes(with_response(c, "Call-ID:c1\r\nFrom:;tag= F\r\nTo:tag=T\r\n"), with_text(plain, from_tag, " F")));
-    CHECK(makes(with_response(c, "Call-ID:c1\r\nFrom:;tag=F\r\nTo:<sip:t@h;tag=two>\r\n"), with_text(plain, to_tag, "two>")));
+    CHECK(makes(with_response(c, "Call-ID:c1\r\nFrom:;tag=F\r\nTo:<sip:t@h;tag=two>;tag=\"T;U\"\r\n"),
+                with_text(plain, to_tag, "\"T;U\"")));
     /* empty parts are taken, and have no field */
     CHECK(makes(with_response(c, "Call-ID:\r\nFrom:;tag=\r\nTo:;tag=\r\n"),
                 uac ? IMAGE("\0\xF8" "\6" "\0\7" "sip:r@h" "\0\7" "sip:l@h" "\0\7" "sip:r@h" "\0\0\0\5")
@@ -3146,6 +3172,8 @@ static void test_creation_no_identifier(creation_function *call)
     CHECK(is_not_made(with_response(c, "Call-ID:c1\r\nFrom:;tag=F\r\n"), 4));
     CHECK(is_not_made(with_response(c, "Call-ID:c1\r\nFrom:<sip:f@h>\r\nTo:;tag=T\r\n"), 4));
     CHECK(is_not_made(with_response(c, "Call-ID:c1\r\nFrom:;tag=F\r\nTo:<sip:t@h>;tag =T\r\n"), 4));
+    CHECK(is_not_made(with_response(c, "Call-ID:c1\r\nFrom:;tag=F\r\nTo:<sip:t@h;tag=T>\r\n"), 4));
+    CHECK(is_not_made(with_response(c, "Call-ID:c1\r\nFrom:\"a;tag=F\" <sip:f@h>\r\nTo:;tag=T\r\n"), 4));
     CHECK(is_not_made(with_response(c, ""), 4));
     CHECK(is_not_made(with_response(c, NULL), 4));
     CHECK(is_not_made(with_response(with_request(c, CSEQ IDENTIFIER), ""), 4));
@@ -3524,8 +3552,8 @@ int main(void)
 {
     static void (*const tests[])(void) = {
         test_check_block, test_bytes_of_blocks, test_header, test_next_header, test_status_codes, test_sip_uri,
-        test_sip_uri_refused, test_uri_estimate, test_parse_uri_from_header, test_extract_tag, test_dialog_id_new,
-        test_bytes_of_identifiers, test_identifiers, test_next_header_value, test_contact, test_route_count,
+        test_sip_uri_refused, test_uri_estimate, test_parse_uri_from_header, test_extract_tag, test_held_semicolons,
+        test_dialog_id_new, test_bytes_of_identifiers, test_identifiers, test_next_header_value, test_contact, test_route_count,
         test_long_routes, test_route, test_parse_session_expires, test_session_expires, test_cseq_number, test_rseq,
         test_cseq_method, test_is_reliable_provisional, test_method_number, test_method_text, test_parse_rack,
         test_format_rack, test_validate_session_expires, test_negotiate_session_expires, test_intervals, test_needs_refresh,
@@ -3537,7 +3565,7 @@ int main(void)
         test_image_request_rest, test_image_request_order, test_image_response_state, test_image_response_routes,
         test_image_response_most_routes, test_image_response_no_routes, test_image_response_interval,
         test_image_response_any_interval, test_image_response_target, test_image_response_parts, test_image_response_order,
-        test_new_uac, test_new_uas, test_counts, test_stores, test_rseq_stores, test_prack_stores, test_rfc_rows,
+        test_new_uac, test_new_uas, test_counts, test_stores, test_rseq_stores, test_prack_stores, test_rfc_rows, test_verdicts,
     };
     size_t i;
     for (i = 0; i < sizeof tests / sizeof tests[0]; i++) {

@@ -149,6 +149,10 @@ void test_rseq_stores(void);
 
 void test_prack_stores(void);
 
+/* ---- Tests of the calls on runs of verdicts, in tests/c_face_verdicts.c */
+
+void test_verdicts(void);
+
 /* ---- Rows of docs/DIFFERENCES.md, in tests/c_face_rfc.c */
 
 void test_rfc_rows(void);

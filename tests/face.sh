@@ -1,6 +1,6 @@
 #!/bin/sh
-# The C functions are declared alike in the sources, in include/sip_dialog.h and in the oracle's Rust (tests/face.py); and copies of the three, each with one thing
-# altered, are reported. Prints one line if all holds.
+# The C functions are declared in include/sip_dialog.h as in the sources, and all that is made from these is as it is made (tools/face); and copies, each with one
+# thing altered, are reported. Prints one line if all holds.
 set -eu
 cd "$(dirname "$0")/.."
 out=$(mktemp -d)
@@ -9,8 +9,17 @@ command -v python3 >/dev/null || { apt-get update -q && apt-get install -q -y py
 source=crates/sip_dialog/src
 header=include/sip_dialog.h
 oracle=oracle/port/src/c.rs
+rows=oracle/driver/src/record/rows.rs
+proofs=docs/PROOFS.md
+list=crates/replay/stdin
 runs=0
-python3 tests/face.py >"$out/same"
+python3 tools/face check >"$out/same"
+
+# What a copy is made from.
+for file in "$source"/* "$header" "$oracle" "$rows" "$proofs" "$list"; do
+    mkdir -p "$out/kept/$(dirname "$file")"
+    cp "$file" "$out/kept/$file"
+done
 
 # wrong WHAT: says which copy is not reported as expected, and what was said of it.
 wrong() {
@@ -22,15 +31,12 @@ wrong() {
 # alter WHAT FILE SED BEGIN: copies with FILE changed by SED; lines must be said of them, and each must begin with BEGIN.
 alter() {
     rm -rf "$out/copy"
-    for file in "$source"/* "$header" "$oracle"; do
-        mkdir -p "$out/copy/$(dirname "$file")"
-        cp "$file" "$out/copy/$file"
-    done
+    cp -r "$out/kept" "$out/copy"
     sed "$3" "$2" >"$out/copy/$2"
     : >"$out/said"
     ! cmp -s "$2" "$out/copy/$2" || wrong "$1 in $2 (nothing was altered)"
-    ! python3 tests/face.py "$out/copy" >"$out/said" 2>&1 || wrong "$1 in $2 (it was taken)"
-    [ -s "$out/said" ] && ! grep -v "^face.py: $4: " "$out/said" >/dev/null || wrong "$1 in $2 (of $4)"
+    ! python3 tools/face check "$out/copy" >"$out/said" 2>&1 || wrong "$1 in $2 (it was taken)"
+    [ -s "$out/said" ] && ! grep -v "^face: $4: " "$out/said" >/dev/null || wrong "$1 in $2 (of $4)"
     runs=$((runs + 1))
 }
 
@@ -51,18 +57,19 @@ alter "a function twice" "$header" '/sip_dialog_is_error(/s/$/ bool sip_dialog_i
 alter "a type that isn't known" "$header" '/sip_dialog_is_error(/s/uint16_t/int/' sip_dialog_is_error
 alter "a macro" "$header" 's/^#include <stddef.h>$/#define size_t int/' "$header"
 
-alter "another result" "$oracle" '/sip_dialog_is_error(/s/-> bool/-> u8/' sip_dialog_is_error
-alter "a wider number" "$oracle" '/sip_dialog_is_error(/s/u16/u32/' sip_dialog_is_error
-alter "a pointer to a wider number" "$oracle" '/sip_dialog_cseq_number(/s/\*mut u32/*mut u64/' sip_dialog_cseq_number
-alter "a number for a pointer" "$oracle" '/sip_dialog_route_count(/s/count: \*mut usize/count: usize/' sip_dialog_route_count
-alter "a byte run that may be written" "$oracle" '/sip_dialog_check_block(/s/\*const/*mut/' sip_dialog_check_block
-alter "another name" "$oracle" '/sip_dialog_extract_tag(/s/place:/tag:/' sip_dialog_extract_tag
-alter "another order" "$oracle" '/sip_dialog_extract_tag(/s/place: \*mut usize, length:/length: *mut usize, place:/' sip_dialog_extract_tag
-alter "a parameter less" "$oracle" '/sip_dialog_extract_tag(/s/, length: \*mut usize//' sip_dialog_extract_tag
-alter "a function less" "$oracle" '/sip_dialog_is_error(/d' sip_dialog_is_error
-alter "a function more" "$oracle" '/sip_dialog_is_error(/s/$/ pub fn sip_dialog_is_none(code: u16) -> bool;/' sip_dialog_is_none
-alter "a type that isn't known" "$oracle" '/sip_dialog_is_error(/s/u16/c_int/' sip_dialog_is_error
+alter "another result" "$oracle" '/sip_dialog_is_error(/s/-> bool/-> u8/' "$oracle"
+alter "a wider number" "$oracle" '/sip_dialog_is_error(/s/u16/u32/' "$oracle"
+alter "a byte run that may be written" "$oracle" '/sip_dialog_check_block(/s/\*const/*mut/' "$oracle"
+alter "another order" "$oracle" '/sip_dialog_extract_tag(/s/place: \*mut usize, length:/length: *mut usize, place:/' "$oracle"
+alter "a function less" "$oracle" '/sip_dialog_is_error(/d' "$oracle"
+alter "a function more" "$oracle" '/sip_dialog_is_error(/s/$/ pub fn sip_dialog_is_none(code: u16) -> bool;/' "$oracle"
 alter "a name for the linker" "$oracle" '/sip_dialog_is_error(/s/pub/#[link_name = "other"] pub/' "$oracle"
+alter "a kind" "$rows" '/"check_block"/s/t=n/n=n/' "$rows"
+alter "a row less" "$rows" '/"sweep"/d' "$rows"
+alter "another definition" "$proofs" 's/^| `sweep` | .*/| `sweep` | stores.rt | |/' "$proofs"
+alter "no mark" "$proofs" 's/^<!-- The end of that list. -->$//' "what is made"
+alter "a row" "$list" 's/^sweep sn=nn$/sweep sn=n/' "$list"
+alter "a row less" "$list" '/^interval_contest n*=/d' "$list"
 
 alter "another result" "$source/blocks.rt" '/sip_dialog_is_error(/s/-> bool/-> u8/' sip_dialog_is_error
 alter "a wider number" "$source/blocks.rt" '/sip_dialog_is_error(/s/u16/u32/' sip_dialog_is_error

@@ -18,6 +18,7 @@ import pathlib
 import re
 import subprocess
 import sys
+from fractions import Fraction
 
 ROOT = pathlib.Path(__file__).resolve().parent.parent
 LARGEST = 4294967295
@@ -104,7 +105,7 @@ def or_dash(n):
 
 
 def line(position, state, side, local, remote, last_ack, seconds, routes):
-    half = None if seconds is None else seconds // 2
+    half = None if seconds is None else round(Fraction(seconds, 2))  # to the nearest, a half to the even one
     columns = [position, state, side, local, remote, or_dash(last_ack), or_dash(seconds), or_dash(half), routes]
     return " ".join(map(str, columns)) + "\n"
 
@@ -282,8 +283,9 @@ def columns_and_numbers():
     good("last_ack_0_is_present", Record(last_ack=0))
     good("seconds_alone", Record(seconds=90))
     good("seconds_0_are_present", Record(seconds=0))
-    good("seconds_1_halved_are_0", Record(seconds=1))
-    good("seconds_odd_are_rounded_down", Record(seconds=1801))
+    for seconds, half in ((1, 0), (3, 2), (90, 45), (91, 46), (93, 46), (95, 48), (1801, 900), (1803, 902), (LARGEST, 2147483648)):
+        name = "refresh_second_of_%d" % seconds
+        case(name, image(Record(seconds=seconds)), "1 C uas 0 0 - %d %d 0\ntotal 1\n" % (seconds, half))
     good("refresher_uac_is_not_printed", Record(seconds=90, refresher=1))
     good("refresher_uas_without_seconds", Record(refresher=2))
     good("largest_numbers", Record(local=LARGEST, remote=LARGEST, last_ack=LARGEST, seconds=LARGEST))

@@ -21,16 +21,16 @@ use Rattle.text.specs.Answers.{lengthCause}
 use Rattle.msg.specs.Block.{linesAfter, isBlock, blockCause}
 use Rattle.output.specs.Output.{fitted}
 use Rattle.prack_headers.specs.Sequence.{cseqNumber}
-use Rattle.session_timer_manager.specs.Intervals.{secondsCause}
+use Rattle.session_seconds.specs.Seconds.{secondsCause}
 use Rattle.record.specs.Record.{State, early, confirmed, terminated, Record, Numbers, WellFormed, image}
 use Rattle.headers.specs.SessionExpires.{Interval, expiresNamed}
 use Rattle.record.specs.Changes.{withNumbers}
 use Rattle.record.specs.Rules.{Kind, ack, other, withRemote, withAck, withSeconds, ackStep, requestStep, confirmedState, confirmStep, intervalStep}
-use Rattle.dialog.specs.OneImage.{onlyOne, oneRecord}
-use Rattle.dialog.specs.Updates.{kindOf, retargeted, requestUpdate, isSuccess, confirms, intervalFrom, responseUpdate, intervalUpdate}
-use Rattle.dialog.proofs.StepLaws.{given-same, never-given, past-test}
-use Rattle.dialog.proofs.RefusalLaws.{passed-test, both-given}
-use Rattle.dialog.proofs.UpdateLaws.{Kept, response-kept, response-routes}
+use Rattle.dialog_rules.specs.OneImage.{onlyOne, oneRecord}
+use Rattle.dialog_rules.specs.Updates.{kindOf, retargeted, requestUpdate, isSuccess, confirms, intervalFrom, responseUpdate, intervalUpdate}
+use Rattle.dialog_rules.proofs.StepLaws.{given-same, never-given, past-test}
+use Rattle.dialog_rules.proofs.RefusalLaws.{passed-test, both-given}
+use Rattle.dialog_rules.proofs.UpdateLaws.{Kept, response-kept, response-routes}
 use Rattle.dialog_id.specs.Ident.{Ident, identCause}
 use Rattle.book.specs.Calls.{Update, request, response, terminate, localNumber, interval, Reading, get, findByRequest, findByCallId, count, allIds, Call, put, update, remove, sweep, read, lent, imageIn, Value, noValue, number, imageAt, written}
 use Rattle.book.specs.Book.{Book, Contents, size, identOf, isOf, firstPlace, namedIn, nameOf, find, findNamed, place, amend, others, Staying, living, stays, isTerminated, keep, isEarly, isFull, isCrowded, updateCause, readingCause, causeIn, argumentCause, revised, toldBy, placeOf, placeNamed, identifiersOf, reply, Change, set, alter, only, unchanged, revise, apply, Taken, taking, judge, fitting, decide, after, answerOf}
@@ -44,7 +44,7 @@ use Rattle.book.proofs.ChangeLaws.{bytes-of, full-off, crowded-off, acc
 use Rattle.book.proofs.IdentLaws.{same-ident}
 use Rattle.book.proofs.SentenceLaws.{new-last, fits-taken, only-size}
 use Rattle.book.proofs.ThoseLaws.{has-ident, none-found, none-before, found-there, names-ident, none-named, amended, placed-again, dropped, swept-those, early-others, place-behind, place-nowhere, not-held, all-unequal, ids-same, is-ack, is-other, image-given, no-image, value-given, least-given, lent-kept}
-use Rattle.distinct.proofs.Sames.{both, equal-same}
+use Rattle.text.proofs.Sames.{both, equal-same}
 
 -- ---- from the verdict to what the caller sees
 

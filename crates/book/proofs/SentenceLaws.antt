@@ -17,12 +17,12 @@ use Rattle.limits.specs.declared.Refusal.{Refusal}
 use Rattle.limits.specs.declared.Refusal.the-variants.{BadStore, NotFound, TooManyDialogs, TooManyEarlyDialogs, NoRoom}
 use Rattle.text.specs.Text.{equal}
 use Rattle.dialog_id.specs.DialogId.{Identifier, identifierOf, fromName, toName}
-use Rattle.distinct.proofs.Sames.{both, equal-same, equal-is}
-use Rattle.record.specs.Codec.{writeAll}
+use Rattle.text.proofs.Sames.{both, equal-same, equal-is}
+use Rattle.codec.specs.Codec.{writeAll}
 use Rattle.record.specs.Record.{State, early, confirmed, terminated, Record, image}
-use Rattle.dialog.specs.OneImage.{oneRecord}
-use Rattle.dialog.specs.Matching.{namedBy}
-use Rattle.dialog.proofs.StepLaws.{given-same, never-given}
+use Rattle.dialog_rules.specs.OneImage.{oneRecord}
+use Rattle.dialog_rules.specs.Matching.{namedBy}
+use Rattle.dialog_rules.proofs.StepLaws.{given-same, never-given}
 use Rattle.dialog_id.specs.Ident.{Ident}
 use Rattle.book.specs.Calls.{Reading, Call, put, remove, read, lent, Value, imageAt, noValue}
 use Rattle.book.specs.Book.{Book, Contents, recordsImage, size, identOf, isOf, swapped, namedIn, find, findNamed, place, Staying, others, living, isTerminated, stays, keep, isEarly, isEarlyOf, earlyIn, earlyOf, isFull, isCrowded, argumentCause, placeOf, reply, set, only, unchanged, revise, apply, Taken, taking, judge, fitting, decide, after}

@@ -8,7 +8,7 @@ use mathlib.Core.Option.{none, some}
 use lib.ListN.{length, take, drop}
 use lib.Seq.{take-append-seam, drop-append-seam, drop-append-add}
 use Rattle.edit.specs.Edit.{spliced}
-use Rattle.record.specs.Codec.{writeAll}
+use Rattle.codec.specs.Codec.{writeAll}
 use Rattle.record.specs.Record.{Record, image}
 use Rattle.dialog_id.specs.Ident.{Ident}
 use Rattle.book.specs.Book.{Book, recordsImage, identOf, find, place, amend, Staying, others, stays, keep}

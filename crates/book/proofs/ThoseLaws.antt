@@ -16,15 +16,15 @@ use Rattle.limits.specs.declared.Refusal.{Refusal}
 use Rattle.limits.specs.declared.Refusal.the-variants.{BadStore, SessionExpiresTooSmall}
 use Rattle.text.specs.Text.{Piece, equal}
 use Rattle.msg.specs.Block.{valueNamed}
-use Rattle.distinct.proofs.Sames.{equal-same, equal-is}
-use Rattle.record.specs.Codec.{Reading, text, writeAll}
+use Rattle.text.proofs.Sames.{equal-same, equal-is}
+use Rattle.codec.specs.Codec.{Reading, text, writeAll}
 use Rattle.record.specs.Record.{State, early, confirmed, terminated, Record, WellFormed, image}
 use Rattle.record.specs.Rules.{Kind, ack, other}
-use Rattle.record.proofs.CodecLaws.{Bytes}
+use Rattle.codec.proofs.CodecLaws.{Bytes}
 use Rattle.record.proofs.WellFormedLaws.{image-round, image-back}
-use Rattle.dialog.specs.OneImage.{alone, onlyOne, oneRecord}
-use Rattle.dialog.specs.Updates.{ackName, kindOf}
-use Rattle.dialog.proofs.RefusalLaws.{was-read}
+use Rattle.dialog_rules.specs.OneImage.{alone, onlyOne, oneRecord}
+use Rattle.dialog_rules.specs.Updates.{ackName, kindOf}
+use Rattle.dialog_rules.proofs.RefusalLaws.{was-read}
 use Rattle.dialog_id.specs.Ident.{Ident, sameIdent}
 use Rattle.dialog_id.specs.DialogId.{Identifier, callIdName, fromName, toName, tagNamed, identifier, identifierOf}
 use Rattle.book.specs.Calls.{Value, noValue, number, imageAt, written}

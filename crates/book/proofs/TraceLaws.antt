@@ -9,7 +9,7 @@ use mathlib.Core.List.{List, [], _∷_}
 use mathlib.Core.Option.{Option, none, some}
 use lib.ListN.{length}
 use Rattle.text.specs.Text.{equal}
-use Rattle.distinct.proofs.Sames.{both, equal-same, equal-is}
+use Rattle.text.proofs.Sames.{both, equal-same, equal-is}
 use Rattle.record.specs.Record.{State, early, confirmed, terminated, Record}
 use Rattle.book.specs.Trace.{All, orEarlier, isSome, stage, sameRoutes, Course, Step, remoteBy, lastPut, putsAnew, callsSince, Moment, between, moments, Leads, Story, Forward, routeChanges, Confirms, OnlyConfirming, Told}
 use Rattle.book.proofs.BookLaws.{some-is, no-record}

@@ -1,7 +1,7 @@
 -- The book of demand 3. Document 01, "The book of demand 3": the book starts empty, is told the calls' arguments and nothing from the store or its
 -- answers; it refuses a call exactly when the table of "Turned back", read over the book, turns it back. An accepted put sets its identifier's record,
 -- a removal drops one, a sweep all that are Terminated; a taken request and the four calls by identifier change their record by the definitions of
--- demand 2 (dialog/specs/Updates.antt); look-ups, other readings and refused calls change nothing.
+-- demand 2 (dialog_rules/specs/Updates.antt); look-ups, other readings and refused calls change nothing.
 use Prim.Native.Nat.{ℕ, _+_}
 use mathlib.Core.Bool.{Bool, true, false, cond, not, _&&_}
 use mathlib.Core.List.{List, [], _∷_, _++_}
@@ -17,14 +17,13 @@ use Rattle.text.specs.Answers.{lengthCause}
 use Rattle.msg.specs.Block.{blockCause}
 use Rattle.dialog_id.specs.DialogId.{Identifier, identifierOf, fromName, toName}
 use Rattle.output.specs.Output.{fitted}
-use Rattle.record.specs.Codec.{text}
+use Rattle.codec.specs.Codec.{text}
 use Rattle.record.specs.Record.{State, early, confirmed, terminated, Record, image}
 use Rattle.record.specs.Store.{encodeAll, decodeAll}
-use Rattle.dialog.specs.OneImage.{oneRecord}
-use Rattle.dialog.specs.Updates.{kindOf, requestUpdate, responseUpdate, terminateUpdate, localUpdate, intervalUpdate}
+use Rattle.dialog_rules.specs.OneImage.{oneRecord}
+use Rattle.dialog_rules.specs.Updates.{kindOf, requestUpdate, responseUpdate, terminateUpdate, localUpdate, intervalUpdate}
 use Rattle.dialog_id.specs.Ident.{Ident, ident, sameIdent, identCause}
-use Rattle.book.specs.Calls.{Update, request, response, terminate, localNumber, interval, Reading, get, findByRequest, findByCallId, count, allIds}
-use Rattle.book.specs.Calls.{Call, put, update, remove, sweep, read, lent, Value, noValue, number, imageAt, written, Answer}
+use Rattle.book.specs.Calls.{Update, request, response, terminate, localNumber, interval, Reading, get, findByRequest, findByCallId, count, allIds, Call, put, update, remove, sweep, read, lent, Value, noValue, number, imageAt, written, Answer}
 
 -- the records held, in order
 abbrev pub Book : Type 0

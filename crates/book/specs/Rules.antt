@@ -15,12 +15,12 @@ use Rattle.limits.specs.Limits.{LimitSet}
 use Rattle.text.specs.Text.{Piece, equal}
 use Rattle.msg.specs.Block.{isBlock, valueNamed}
 use Rattle.edit.specs.Edit.{over}
-use Rattle.record.specs.Codec.{text}
+use Rattle.codec.specs.Codec.{text}
 use Rattle.record.specs.Record.{early, confirmed, terminated, Record, WellFormed, image}
 use Rattle.record.specs.Changes.{withNumbers}
 use Rattle.record.specs.Rules.{withAck, withState, withSeconds}
 use Rattle.prack_headers.specs.Sequence.{cseqNumber}
-use Rattle.dialog.specs.Updates.{ackName, retargeted, responseUpdate}
+use Rattle.dialog_rules.specs.Updates.{ackName, retargeted, responseUpdate}
 use Rattle.dialog_id.specs.Ident.{Ident, ident}
 use Rattle.dialog_id.specs.DialogId.{callIdName, fromName, toName, tagNamed}
 use Rattle.book.specs.Calls.{Update, request, response, terminate, localNumber, interval, Reading, get, findByRequest, findByCallId, count, allIds, Call, put, update, remove, sweep, read, lent, Value, noValue, number, imageAt, written}

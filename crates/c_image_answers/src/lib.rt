@@ -5,12 +5,12 @@ use dialog::ImageAnswer;
 use dialog::Matches;
 use dialog::Refresh;
 use dialog_changes::Raised;
+use image::either;
 use output::Written;
 use record::Optional;
 use record::Refresher;
 use record::State;
 ghost use mathlib.Core.Path.{_≡_};
-ghost use mathlib.Core.Bool.{_||_};
 ghost use Rattle.c_image_answers.specs.Given.{stateNumber, optionalFlag, optionalAfter, refresherNumber, ImageIdGives, StateGives, UrisGives, NumbersGives, RouteCountGives, MatchesGives, RefreshGives, RaisedGives, SetGives};
 
 pub fn give_image_id(
@@ -194,15 +194,6 @@ fn state_number(s: State) -> u8
         State::Confirmed => 2,
         State::Terminated => 3,
     }
-}
-
-fn either(a: bool, b: bool) -> bool
-    ensures { λ r. ⌜ r ≡ a || b ⌝ }
-{
-    if a {
-        return true;
-    }
-    b
 }
 
 fn optional_flag(o: Optional) -> u8

@@ -8,27 +8,26 @@ use mathlib.Core.Option.{Option, none, some}
 use lib.ListN.{length, take}
 use lib.Dec.{ltb}
 use Rattle.limits.specs.Limits.{LimitSet}
-use Rattle.limits.specs.Outcome.{Outcome, refused, given, refuseBy, refuseIf, andThen, orRefuse, numberIn}
+use Rattle.limits.specs.Outcome.{refused, given, refuseIf, orRefuse, numberIn}
 use Rattle.limits.specs.declared.Refusal.{Refusal}
-use Rattle.limits.specs.declared.Refusal.the-variants.{BadStore, NotFound, NoRoom}
-use Rattle.output.specs.Output.{fitted}
+use Rattle.limits.specs.declared.Refusal.the-variants.{BadStore}
 use Rattle.output.specs.declared.Written.{Written}
 use Rattle.output.specs.declared.Written.the-variants as written
-use Rattle.record.specs.Record.{Record}
-use Rattle.record.proofs.CodecLaws.{Bytes}
+use Rattle.codec.proofs.CodecLaws.{Bytes}
 use Rattle.store.specs.Counting.{recordsHeld, countAnswer}
 use Rattle.store.specs.declared.Held.{Held}
 use Rattle.store.specs.declared.Held.the-variants as held
-use Rattle.dialog.specs.Updates.{localUpdate}
 use Rattle.dialog_changes.specs.declared.Raised.{Raised}
 use Rattle.dialog_changes.specs.declared.Raised.the-variants as raised
 use Rattle.dialog_id.specs.Ident.{Ident}
-use Rattle.book.specs.Calls.{localNumber, Call, update, read, count, allIds, Value, noValue, number, imageAt, Answer}
-use Rattle.book.specs.Calls as calls
+use Rattle.book.specs.Calls.{localNumber, Call, update, read, count, allIds, Value, number, Answer}
 use Rattle.record.specs.Store.{decodeAll}
-use Rattle.book.specs.Book.{Book, Contents, contentsOf, size, find, alter, unchanged, Taken, apply, argumentCause, readingCause, revised, judge, reply, identifiersOf}
-use Rattle.book.specs.Store.{Left, Result, resultOf, verdict, leave, run}
-use Rattle.book.specs.Returned.{Returns, numberAfter, lengthAfter, leastAfter, writtenBy, writtenIn, raisedBy, raisedIn, idsWritten}
+use Rattle.book.specs.Book.{Book, readingCause, reply}
+use Rattle.book.specs.Store.{run}
+use Rattle.book.specs.Returned.{Returns, numberAfter, lengthAfter, leastAfter}
+use Rattle.book.proofs.ReadingLaws.{local-value, identifiers-value}
+use Rattle.dialog_manager.specs.Answers.{writtenBy, writtenIn, idsWritten}
+use Rattle.store_entries.specs.Entries.{raisedBy, raisedIn}
 use Rattle.dialog_manager.proofs.LookupLaws.{Kept, kept, store-refuses, replies}
 use Rattle.c_answers.specs.Given.{WrittenGives, writtenNumber, writtenAfter, HeldGives, heldNumber, heldAfter}
 use Rattle.c_image_answers.specs.Given.{RaisedGives, RaisedNumbers, raisedNumber, raisedAfter, SetGives, SetNumbers, setNumber, setAfter}
@@ -67,28 +66,8 @@ module _ (L : LimitSet) (n : ℕ) (i : Ident) (bytes : List ℕ) (used : ℕ) wh
   abbrev the-call : Call
   the-call = update n (localNumber i)
 
-  abbrev told : Record → Taken
-  told now = record { change = alter now; value = number (now .numbers .local) }
-
-  numbered : Numbered (run L the-call bytes used .answer)
-  unfolding run verdict judge revised
-  numbered = by (argumentCause L the-call) (ltb (length bytes) used) (decodeAll (take used bytes))
-    where
-      full : (b : Contents) (now : Record) (t : Bool) → Numbered (leave bytes used (refuseIf t NoRoom (given (resultOf b (told now)))) .answer)
-      full b now true = tt
-      full b now false = λ old. refl
-
-      on : (b : Contents) (o : Option Record)
-          → Numbered (leave bytes used (andThen (andThen (orRefuse NotFound o) (λ r. given (told (localUpdate r)))) (λ t. refuseIf (ltb (length bytes) (size (apply (t .change) b))) NoRoom (given (resultOf b t)))) .answer)
-      on b none = tt
-      on b (some r) = full b (localUpdate r) (ltb (length bytes) (size (apply (alter (localUpdate r)) b)))
-
-      by : (a : Option Refusal) (t : Bool) (o : Option Book)
-          → Numbered (leave bytes used (refuseBy a (refuseIf t BadStore (andThen (orRefuse BadStore (contentsOf o)) (λ b. andThen (andThen (orRefuse NotFound (find i (b .records))) (λ r. given (told (localUpdate r)))) (λ t. refuseIf (ltb (length bytes) (size (apply (t .change) b))) NoRoom (given (resultOf b t))))))) .answer)
-      by (some cause) t o = tt
-      by none true o = tt
-      by none false none = tt
-      by none false (some b) = on (record { records = b }) (find i b)
+  numbered : (v : Value) → run L the-call bytes used .answer ≡ given v → Numbered (given v)
+  numbered v e = let k = local-value L n bytes used v i e in subst (λ (x : Value). Numbered (given x)) (sym (k .1)) (λ old. refl)
 
   pub raised-returns : (w : Raised) (after : List ℕ) (old : ℕ) (left : RaisedNumbers) (r : ℕ) → w ≡ raisedIn (run L the-call bytes used)
       → after ≡ run L the-call bytes used .bytes → RaisedGives w (record { used = used; number = old }) r left
@@ -107,7 +86,7 @@ module _ (L : LimitSet) (n : ℕ) (i : Ident) (bytes : List ℕ) (used : ℕ) wh
       by (given v) m p q =
           let x : w ≡ raised.To (numberAfter (given v) 0) m = e ∙ (ap (raisedBy (run L the-call bytes used .used)) p ∙ ap (raised.To (numberAfter (given v) 0)) q) in
           let y : left ≡ record { used = m; number = numberAfter (given v) 0 } = g .left-is ∙ ap (λ (z : Raised). raisedAfter z (record { used = used; number = old })) x in
-          let k : Numbered (given v) = subst Numbered p numbered in (
+          let k : Numbered (given v) = numbered v p in (
             written-returns L the-call bytes used (written.Length m) after (left .used) r (sym (ap (writtenBy (run L the-call bytes used .used)) p ∙ ap written.Length q)) b
                 (record { number-is = g .number-is ∙ ap raisedNumber x; left-is = ap (λ (z : RaisedNumbers). z .used) y }),
             ap (λ (z : RaisedNumbers). z .number) y ∙ (k old ∙ sym (ap (λ (a : Answer). numberAfter a old) p)),
@@ -157,26 +136,8 @@ Sized (refused cause) = Unit {0}
 Sized (given v) = (old : ℕ) → lengthAfter (given v) 0 ≡ lengthAfter (given v) old
 
 module _ (L : LimitSet) (n room : ℕ) (bytes : List ℕ) (used : ℕ) where
-  abbrev ended : Contents → Outcome (List ℕ) → Outcome Result
-  ended b o = andThen (andThen (andThen o (λ s. given (calls.written s))) (λ v. given (record { change = unchanged; value = v }))) (λ t. refuseIf (ltb (length bytes) (size (apply (t .change) b))) NoRoom (given (resultOf b t)))
-
-  sized : Sized (run L (read n (allIds room)) bytes used .answer)
-  unfolding run verdict judge reply
-  sized = by (argumentCause L (read n (allIds room))) (ltb (length bytes) used) (decodeAll (take used bytes))
-    where
-      full : (b : Contents) (s : List ℕ) (t : Bool) → Sized (leave bytes used (refuseIf t NoRoom (given (resultOf b (record { change = unchanged; value = calls.written s })))) .answer)
-      full b s true = tt
-      full b s false = λ old. refl
-
-      on : (b : Contents) (o : Outcome (List ℕ)) → Sized (leave bytes used (ended b o) .answer)
-      on b (refused cause) = tt
-      on b (given s) = full b s (ltb (length bytes) (size b))
-
-      by : (a : Option Refusal) (t : Bool) (o : Option Book) → Sized (leave bytes used (refuseBy a (refuseIf t BadStore (andThen (orRefuse BadStore (contentsOf o)) (λ b. ended b (fitted room (identifiersOf (b .records))))))) .answer)
-      by (some cause) t o = tt
-      by none true o = tt
-      by none false none = tt
-      by none false (some b) = on (record { records = b }) (fitted room (identifiersOf b))
+  sized : (v : Value) → run L (read n (allIds room)) bytes used .answer ≡ given v → Sized (given v)
+  sized v e = let k = identifiers-value L n bytes used v room e in subst (λ (x : Value). Sized (given x)) (sym (k .1)) (λ old. refl)
 
   pub ids-answers : (w : Written) (old r left : ℕ) → w ≡ idsWritten (run L (read n (allIds room)) bytes used .answer) → WrittenGives w old r left
       → (r ≡ numberIn (run L (read n (allIds room)) bytes used .answer)) × (left ≡ lengthAfter (run L (read n (allIds room)) bytes used .answer) old)
@@ -189,5 +150,5 @@ module _ (L : LimitSet) (n room : ℕ) (bytes : List ℕ) (used : ℕ) where
           (g .number-is ∙ (ap writtenNumber x ∙ sym (ap numberIn p)), g .left-is ∙ (ap (λ (z : Written). writtenAfter z old) x ∙ sym (ap (λ (a : Answer). lengthAfter a old) p)))
       by (given v) p =
           let x : w ≡ written.Length (lengthAfter (given v) 0) = e ∙ ap idsWritten p in
-          let k : Sized (given v) = subst Sized p sized in
+          let k : Sized (given v) = sized v p in
           (g .number-is ∙ (ap writtenNumber x ∙ sym (ap numberIn p)), g .left-is ∙ (ap (λ (z : Written). writtenAfter z old) x ∙ (k old ∙ sym (ap (λ (a : Answer). lengthAfter a old) p))))

@@ -21,7 +21,7 @@ use Rattle.uri.specs.declared.SipUri.{SipUri}
 use Rattle.uri.specs.declared.Uri.the-variants as uri
 use Rattle.uri.proofs.Laws.{over-is}
 use Rattle.record.specs.Record.{isRead}
-use Rattle.dialog.specs.Creation.{formCause, isOver}
+use Rattle.dialog_rules.specs.Creation.{formCause, isOver}
 use Rattle.creation_checks.specs.Given.{creationOf}
 
 -- ---- one check after another

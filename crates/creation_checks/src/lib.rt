@@ -8,7 +8,7 @@ ghost use Prim.Native.Nat.{_≤_};
 ghost use lib.ListN.{length};
 ghost use Rattle.limits.specs.Limits.{rustLimits};
 ghost use Rattle.limits.specs.Outcome.{orElse, checkOf};
-ghost use Rattle.dialog.specs.Creation.{textsCause, formCause, uriCause, estimateCause};
+ghost use Rattle.dialog_rules.specs.Creation.{textsCause, formCause, uriCause, estimateCause};
 ghost use Rattle.creation_checks.specs.Given.{creationOf};
 
 // 1 of every text.

@@ -33,9 +33,9 @@ use Rattle.record.specs.NumbersForm.{meaning, outcomeIn}
 use Rattle.record.specs.declared.numbers.Numbers.{Numbers as CodeNumbers}
 use Rattle.record.specs.declared.numbers.Step.{Step}
 use Rattle.record.specs.declared.numbers.Step.the-variants as step
-use Rattle.dialog.specs.Creation.{numbersAt, intervalCause}
-use Rattle.dialog.specs.Updates.{textOr, intervalFrom}
-use Rattle.dialog.proofs.PlacedLaws.{contact-placed}
+use Rattle.dialog_rules.specs.Creation.{numbersAt, intervalCause}
+use Rattle.dialog_rules.specs.Updates.{textOr, intervalFrom}
+use Rattle.dialog_rules.proofs.PlacedLaws.{contact-placed}
 use Rattle.route_section.specs.Section.{sectionOf, routeTexts, sectionFrom}
 use Rattle.route_section.specs.declared.Section.the-variants as section
 use Rattle.creation_readings.specs.Steps.{targetPointer, intervalIn, secondsIn, refresherIn, remainderBy}

@@ -1,5 +1,5 @@
 -- Steps of the code: which message a creation reads for what, the state, the numbers and the size of the routes' section. What a creation makes is in
--- dialog/specs/Creation.antt.
+-- dialog_rules/specs/Creation.antt.
 use Prim.Native.Nat.{ℕ}
 use mathlib.Core.Bool.{Bool, true, false}
 use mathlib.Core.List.{List}
@@ -16,8 +16,8 @@ use Rattle.headers.specs.declared.session_timer.Expires.the-variants as expires
 use Rattle.route_set.specs.Routes.{routesOf}
 use Rattle.record.specs.Record.{State, Side, uac, uas, Numbers}
 use Rattle.record.specs.NumbersForm.{meaning, stateFrom}
-use Rattle.dialog.specs.Creation.{numbersAt, sequenceIn, intervalCause}
-use Rattle.dialog.specs.Updates.{sideOf, intervalFrom}
+use Rattle.dialog_rules.specs.Creation.{numbersAt, sequenceIn, intervalCause}
+use Rattle.dialog_rules.specs.Updates.{sideOf, intervalFrom}
 use Rattle.route_section.specs.Section.{sectionOf, routeTexts}
 use Rattle.creation_readings.specs.declared.FirstState.{FirstState}
 use Rattle.creation_readings.specs.declared.FirstState.the-variants as first

@@ -13,8 +13,8 @@ use record::Step;
 use route_section::Section;
 use route_section::measure_routes;
 use route_set::Contact;
-use session_timer_manager::CheckedSeconds;
-use session_timer_manager::check_expires_seconds;
+use session_seconds::CheckedSeconds;
+use session_seconds::check_expires_seconds;
 use text::Number;
 ghost use mathlib.Core.Path.{_≡_};
 ghost use Prim.Native.Nat.{_≤_};
@@ -25,8 +25,8 @@ ghost use Rattle.dialog_id.specs.DialogId.{idFrom};
 ghost use Rattle.route_set.specs.Routes.{contactOf};
 ghost use Rattle.prack_headers.specs.Sequence.{numberAnswer};
 ghost use Rattle.record.specs.NumbersForm.{meaning, stateIn, numberIn, sideIn, outcomeIn};
-ghost use Rattle.dialog.specs.Creation.{numbersAt, stateBy, sequenceIn, intervalCause};
-ghost use Rattle.dialog.specs.Updates.{textOr, intervalFrom};
+ghost use Rattle.dialog_rules.specs.Creation.{numbersAt, stateBy, sequenceIn, intervalCause};
+ghost use Rattle.dialog_rules.specs.Updates.{textOr, intervalFrom};
 ghost use Rattle.creation_readings.specs.Steps.{sideFor, peerOf, identifierFor, targetPointer, firstState, intervalIn, secondsIn, refresherIn, numbersIn, remainderOf, remainderIn};
 
 // The state that a new record starts in.

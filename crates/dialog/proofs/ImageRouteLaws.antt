@@ -13,9 +13,9 @@ use Rattle.text.specs.Text.{Piece}
 use Rattle.text.specs.Answers.{lookupOf}
 use Rattle.text.specs.declared.Lookup.{Lookup}
 use Rattle.text.specs.declared.Lookup.the-variants as lookup
-use Rattle.record.specs.Codec.{Reading, two, writeAll}
+use Rattle.codec.specs.Codec.{Reading, two, writeAll}
 use Rattle.record.specs.Record.{Record, Numbers, isFilled, uriText, routesField, image}
-use Rattle.record.proofs.CodecLaws.{Bytes, bytes-all}
+use Rattle.codec.proofs.CodecLaws.{Bytes, bytes-all}
 use Rattle.record.proofs.WellFormedLaws.{image-back}
 use Rattle.image.specs.Places.{idsOf, urisOf, recordPlaces}
 use Rattle.image.specs.declared.RecordAt.{RecordAt}
@@ -23,7 +23,8 @@ use Rattle.image_writer.specs.Parts.{idsBytes, urisBytes, numbersBytes, mapOfPa
 use Rattle.image_writer.proofs.FieldLaws.{uris-size, numbers-size}
 use Rattle.image_writer.proofs.ImageLaws.{partsIn, routesBytes, image-parts}
 use Rattle.image_edit.proofs.ImageCuts.{ids-end}
-use Rattle.dialog.specs.OneImage.{alone, onlyOne, oneRecord, imageAnswer}
+use Rattle.dialog_rules.specs.OneImage.{alone, onlyOne, oneRecord}
+use Rattle.dialog.specs.Readings.{imageAnswer}
 use Rattle.dialog.specs.ImageRoutes.{textAt, routeAt, imageRoute}
 use Rattle.dialog.specs.declared.readings.ImageAnswer.the-variants as answer
 

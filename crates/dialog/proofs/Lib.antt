@@ -1,12 +1,3 @@
-pub mod CreatedLaws
-pub mod FormedLaws
 pub mod ImageRouteLaws
 pub mod MatchLaws
-pub mod OneImageLaws
-pub mod PieceLaws
-pub mod PlacedLaws
-pub mod ReadLaws
-pub mod RefusalLaws
-pub mod RouteLaws
-pub mod StepLaws
-pub mod UpdateLaws
+pub mod ReadingLaws

@@ -1,57 +1,39 @@
 -- A request's identifier held against a record's: the bytes compared are the texts. Assumes nothing.
 use Prim.Native.Nat.{ℕ, _+_, _-_, _≤_}
 use native.Mathlib.Omega.{arith}
-use mathlib.Core.Path.{_≡_, refl, sym, ap, ap₂, subst, _∙_}
+use mathlib.Core.Path.{_≡_, refl, sym, ap, subst, _∙_}
 use mathlib.Core.Bool.{Bool, true, false, _&&_}
 use mathlib.Core.List.{List, [], _∷_}
 use mathlib.Core.Option.{Option, none, some}
 use lib.ListN.{length, take, drop}
 use Rattle.limits.specs.Limits.{LimitSet}
-use Rattle.limits.specs.Outcome.{Outcome, refused, given, refuseBy, andThen, orRefuse, checkOf}
+use Rattle.limits.specs.Outcome.{given, refuseBy, andThen, orRefuse, checkOf}
 use Rattle.limits.specs.declared.Refusal.{Refusal}
-use Rattle.limits.specs.declared.Refusal.the-variants.{BadStore, MissingHeader}
+use Rattle.limits.specs.declared.Refusal.the-variants.{BadStore}
 use Rattle.limits.specs.declared.Check.{Check}
-use Rattle.limits.specs.declared.Check.the-variants.{Passed, Refused}
-use Rattle.limits.proofs.Laws.{passed, stopped}
-use Rattle.text.specs.Text.{Piece, equal}
+use Rattle.limits.specs.declared.Check.the-variants.{Refused}
+use Rattle.limits.proofs.Laws.{stopped}
+use Rattle.text.specs.Text.{equal}
 use Rattle.msg.specs.Block.{blockCause}
-use Rattle.msg.proofs.LookupLaws.{Placed}
-use Rattle.dialog_id.specs.DialogId.{Identifier, identifierOf, fromName, toName, readIdentifier, dialogIdFrom, idFrom, fromRequest}
+use Rattle.dialog_id.specs.DialogId.{identifierOf, fromName, toName}
 use Rattle.dialog_id.specs.declared.DialogId.{DialogId}
-use Rattle.dialog_id.specs.declared.IdPart.the-variants as part
-use Rattle.record.specs.Codec.{Reading}
+use Rattle.codec.specs.Codec.{Reading}
 use Rattle.record.specs.Record.{Record, image}
-use Rattle.record.proofs.CodecLaws.{Bytes}
+use Rattle.codec.proofs.CodecLaws.{Bytes}
 use Rattle.image.specs.Places.{recordPlaces, idsOf, idsPlaces}
 use Rattle.image.specs.declared.RecordAt.{RecordAt}
 use Rattle.image_writer.proofs.LieLaws.{Lie, record-lies}
-use Rattle.image.proofs.SizeLaws.{Got, got, recordSize, record-sized}
-use Rattle.dialog.specs.OneImage.{alone, onlyOne, oneRecord, imageAnswer}
+use Rattle.codec.proofs.SizeLaws.{Got, got}
+use Rattle.image.proofs.SizeLaws.{recordSize, record-sized}
+use Rattle.dialog_rules.specs.OneImage.{alone, onlyOne, oneRecord}
+use Rattle.dialog.specs.Readings.{imageAnswer}
 use Rattle.text.specs.Spans.{partIn}
-use Rattle.dialog.specs.Matching.{namedBy, matchesRequest, matchesAnswer}
+use Rattle.dialog_rules.specs.Matching.{namedBy}
+use Rattle.dialog.specs.Matching.{matchesRequest, matchesAnswer}
 use Rattle.dialog.specs.declared.readings.ImageAnswer.the-variants as answer
 use Rattle.dialog.specs.declared.matching.Matches.{Matches}
 use Rattle.dialog.specs.declared.matching.Matches.the-variants as matches
-use Rattle.dialog.proofs.PlacedLaws.{PlacedId, identifier-placed}
-
--- ---- the identifier of the request
-
-pub record Asked (block : List ℕ) (i : DialogId) : Type 0 where
-  pub parts : Identifier
-  pub reads : identifierOf fromName toName block ≡ some parts
-  pub spans : i ≡ dialogIdFrom parts
-  pub placed : PlacedId block parts
-
-pub asked : (block : List ℕ) (i : DialogId) → part.At i ≡ idFrom (identifierOf fromName toName block) → Asked block i
-asked block i e = by (identifierOf fromName toName block) refl e
-  where
-    by : (o : Option Identifier) → identifierOf fromName toName block ≡ o → part.At i ≡ idFrom o → Asked block i
-    by none q h = absurd (let z : _≡_ {A = ℕ} 0 1 = cc in omega arith)
-    by (some p) q h = record { parts = p; reads = q; spans = (cc); placed = identifier-placed fromName toName block p q }
-
-pub not-asked : (o : Option Identifier) → part.Nothing ≡ idFrom o → o ≡ none
-not-asked none h = refl
-not-asked (some p) h = absurd (let z : _≡_ {A = ℕ} 0 1 = cc in omega arith)
+use Rattle.dialog_rules.proofs.PlacedLaws.{Asked}
 
 -- ---- the record of the image
 

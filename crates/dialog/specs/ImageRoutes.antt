@@ -6,8 +6,9 @@ use mathlib.Core.Option.{Option, none, some}
 use Rattle.limits.specs.Outcome.{Outcome, given, andThen}
 use Rattle.text.specs.Text.{Piece}
 use Rattle.record.specs.Record.{Record}
-use Rattle.image.specs.Places.{textEnd, recordPlaces}
-use Rattle.dialog.specs.OneImage.{oneRecord}
+use Rattle.codec.specs.Places.{textEnd}
+use Rattle.image.specs.Places.{recordPlaces}
+use Rattle.dialog_rules.specs.OneImage.{oneRecord}
 
 -- of texts that lie one after another from a place on, the one at an index from 0; none from their count on
 unfoldable pub textAt : ℕ → ℕ → List (List ℕ) → Option Piece

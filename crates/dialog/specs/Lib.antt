@@ -1,5 +1,3 @@
-pub mod Creation
 pub mod ImageRoutes
 pub mod Matching
-pub mod OneImage
-pub mod Updates
+pub mod Readings

@@ -1,5 +1,5 @@
-// Dialog: what creation and the updates make of a record, as definitions with their laws (specs/ and proofs/), and readings of one record image.
-// The updates of one image are in `dialog_changes`, `dialog_updates` and above it, creation in `dialog_creation`.
+// Dialog: readings of one record image. What creation and the updates make of a record is defined in `dialog_rules`; the updates of one image are in
+// `dialog_changes`, `dialog_updates` and above it, creation in `dialog_creation`.
 mod matching;
 mod readings;
 mod routes;

@@ -7,7 +7,8 @@ use session_timer_manager::OptionalSeconds;
 ghost use mathlib.Core.Path.{_≡_};
 ghost use Rattle.record.specs.NumbersForm.{numberIn};
 ghost use Rattle.session_timer_manager.specs.Answers.{secondsOf};
-ghost use Rattle.dialog.specs.OneImage.{oneRecord, imageAnswer, refreshOf, refreshAnswer};
+ghost use Rattle.dialog_rules.specs.OneImage.{oneRecord};
+ghost use Rattle.dialog.specs.Readings.{imageAnswer, refreshOf, refreshAnswer};
 
 // Where the parts of a record lie in its image, and its numbers.
 pub enum ImageAnswer {

@@ -1,6 +1,7 @@
 // The routes of a record, given as its image.
 use crate::readings::ImageAnswer;
 use crate::readings::read_image;
+use codec::wide;
 use limits::Refusal;
 use text::Lookup;
 use text::Span;
@@ -39,11 +40,4 @@ fn text_length(bytes: &[u8], at: usize) -> usize
     ensures { λ r. ⌜ r < 65536 ⌝ }
 {
     wide(bytes[at]) * 256 + wide(bytes[at + 1])
-}
-
-// A byte as a wider number.
-fn wide(b: u8) -> usize
-    ensures { λ r. ⌜ (r ≡ b) × (r < 256) ⌝ }
-{
-    b as usize
 }

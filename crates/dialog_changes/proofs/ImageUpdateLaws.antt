@@ -15,7 +15,7 @@ use Rattle.limits.specs.declared.Refusal.the-variants.{BadStore, NoRoom}
 use Rattle.output.specs.Output.{fitted, leaves, writtenFrom}
 use Rattle.output.specs.declared.Written.the-variants as written
 use Rattle.output.specs.declared.Written.{Written}
-use Rattle.record.specs.Codec.{Reading}
+use Rattle.codec.specs.Codec.{Reading}
 use Rattle.record.specs.NumbersForm.{meaning}
 use Rattle.record.proofs.NumberLaws.{meaning-same}
 use Rattle.record.specs.Changes.{withNumbers}
@@ -25,9 +25,10 @@ use Rattle.image.specs.declared.RecordAt.{RecordAt}
 use Rattle.image.specs.declared.RecordReading.the-variants.{Whole}
 use Rattle.image_edit.specs.Changes.{readAt, changed}
 use Rattle.image_edit.proofs.ImageCuts.{held-used, changed-held}
-use Rattle.dialog.specs.OneImage.{alone, onlyOne, oneRecord, imageAnswer}
+use Rattle.dialog_rules.specs.OneImage.{alone, onlyOne, oneRecord}
+use Rattle.dialog.specs.Readings.{imageAnswer}
 use Rattle.dialog_changes.specs.ImageUpdates.{usedRecord, imageAfter, localRaised, raisedRecord, raisedAnswer}
-use Rattle.dialog.specs.Updates.{localUpdate}
+use Rattle.dialog_rules.specs.Updates.{localUpdate}
 use Rattle.dialog_changes.specs.declared.Raised.the-variants as raised
 use Rattle.dialog.specs.declared.readings.ImageAnswer.the-variants as answer
 

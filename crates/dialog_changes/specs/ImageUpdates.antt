@@ -10,8 +10,8 @@ use Rattle.limits.specs.Outcome.{Outcome, refused, given, refuseIf, andThen}
 use Rattle.limits.specs.declared.Refusal.the-variants.{BadStore, NoRoom}
 use Rattle.output.specs.Output.{fitted}
 use Rattle.record.specs.Record.{Record, image}
-use Rattle.dialog.specs.OneImage.{oneRecord}
-use Rattle.dialog.specs.Updates.{confirmUpdate, terminateUpdate, localUpdate, intervalUpdate}
+use Rattle.dialog_rules.specs.OneImage.{oneRecord}
+use Rattle.dialog_rules.specs.Updates.{confirmUpdate, terminateUpdate, localUpdate, intervalUpdate}
 use Rattle.dialog_changes.specs.declared.Raised.{Raised}
 use Rattle.dialog_changes.specs.declared.Raised.the-variants as raised
 

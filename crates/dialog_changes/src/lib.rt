@@ -15,7 +15,8 @@ ghost use Rattle.output.specs.Output.{fitted, leaves, writtenFrom};
 ghost use Rattle.record.specs.Changes.{withNumbers};
 ghost use Rattle.record.specs.NumbersForm.{meaning};
 ghost use Rattle.image_edit.specs.Changes.{changed};
-ghost use Rattle.dialog.specs.OneImage.{oneRecord, imageAnswer};
+ghost use Rattle.dialog_rules.specs.OneImage.{oneRecord};
+ghost use Rattle.dialog.specs.Readings.{imageAnswer};
 ghost use Rattle.dialog_changes.specs.ImageUpdates.{usedRecord, terminated, confirmed, localRaised, raisedRecord, raisedAnswer, intervalSet};
 ghost use Rattle.dialog.specs.declared.readings.ImageAnswer.the-variants.{Of};
 

@@ -30,10 +30,10 @@ use Rattle.record.specs.declared.numbers.Numbers.{Numbers as CodeNumbers}
 use Rattle.record.proofs.NumberLaws.{state-same}
 use Rattle.image_writer.specs.Parts.{Parts, partsOf, imageOf}
 use Rattle.image_writer.proofs.ImageLaws.{image-parts}
-use Rattle.dialog.specs.Creation.{Creation, peerBlock, identifierIn, targetOf, isUac, numbersAt, estimateCause, stateBy, sequenceIn, intervalCause, recordWith, madeBy}
-use Rattle.dialog.specs.Updates.{textOr, intervalFrom}
-use Rattle.dialog.proofs.PlacedLaws.{PlacedId, identifier-placed}
-use Rattle.dialog.proofs.ReadLaws.{contact-within}
+use Rattle.dialog_rules.specs.Creation.{Creation, peerBlock, identifierIn, targetOf, isUac, numbersAt, estimateCause, stateBy, sequenceIn, intervalCause, recordWith, madeBy}
+use Rattle.dialog_rules.specs.Updates.{textOr, intervalFrom}
+use Rattle.dialog_rules.proofs.PlacedLaws.{PlacedId, identifier-placed}
+use Rattle.dialog_rules.proofs.ReadLaws.{contact-within}
 use Rattle.dialog_creation.specs.NewImage.{madeImage}
 use Rattle.creation_checks.specs.Given.{checkedOf}
 use Rattle.creation_readings.specs.Steps.{sideFor, peerOf, identifierFor, firstState, numbersIn, Remainder, remainderBy, remainderOf, remainderIn}

@@ -12,8 +12,8 @@ use Rattle.limits.specs.declared.Refusal.{Refusal}
 use Rattle.limits.specs.declared.Refusal.the-variants.{TextTooLong}
 use Rattle.text.specs.Answers.{tooLong, lengthCause}
 use Rattle.record.specs.Record.{Side}
-use Rattle.dialog.specs.Creation.{Creation, textsCause, formCause, uriCause, madeBy, created}
-use Rattle.dialog.proofs.RefusalLaws.{no-causes, no-cause}
+use Rattle.dialog_rules.specs.Creation.{Creation, textsCause, formCause, uriCause, madeBy, created}
+use Rattle.dialog_rules.proofs.RefusalLaws.{no-causes, no-cause}
 use Rattle.dialog_creation.specs.NewImage.{newImage, madeImage}
 use Rattle.creation_checks.specs.Given.{creationOf, checkedOf}
 use Rattle.creation_readings.specs.Steps.{sideFor}

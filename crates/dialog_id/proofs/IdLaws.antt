@@ -1,10 +1,11 @@
 -- The causes of `DialogId::new` in their order, and the parts of an identifier that a block has. Assumes nothing.
-use Prim.Native.Nat.{ℕ, _+_, _-_}
+use Prim.Native.Nat.{ℕ, _+_, _-_, _≤_}
+use native.Mathlib.Nat.{add-sub-cancel-left}
 use native.Mathlib.Omega.{arith}
-use mathlib.Core.Path.{_≡_, refl, sym, ap, _∙_}
-use mathlib.Core.Bool.{Bool, true, false}
+use mathlib.Core.Path.{_≡_, refl, sym, ap, subst}
 use mathlib.Core.List.{List}
-use lib.ListN.{take, drop}
+use lib.ListN.{length, take, drop, length-drop}
+use lib.Seq.{length-take-le}
 use mathlib.Core.Option.{Option, none, some}
 use Rattle.limits.specs.Limits.{LimitSet}
 use Rattle.limits.specs.Outcome.{orElse, orRefuse}
@@ -13,16 +14,18 @@ use Rattle.limits.specs.declared.Refusal.the-variants.{MissingHeader}
 use Rattle.text.specs.Answers.{spanOf}
 use Rattle.text.specs.Text.{Piece, moved}
 use Rattle.text.specs.declared.Span.{Span}
-use Rattle.msg.specs.Block.{HeaderLine, foundOf, valueOf, blockCause}
+use Rattle.msg.specs.Block.{firstNamed, linesOf, foundOf, blockCause}
+use Rattle.msg.specs.Table.{valueAt, endOf}
+use Rattle.msg.specs.declared.Found.{Found}
 use Rattle.msg.specs.declared.Found.the-variants as found
-use Rattle.msg.proofs.LookupLaws.{Says, said-text}
+use Rattle.msg.proofs.TableLaws.{value-at}
 use Rattle.headers.specs.Tag.{tagOf, partOf}
 use Rattle.headers.specs.declared.tag.Part.the-variants.{At, Nothing}
 use Rattle.dialog_id.specs.declared.DialogId.{DialogId}
 use Rattle.dialog_id.specs.declared.IdPart.the-variants as id
 use Rattle.dialog_id.specs.declared.IdAnswer.the-variants as answer
 use Rattle.dialog_id.specs.Ident.{ident, identCause}
-use Rattle.dialog_id.specs.DialogId.{partCause, identifierCause, tagIn, Identifier, identifier, identifierOf, readIdentifier, dialogIdFrom, idFrom, idAnswer}
+use Rattle.dialog_id.specs.DialogId.{partCause, identifierCause, callIdName, tagIn, tagNamed, Identifier, identifier, identifierOf, readIdentifier, dialogIdFrom, idFrom, idAnswer}
 
 -- 1, or the causes of the three parts
 module _ (L : LimitSet) (c l r : List ℕ) where
@@ -41,25 +44,36 @@ pub tag-moved : (o : Option Piece) (at : ℕ) (t : Span) → partOf o ≡ At t �
 tag-moved none at t e = absurd (let z : _≡_ {A = ℕ} 0 1 = cc in omega arith)
 tag-moved (some p) at t e = let q : spanOf p ≡ t = cc in ap (λ (x : Span). At (record { start = at + x .start; length = x .length })) (sym q)
 
--- the tag in a value that a look-up found, read from the block's bytes there
-pub tag-in : (s : List ℕ) (o : Option HeaderLine) (v : Span) (next : ℕ) → Says s o v next → tagIn (valueOf o) ≡ moved (v .start) (tagOf (take (v .start + v .length - v .start) (drop (v .start) s)))
-tag-in s o v next r = rw (said-text s o v next r, r .is) (ap (λ (x : Span). moved (x .start) (tagOf (r .line .value .text))) (r .span-is))
+-- the tag in the value of a line, read from the block's bytes there
+pub tag-line : (s : List ℕ) (f : Found) (v : Span) (next : ℕ) → f ≡ found.At v next → tagIn (valueAt f s) ≡ moved (v .start) (tagOf (take (v .start + v .length - v .start) (drop (v .start) s)))
+tag-line s f v next e = rw (e, add-sub-cancel-left)
 
 pub no-part : (o : Option Piece) → partOf o ≡ Nothing → o ≡ none
 no-part none e = refl
 no-part (some p) e = absurd (let z : _≡_ {A = ℕ} 0 1 = cc in omega arith)
 
 -- three parts that were read, as the readings answer them
-pub all-three : (c : Option HeaderLine) (l r : Option Piece) (v w x : Span) (next : ℕ) → foundOf c ≡ found.At v next → partOf l ≡ At w → partOf r ≡ At x
-    → id.At (record { «call_id» = v; «local_tag» = w; «remote_tag» = x }) ≡ idFrom (identifier (valueOf c) l r)
-all-three none l r v w x next e f g = absurd (let z : _≡_ {A = ℕ} 0 1 = cc in omega arith)
-all-three (some c) none r v w x next e f g = absurd (let z : _≡_ {A = ℕ} 0 1 = cc in omega arith)
-all-three (some c) (some l) none v w x next e f g = absurd (let z : _≡_ {A = ℕ} 0 1 = cc in omega arith)
-all-three (some c) (some l) (some r) v w x next e f g =
-    let p : spanOf (c .value) ≡ v = cc in
+by-parts : (p : Piece) (l r : Option Piece) (v w x : Span) → spanOf p ≡ v → partOf l ≡ At w → partOf r ≡ At x
+    → id.At (record { «call_id» = v; «local_tag» = w; «remote_tag» = x }) ≡ idFrom (identifier (some p) l r)
+by-parts c none r v w x p f g = absurd (let z : _≡_ {A = ℕ} 0 1 = cc in omega arith)
+by-parts c (some l) none v w x p f g = absurd (let z : _≡_ {A = ℕ} 0 1 = cc in omega arith)
+by-parts c (some l) (some r) v w x p f g =
     let q : spanOf l ≡ w = cc in
     let s : spanOf r ≡ x = cc in
     rw (p, q, s)
+
+pub all-three : (s : List ℕ) (c : Found) (l r : Option Piece) (v w x : Span) (next : ℕ) → c ≡ found.At v next → endOf c ≤ length s → partOf l ≡ At w → partOf r ≡ At x
+    → id.At (record { «call_id» = v; «local_tag» = w; «remote_tag» = x }) ≡ idFrom (identifier (valueAt c s) l r)
+all-three s c l r v w x next e h f g =
+    let k : v .start + v .length ≤ length s = subst (λ (y : Found). endOf y ≤ length s) e h in
+    let q : length (take (v .length) (drop (v .start) s)) ≡ v .length = length-take-le _ _ (simp length-drop (omega arith)) in
+    rw e (by-parts (record { place = v .start; text = take (v .length) (drop (v .start) s) }) l r v w x (ap (λ (n : ℕ). record { start = v .start; length = n }) q) f g)
+
+-- the identifier by the three look-ups
+pub id-found : (a b block : List ℕ) (c l r : Found) → c ≡ foundOf (firstNamed callIdName (linesOf block)) → l ≡ foundOf (firstNamed a (linesOf block)) → r ≡ foundOf (firstNamed b (linesOf block))
+    → idFrom (identifier (valueAt c block) (tagIn (valueAt l block)) (tagIn (valueAt r block))) ≡ idFrom (identifierOf a b block)
+unfolding identifierOf tagNamed
+id-found a b block c l r p q s = rw (p, q, s, value-at callIdName block, value-at a block, value-at b block)
 
 pub no-local : (c : Option Piece) (r : Option Piece) → identifier c none r ≡ none
 no-local none r = refl

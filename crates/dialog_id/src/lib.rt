@@ -5,6 +5,7 @@ use limits::Check;
 use limits::Limits;
 use limits::Refusal;
 use msg::Found;
+use msg::HeaderTable;
 use text::Span;
 ghost use mathlib.Core.Path.{_≡_};
 ghost use Rattle.limits.specs.Limits.{rustLimits};
@@ -12,9 +13,11 @@ ghost use Rattle.limits.specs.Outcome.{checkOf};
 ghost use Prim.Native.Nat.{_≤_};
 ghost use lib.ListN.{length};
 ghost use Rattle.text.specs.Text.{all, span};
+ghost use Rattle.msg.specs.Block.{linesOf};
+ghost use Rattle.msg.specs.Table.{tableOf, valueAt, endOf};
 ghost use Rattle.headers.specs.Tag.{partOf};
 ghost use Rattle.dialog_id.specs.Ident.{ident, identCause};
-ghost use Rattle.dialog_id.specs.DialogId.{isPlain, partCause, identifierCause, tagNamed, fromName, toName, identifierOf, fromRequest, fromResponseUac, fromResponseUas, idFrom, idAnswer};
+ghost use Rattle.dialog_id.specs.DialogId.{isPlain, partCause, identifierCause, tagIn, identifier, fromName, toName, identifierOf, fromRequest, fromResponseUac, fromResponseUas, idFrom, idAnswer};
 
 // Where the three parts stand in a header block.
 pub struct DialogId {
@@ -93,31 +96,54 @@ pub fn request_id(block: &[u8]) -> IdPart
     read_id(block, b"From", b"To")
 }
 
+// The same by the block's table.
+pub fn request_id_in(block: &[u8], t: HeaderTable) -> IdPart
+    requires { ⌜ t ≡ tableOf (linesOf (now block)) ⌝ }
+    ensures { λ r. ⌜ r ≡ idFrom (identifierOf fromName toName (now (block .entry))) ⌝ }
+{
+    let call_id = t.call_id;
+    let from = t.from;
+    let to = t.to;
+    id_at(block, call_id, from, to)
+}
+
 // The Call-ID and the tags of the two headers named.
 pub fn read_id(block: &[u8], local_name: &[u8], remote_name: &[u8]) -> IdPart
     ensures { λ r. ⌜ r ≡ idFrom (identifierOf (now («local_name» .entry)) (now («remote_name» .entry)) (now (block .entry))) ⌝ }
 {
-    let Found::At(call_id, _) = msg::find(block, b"Call-ID") else {
+    let call_id = msg::find(block, b"Call-ID");
+    let local = msg::find(block, local_name);
+    let remote = msg::find(block, remote_name);
+    id_at(block, call_id, local, remote)
+}
+
+// The Call-ID and the tags of three lines that were looked up.
+pub fn id_at(block: &[u8], call_id: Found, local: Found, remote: Found) -> IdPart
+    requires { ⌜ (endOf «call_id» ≤ length (now block)) × (endOf local ≤ length (now block)) × (endOf remote ≤ length (now block)) ⌝ }
+    ensures { λ r. ⌜ r ≡ idFrom (identifier (valueAt «call_id» (now (block .entry))) (tagIn (valueAt local (now (block .entry)))) (tagIn (valueAt remote (now (block .entry))))) ⌝ }
+{
+    let Found::At(c, _) = call_id else {
         return IdPart::Nothing;
     };
-    let Part::At(local_tag) = tag_named(block, local_name) else {
+    let Part::At(local_tag) = tag_at(block, local) else {
         return IdPart::Nothing;
     };
-    let Part::At(remote_tag) = tag_named(block, remote_name) else {
+    let Part::At(remote_tag) = tag_at(block, remote) else {
         return IdPart::Nothing;
     };
     IdPart::At(DialogId {
-        call_id,
+        call_id: c,
         local_tag,
         remote_tag,
     })
 }
 
-// The tag of the first line of a name, where it stands in the block.
-fn tag_named(block: &[u8], name: &[u8]) -> Part
-    ensures { λ r. ⌜ r ≡ partOf (tagNamed (now (name .entry)) (now (block .entry))) ⌝ }
+// The tag of a line that was looked up, where it stands in the block.
+fn tag_at(block: &[u8], line: Found) -> Part
+    requires { ⌜ endOf line ≤ length (now block) ⌝ }
+    ensures { λ r. ⌜ r ≡ partOf (tagIn (valueAt line (now (block .entry)))) ⌝ }
 {
-    let Found::At(v, _) = msg::find(block, name) else {
+    let Found::At(v, _) = line else {
         return Part::Nothing;
     };
     let a = v.start;

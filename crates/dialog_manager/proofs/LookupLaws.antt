@@ -7,18 +7,16 @@ use mathlib.Core.List.{List, [], _∷_}
 use mathlib.Core.Option.{Option, none, some, Option·some-injective}
 use lib.ListN.{length, take, drop}
 use lib.Dec.{ltb}
-use lib.Seq.{length-take-le}
-use borrow.Author.Tests.{le-ltb, ltb-false}
+use borrow.Author.Tests.{ltb-false}
 use Rattle.limits.specs.Limits.{LimitSet}
 use Rattle.limits.specs.Outcome.{Outcome, refused, given, causeIf, refuseBy, refuseIf, andThen, orRefuse}
 use Rattle.limits.specs.declared.Refusal.{Refusal}
-use Rattle.limits.specs.declared.Refusal.the-variants.{TextTooLong, BadStore, NotFound, NoRoom}
+use Rattle.limits.specs.declared.Refusal.the-variants.{TextTooLong, BadStore, NotFound}
 use Rattle.text.specs.Answers.{tooLong}
-use Rattle.record.specs.Codec as codec
+use Rattle.codec.specs.Codec as codec
 use Rattle.record.specs.Record.{Record, image}
 use Rattle.record.specs.Store.{decodeAll}
-use Rattle.record.proofs.CodecLaws.{Bytes, bytes-take}
-use Rattle.record.proofs.StoreLaws.{decoded}
+use Rattle.codec.proofs.CodecLaws.{Bytes}
 use Rattle.image.specs.declared.RecordAt.{RecordAt}
 use Rattle.image.proofs.AnswerLaws.{record-got}
 use Rattle.store.specs.Counting.{recordsHeld, countAnswer}
@@ -27,12 +25,13 @@ use Rattle.msg.specs.Block.{blockCause}
 use Rattle.dialog_id.specs.DialogId.{identifierOf, fromName, toName}
 use Rattle.dialog_id.specs.declared.DialogId.{DialogId}
 use Rattle.text.specs.Spans.{partIn}
-use Rattle.dialog.proofs.MatchLaws.{Asked}
+use Rattle.dialog_rules.proofs.PlacedLaws.{Asked}
 use Rattle.dialog_id.specs.Ident.{Ident, ident, identCause}
 use Rattle.book.specs.Calls.{Reading, findByCallId, findByRequest, read, Value, imageAt}
-use Rattle.book.specs.Book.{Book, Contents, contentsOf, recordsImage, storeRead, isOf, find, namedIn, size, firstPlace, placeOf, reply, readingCause, argumentCause, judge, taking, unchanged, apply}
-use Rattle.book.specs.Store.{Result, resultOf, verdict, leave, run}
-use Rattle.dialog_manager.specs.Search.{named, Spot, first, foundOf, foundIn, Stored, Stands}
+use Rattle.book.specs.Book.{Book, Contents, contentsOf, storeRead, isOf, find, namedIn, firstPlace, placeOf, reply, readingCause}
+use Rattle.book.specs.Store.{Left, run}
+use Rattle.book.proofs.ReadingLaws.{reading-run}
+use Rattle.dialog_manager.specs.Search.{named, ofCallId, Spot, first, foundOf, foundIn, Stored, Stands}
 use Rattle.dialog_manager.specs.Lookups.{getting, placeIn}
 use Rattle.dialog_manager.specs.declared.finding.Found.the-variants as found
 use Rattle.dialog_manager.specs.declared.placing.Place.the-variants as place
@@ -140,42 +139,15 @@ not-kept bytes used {cause} e = by (ltb (length bytes) used) (decodeAll (take us
     by false (some b) e = absurd (let z : _≡_ {A = ℕ} 0 1 = cc in omega arith)
 
 module _ (L : LimitSet) (n : ℕ) (q : Reading) (bytes : List ℕ) (used : ℕ) (h : Bytes bytes) where
-  -- a store that was read is no larger than its lent bytes
-  fits : (b : Book) → ltb (length bytes) used ≡ false → decodeAll (take used bytes) ≡ some b → ltb (length bytes) (size (record { records = b })) ≡ false
-  fits b t e =
-      let d : take used bytes ≡ recordsImage b = decoded (take used bytes) b (bytes-take used bytes h) e .0 in
-      let l : used ≤ length bytes = ltb-false (length bytes) used t in
-      le-ltb (length bytes) (size (record { records = b })) (omega (arith, ap length d, length-take-le used bytes l))
-
-  abbrev onRecords : Contents → Outcome Result
-  onRecords x = andThen (andThen (reply q (x .records)) (λ v. taking unchanged v)) (λ t. refuseIf (ltb (length bytes) (size (apply (t .change) x))) NoRoom (given (resultOf x t)))
-
-  on-records : (x : Contents) → ltb (length bytes) (size x) ≡ false → leave bytes used (onRecords x) .answer ≡ reply q (x .records)
-  on-records x e = by (reply q (x .records))
-    where
-      by : (v : Outcome Value) → leave bytes used (andThen (andThen v (λ y. taking unchanged y)) (λ t. refuseIf (ltb (length bytes) (size (apply (t .change) x))) NoRoom (given (resultOf x t)))) .answer ≡ v
-      by (refused cause) = refl
-      by (given v) = rw e
-
-  on-store : leave bytes used (refuseIf (ltb (length bytes) used) BadStore (andThen (orRefuse BadStore (storeRead (take used bytes))) onRecords)) .answer ≡ andThen (recordsHeld bytes used) (λ b. reply q b)
-  unfolding recordsHeld
-  on-store = by (ltb (length bytes) used) refl (decodeAll (take used bytes)) refl
-    where
-      by : (t : Bool) → ltb (length bytes) used ≡ t → (o : Option Book) → decodeAll (take used bytes) ≡ o
-          → leave bytes used (refuseIf t BadStore (andThen (orRefuse BadStore (contentsOf o)) onRecords)) .answer ≡ andThen (refuseIf t BadStore (orRefuse BadStore o)) (λ b. reply q b)
-      by true e o p = refl
-      by false e none p = refl
-      by false e (some b) p = on-records (record { records = b }) (fits b e p)
-
   -- the causes of the arguments, 3, then the reply
   answered : run L (read n q) bytes used .answer ≡ refuseBy (readingCause L q) (andThen (recordsHeld bytes used) (λ b. reply q b))
-  unfolding run verdict argumentCause judge
-  answered = by (readingCause L q)
+  unfolding recordsHeld
+  answered = ap (λ (l : Left). l .answer) (reading-run L n q bytes used h) ∙ ap (refuseBy (readingCause L q)) (by (ltb (length bytes) used) (decodeAll (take used bytes)))
     where
-      by : (a : Option Refusal) → leave bytes used (refuseBy a (refuseIf (ltb (length bytes) used) BadStore (andThen (orRefuse BadStore (storeRead (take used bytes))) onRecords))) .answer
-          ≡ refuseBy a (andThen (recordsHeld bytes used) (λ b. reply q b))
-      by none = on-store
-      by (some cause) = refl
+      by : (t : Bool) (o : Option Book) → refuseIf t BadStore (andThen (orRefuse BadStore (contentsOf o)) (λ x. reply q (x .records))) ≡ andThen (refuseIf t BadStore (orRefuse BadStore o)) (λ b. reply q b)
+      by true o = refl
+      by false none = refl
+      by false (some b) = refl
 
   pub arguments-refuse : {cause : Refusal} → readingCause L q ≡ some cause → refused cause ≡ run L (read n q) bytes used .answer
   arguments-refuse e = sym (answered ∙ ap (λ (a : Option Refusal). refuseBy a (andThen (recordsHeld bytes used) (λ b. reply q b))) e)
@@ -205,17 +177,17 @@ unfolding readingCause
 call-cause L c t e = ap (λ (x : Bool). causeIf x TextTooLong) e
 
 module _ (bytes : List ℕ) (used : ℕ) (k : Kept bytes used) where
-  pub get-reply : (c l r : List ℕ) → placeIn (named true c l r) (decodeAll (take used bytes)) ≡ reply (getting c l r) (k .contents .records)
+  pub get-reply : (c l r : List ℕ) → placeIn (named c l r) (decodeAll (take used bytes)) ≡ reply (getting c l r) (k .contents .records)
   unfolding reply
-  get-reply c l r = ap (placeIn (named true c l r)) (k .are)
+  get-reply c l r = ap (placeIn (named c l r)) (k .are)
 
-  pub call-reply : (c l r : List ℕ) → placeIn (named false c l r) (decodeAll (take used bytes)) ≡ reply (findByCallId c) (k .contents .records)
+  pub call-reply : (c : List ℕ) → placeIn (ofCallId c) (decodeAll (take used bytes)) ≡ reply (findByCallId c) (k .contents .records)
   unfolding reply
-  call-reply c l r = ap (placeIn (named false c l r)) (k .are)
+  call-reply c = ap (placeIn (ofCallId c)) (k .are)
 
   -- the identifier that a request names, its tags swapped
   pub named-reply : (block : List ℕ) (i : DialogId) → Asked block i
-      → placeIn (named true (partIn block (i .«call_id»)) (partIn block (i .«remote_tag»)) (partIn block (i .«local_tag»))) (decodeAll (take used bytes)) ≡ reply (findByRequest block) (k .contents .records)
+      → placeIn (named (partIn block (i .«call_id»)) (partIn block (i .«remote_tag»)) (partIn block (i .«local_tag»))) (decodeAll (take used bytes)) ≡ reply (findByRequest block) (k .contents .records)
   unfolding reply namedIn
   named-reply block i a = rw (k .are, a .reads, a .spans, a .placed .callId .there, a .placed .localTag .there, a .placed .remoteTag .there)
 

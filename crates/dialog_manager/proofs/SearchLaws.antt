@@ -2,16 +2,16 @@
 use Prim.Native.Nat.{ℕ, zero, suc, _+_, _-_, _≤_, _<_}
 use native.Mathlib.Omega.{arith}
 use mathlib.Core.Path.{_≡_, refl, sym, ap, subst, _∙_}
-use mathlib.Core.Bool.{Bool, true, false, cond, true≢false, false≢true}
+use mathlib.Core.Bool.{Bool, true, false, cond}
 use mathlib.Core.List.{List, [], _∷_}
 use mathlib.Core.Option.{Option, none, some, Option·some-injective}
 use lib.ListN.{length, drop, length-drop, drop-of-length-le}
 use lib.Seq.{drop-drop, drop-append-seam}
 use Rattle.text.specs.Text.{equal}
-use Rattle.record.specs.Codec.{Reading, writeAll}
+use Rattle.codec.specs.Codec.{Reading, writeAll}
 use Rattle.record.specs.Record.{Record, image}
 use Rattle.record.specs.Store.{distinct, encodeAll, recordBefore, recordsIn, onlyDistinct, decodeAll}
-use Rattle.record.proofs.CodecLaws.{Bytes, bytes-drop}
+use Rattle.codec.proofs.CodecLaws.{Bytes, bytes-drop}
 use Rattle.record.proofs.StoreLaws.{EachFormed, decoded}
 use Rattle.record.proofs.WellFormedLaws.{image-round}
 use Rattle.image.specs.Places.{recordPlaces, recordFrom, idsOf}
@@ -21,12 +21,11 @@ use Rattle.image.proofs.AnswerLaws.{RecordGot, record-got}
 use Rattle.image.proofs.SizeLaws.{recordSize}
 use Rattle.image_writer.proofs.LieLaws.{Lie, record-lies}
 use Rattle.text.specs.Spans.{partIn}
-use Rattle.distinct.specs.Keys.{At}
-use Rattle.distinct.specs.Ends.{endAt}
+use Rattle.record_walk.specs.Walk.{At, endAt}
 use Rattle.store.proofs.WalkLaws.{Step, step}
 use Rattle.dialog_id.specs.Ident.{sameIdent}
 use Rattle.book.specs.Book.{Book}
-use Rattle.dialog_manager.specs.Search.{named, Spot, first, foundOf, foundIn, Stored, IdsWithin, namedAt}
+use Rattle.dialog_manager.specs.Search.{named, ofCallId, Spot, first, foundOf, foundIn, Stored, IdsWithin, namedAt, ofCallIdAt}
 use Rattle.dialog_manager.specs.declared.finding.Found.the-variants as found
 
 -- ---- records of bytes
@@ -183,35 +182,28 @@ ids-within s at p t =
     rw (t .placed) (omega (arith, w, e), omega (arith, w, e), omega (arith, w, e))
 
 -- the bytes compared are the texts
-pub compared : (s : List ℕ) (at : ℕ) (p : RecordAt) (t : Turn s at p) → Bytes s → (by-tags : Bool) (c l r : List ℕ) → namedAt s (p .ids) by-tags c l r ≡ named by-tags c l r (t .step .value)
-unfolding sameIdent
-compared s at p t b true c l r =
-    let k : Lie s (at + 2) (idsOf (t .step .value)) = record-lies s at (record { value = t .step .value; rest = drop (p .end) s }) (bytes-drop at s b) (t .step .reads) in
-    rw (t .placed, k .callId, k .localTag, k .remoteTag)
-compared s at p t b false c l r =
-    let k : Lie s (at + 2) (idsOf (t .step .value)) = record-lies s at (record { value = t .step .value; rest = drop (p .end) s }) (bytes-drop at s b) (t .step .reads) in
-    rw (t .placed, k .callId)
+module _ (s : List ℕ) (at : ℕ) (p : RecordAt) (t : Turn s at p) (b : Bytes s) where
+  lie : Lie s (at + 2) (idsOf (t .step .value))
+  lie = record-lies s at (record { value = t .step .value; rest = drop (p .end) s }) (bytes-drop at s b) (t .step .reads)
+
+  pub compared : (c l r : List ℕ) → namedAt s (p .ids) c l r ≡ named c l r (t .step .value)
+  unfolding sameIdent
+  compared c l r = rw (t .placed, lie .callId, lie .localTag, lie .remoteTag)
+
+  pub call-compared : (c : List ℕ) → ofCallIdAt s (p .ids) c ≡ ofCallId c (t .step .value)
+  call-compared c = rw (t .placed, lie .callId)
 
 -- ---- the comparison, text by text
 
-module _ (s : List ℕ) (i : IdsAt) where
-  pub other-call : (by-tags : Bool) (c l r : List ℕ) → equal (partIn s (i .«call_id»)) c ≡ false → false ≡ namedAt s i by-tags c l r
-  other-call true c l r e = rw e
-  other-call false c l r e = sym e
+module _ (s : List ℕ) (i : IdsAt) (c l r : List ℕ) where
+  pub other-call : equal (partIn s (i .«call_id»)) c ≡ false → false ≡ namedAt s i c l r
+  other-call e = rw e
 
-  pub call-alone : (by-tags : Bool) (c l r : List ℕ) → by-tags ≡ false → equal (partIn s (i .«call_id»)) c ≡ true → true ≡ namedAt s i by-tags c l r
-  call-alone true c l r h e = absurd (true≢false h)
-  call-alone false c l r h e = sym e
+  pub other-local : equal (partIn s (i .«call_id»)) c ≡ true → equal (partIn s (i .«local_tag»)) l ≡ false → false ≡ namedAt s i c l r
+  other-local e f = rw (e, f)
 
-  pub other-local : (by-tags : Bool) (c l r : List ℕ) → by-tags ≡ true → equal (partIn s (i .«call_id»)) c ≡ true → equal (partIn s (i .«local_tag»)) l ≡ false
-      → false ≡ namedAt s i by-tags c l r
-  other-local true c l r h e f = rw (e, f)
-  other-local false c l r h e f = absurd (false≢true h)
-
-  pub by-remote : (by-tags : Bool) (c l r : List ℕ) → by-tags ≡ true → equal (partIn s (i .«call_id»)) c ≡ true → equal (partIn s (i .«local_tag»)) l ≡ true
-      → (x : Bool) → x ≡ equal (partIn s (i .«remote_tag»)) r → x ≡ namedAt s i by-tags c l r
-  by-remote true c l r h e f x g = rw (e, f) g
-  by-remote false c l r h e f x g = absurd (false≢true h)
+  pub by-remote : equal (partIn s (i .«call_id»)) c ≡ true → equal (partIn s (i .«local_tag»)) l ≡ true → (x : Bool) → x ≡ equal (partIn s (i .«remote_tag»)) r → x ≡ namedAt s i c l r
+  by-remote e f x g = rw (e, f) g
 
 -- ---- the record that is found is what is read at its place
 

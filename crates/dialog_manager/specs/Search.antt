@@ -2,7 +2,7 @@
 -- the store; an identifier has one record at most.
 use Prim.Native.Nat.{ℕ, _+_, _≤_}
 use mathlib.Core.Path.{_≡_}
-use mathlib.Core.Bool.{Bool, true, false, cond, _&&_}
+use mathlib.Core.Bool.{Bool, cond, _&&_}
 use mathlib.Core.List.{List, [], _∷_}
 use mathlib.Core.Option.{Option, none, some}
 use lib.ListN.{length, drop}
@@ -17,10 +17,13 @@ use Rattle.book.specs.Book.{Book, isOf, firstPlace}
 use Rattle.dialog_manager.specs.declared.finding.Found.{Found}
 use Rattle.dialog_manager.specs.declared.finding.Found.the-variants as found
 
--- the record's identifier is these three texts, or its Call-ID is the first of them
-abbrev pub named : Bool → List ℕ → List ℕ → List ℕ → Record → Bool
-named true callId localTag remoteTag r = isOf (record { callId = callId; localTag = localTag; remoteTag = remoteTag }) r
-named false callId localTag remoteTag r = equal (r .callId) callId
+-- the record's identifier is these three texts
+abbrev pub named : List ℕ → List ℕ → List ℕ → Record → Bool
+named callId localTag remoteTag r = isOf (record { callId = callId; localTag = localTag; remoteTag = remoteTag }) r
+
+-- its Call-ID is this text
+abbrev pub ofCallId : List ℕ → Record → Bool
+ofCallId callId r = equal (r .callId) callId
 
 -- the first record that passes the test, and where its image begins
 pub record Spot : Type 0 where
@@ -56,7 +59,9 @@ IdsWithin s i =
     (i .«call_id» .start + i .«call_id» .length ≤ length s) × (i .«local_tag» .start + i .«local_tag» .length ≤ length s) × (i .«remote_tag» .start + i .«remote_tag» .length ≤ length s)
 
 -- the texts at the places of an identifier, held against given ones
-abbrev pub namedAt : List ℕ → IdsAt → Bool → List ℕ → List ℕ → List ℕ → Bool
-namedAt s i true callId localTag remoteTag =
+abbrev pub namedAt : List ℕ → IdsAt → List ℕ → List ℕ → List ℕ → Bool
+namedAt s i callId localTag remoteTag =
     equal (partIn s (i .«call_id»)) callId && (equal (partIn s (i .«local_tag»)) localTag && equal (partIn s (i .«remote_tag»)) remoteTag)
-namedAt s i false callId localTag remoteTag = equal (partIn s (i .«call_id»)) callId
+
+abbrev pub ofCallIdAt : List ℕ → IdsAt → List ℕ → Bool
+ofCallIdAt s i callId = equal (partIn s (i .«call_id»)) callId

@@ -5,7 +5,8 @@ mod placing;
 
 pub use finding::Found;
 pub use finding::is_part;
-pub use finding::search;
+pub use finding::search_call_id;
+pub use finding::search_id;
 pub use lookups::find_by_call_id;
 pub use lookups::find_by_request;
 pub use lookups::get;

@@ -1,6 +1,7 @@
 // Where the record of an identifier, of a Call-ID or of a request lies in a store.
 use crate::placing::Place;
 use crate::placing::place_of;
+use crate::placing::place_of_call_id;
 use crate::placing::place_of_request;
 use dialog_id::IdPart;
 use dialog_id::check_lengths;
@@ -25,7 +26,7 @@ pub fn get(call_id: &[u8], local_tag: &[u8], remote_tag: &[u8], bytes: &[u8], us
     let Held::Records(_) = store::count(bytes, used) else {
         return Place::Refused(Refusal::BadStore);
     };
-    place_of(&bytes[..used], true, call_id, local_tag, remote_tag)
+    place_of(&bytes[..used], call_id, local_tag, remote_tag)
 }
 
 // DialogManager::find_by_call_id: 1, 3, 15. The first in the store.
@@ -38,7 +39,7 @@ pub fn find_by_call_id(call_id: &[u8], bytes: &[u8], used: usize) -> Place
     let Held::Records(_) = store::count(bytes, used) else {
         return Place::Refused(Refusal::BadStore);
     };
-    place_of(&bytes[..used], false, call_id, b"", b"")
+    place_of_call_id(&bytes[..used], call_id)
 }
 
 // DialogManager::find_by_request: 1, 2, 3, 15, the last where a part of the identifier can't be read too. A request from the peer has From as remote tag.

@@ -16,7 +16,7 @@ use Rattle.prack_headers.specs.Sequence.{cseqNumber}
 use Rattle.record.specs.Changes.{withNumbers}
 use Rattle.record.specs.Record.{Numbers, Record}
 use Rattle.record.specs.Rules.{Kind, requestStep}
-use Rattle.dialog.specs.Updates.{kindOf, retargeted, requestUpdate}
+use Rattle.dialog_rules.specs.Updates.{kindOf, retargeted, requestUpdate}
 use Rattle.dialog_changes.specs.ImageUpdates.{usedRecord, imageAfter}
 use Rattle.dialog_updates.specs.Messages.{requested}
 

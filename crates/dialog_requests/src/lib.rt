@@ -1,10 +1,11 @@
 // Dialog::update_from_request.
 use dialog::ImageAnswer;
 use dialog_changes::read_used;
-use dialog_updates::revise;
+use dialog_updates::revise_to;
 use image::RecordAt;
 use limits::Check;
 use limits::Refusal;
+use msg::Found;
 use output::Written;
 use record::Method;
 use record::Step;
@@ -13,12 +14,15 @@ ghost use mathlib.Core.Path.{_≡_};
 ghost use Prim.Native.Nat.{_≤_};
 ghost use lib.ListN.{length, take};
 ghost use Rattle.limits.specs.Limits.{rustLimits};
+ghost use Rattle.msg.specs.Block.{linesOf, firstNamed, foundOf};
+ghost use Rattle.route_set.specs.Routes.{contactName};
+ghost use Rattle.prack_headers.specs.Sequence.{cseqName};
 ghost use Rattle.output.specs.Output.{leaves, writtenFrom};
 ghost use Rattle.record.specs.NumbersForm.{kindIn};
 ghost use Rattle.image.specs.Places.{recordFrom};
 ghost use Rattle.image.specs.declared.RecordReading.the-variants.{Whole};
 ghost use Rattle.image_edit.specs.Changes.{readAt};
-ghost use Rattle.dialog.specs.Updates.{kindOf, requestUpdate};
+ghost use Rattle.dialog_rules.specs.Updates.{kindOf, requestUpdate};
 ghost use Rattle.dialog_updates.specs.AtPlace.{stepped};
 ghost use Rattle.dialog_updates.specs.Messages.{requested};
 
@@ -54,12 +58,36 @@ pub fn request_at(
     ensures { λ n. ⌜ n ≡ writtenFrom (stepped (requestUpdate rustLimits (kindOf (now (method .entry))) (now (block .entry))) (length (now (bytes .entry))) at (take used (now (bytes .entry)))) ⌝ }
     ensures { λ _. ⌜ now (bytes .exit) ≡ leaves (stepped (requestUpdate rustLimits (kindOf (now (method .entry))) (now (block .entry))) (length (now (bytes .entry))) at (take used (now (bytes .entry)))) (now (bytes .entry)) ⌝ }
 {
-    let Number::Value(n) = prack_headers::cseq_number(block) else {
+    let cseq = msg::find(block, b"CSeq");
+    let contact = msg::find(block, b"Contact");
+    request_by(bytes, used, at, r, method, block, cseq, contact)
+}
+
+// The same with the first lines of CSeq and Contact that were looked up.
+pub fn request_by(
+    bytes: &mut [u8],
+    used: usize,
+    at: usize,
+    r: RecordAt,
+    method: &[u8],
+    block: &[u8],
+    cseq: Found,
+    contact: Found,
+) -> Written
+    requires { ⌜ (used ≤ length (now bytes)) × (at ≤ used) × (length (now block) ≤ 8192) × (cseq ≡ foundOf (firstNamed cseqName (linesOf (now block)))) × (contact ≡ foundOf (firstNamed contactName (linesOf (now block)))) ⌝ }
+    requires { ⌜ recordFrom at (readAt at (take used (now bytes))) ≡ Whole r ⌝ }
+    ensures { λ n. ⌜ n ≡ writtenFrom (stepped (requestUpdate rustLimits (kindOf (now (method .entry))) (now (block .entry))) (length (now (bytes .entry))) at (take used (now (bytes .entry)))) ⌝ }
+    ensures { λ _. ⌜ now (bytes .exit) ≡ leaves (stepped (requestUpdate rustLimits (kindOf (now (method .entry))) (now (block .entry))) (length (now (bytes .entry))) at (take used (now (bytes .entry)))) (now (bytes .entry)) ⌝ }
+{
+    let Number::Value(n) = prack_headers::cseq_at(block, cseq) else {
         return Written::Refused(Refusal::MissingHeader);
     };
     let numbers = r.numbers;
     match numbers.request(kind_of(method), n) {
-        Step::Taken(x) => revise(bytes, used, at, r, x, block),
+        Step::Taken(x) => {
+            let target = route_set::contact_at(block, contact);
+            revise_to(bytes, used, at, r, x, block, target)
+        }
         Step::Refused(cause) => Written::Refused(cause),
     }
 }

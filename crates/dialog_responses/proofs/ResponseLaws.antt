@@ -23,7 +23,7 @@ use Rattle.route_section.specs.declared.Section.the-variants as section
 use Rattle.routes_edit.specs.Rerouted.{renewedBy}
 use Rattle.record.specs.Changes.{withNumbers, withRoutes}
 use Rattle.record.specs.Record.{Side, Numbers, Record}
-use Rattle.dialog.specs.Updates.{retargeted, confirms, routesOr, sideOf, intervalFrom, answered, responseUpdate}
+use Rattle.dialog_rules.specs.Updates.{retargeted, confirms, routesOr, sideOf, intervalFrom, answered, responseUpdate}
 use Rattle.dialog_changes.specs.ImageUpdates.{usedRecord, imageAfter}
 use Rattle.dialog_updates.specs.Messages.{responded}
 

@@ -27,7 +27,7 @@ ghost use Rattle.record.specs.NumbersForm.{meaning, stateIn, sideIn};
 ghost use Rattle.image.specs.Places.{recordFrom};
 ghost use Rattle.image.specs.declared.RecordReading.the-variants.{Whole};
 ghost use Rattle.image_edit.specs.Changes.{readAt, changed};
-ghost use Rattle.dialog.specs.Updates.{retargeted, confirms, routesOr, sideOf, intervalFrom, answered, responseUpdate};
+ghost use Rattle.dialog_rules.specs.Updates.{retargeted, confirms, routesOr, sideOf, intervalFrom, answered, responseUpdate};
 ghost use Rattle.dialog_updates.specs.AtPlace.{stepped};
 ghost use Rattle.dialog_updates.specs.Messages.{responded};
 

@@ -12,7 +12,7 @@ use Rattle.limits.specs.declared.Refusal.the-variants.{TextTooLong, Malformed}
 use Rattle.limits.proofs.Laws.{passed}
 use Rattle.text.specs.Answers.{tooLong, lengthCause}
 use Rattle.msg.specs.Block.{isBlock, blockCause}
-use Rattle.dialog.proofs.RefusalLaws.{no-causes, no-cause}
+use Rattle.dialog_rules.proofs.RefusalLaws.{no-causes, no-cause}
 
 pub short-block : (L : LimitSet) (block : List ℕ) → checkOf (blockCause L block) ≡ check.Passed → length block ≤ L .text
 unfolding blockCause

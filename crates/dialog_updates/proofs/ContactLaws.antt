@@ -14,8 +14,8 @@ use Rattle.route_set.specs.declared.routes.Contact.the-variants as contact
 use Rattle.routes_edit.specs.Rerouted.{renewedBy}
 use Rattle.record.specs.Changes.{withNumbers, withTarget}
 use Rattle.record.specs.Record.{Numbers, Record}
-use Rattle.dialog.specs.Updates.{textOr}
-use Rattle.dialog.proofs.PlacedLaws.{contact-placed}
+use Rattle.dialog_rules.specs.Updates.{textOr}
+use Rattle.dialog_rules.proofs.PlacedLaws.{contact-placed}
 
 -- nothing was found: the old target stays
 pub no-contact : (block old : List ℕ) → contactFrom (contactOf block) ≡ contact.Nothing → textOr old (contactOf block) ≡ old

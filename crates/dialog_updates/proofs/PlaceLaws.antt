@@ -10,7 +10,7 @@ use Rattle.limits.specs.declared.Refusal.{Refusal}
 use Rattle.output.specs.Output.{fitted, leaves, writtenFrom}
 use Rattle.output.specs.declared.Written.the-variants as written
 use Rattle.output.specs.declared.Written.{Written}
-use Rattle.record.specs.Codec.{Reading}
+use Rattle.codec.specs.Codec.{Reading}
 use Rattle.record.specs.NumbersForm.{meaning}
 use Rattle.record.specs.Record.{Record, image}
 use Rattle.record.proofs.NumberLaws.{meaning-same}

@@ -8,7 +8,7 @@ use Rattle.limits.specs.Outcome.{Outcome, refused, given, andThen}
 use Rattle.limits.specs.declared.Refusal.the-variants.{BadStore}
 use Rattle.edit.specs.Edit.{spliced}
 use Rattle.output.specs.Output.{fitted}
-use Rattle.record.specs.Codec.{Reading}
+use Rattle.codec.specs.Codec.{Reading}
 use Rattle.record.specs.Record.{Record, image}
 use Rattle.image_edit.specs.Changes.{readAt}
 

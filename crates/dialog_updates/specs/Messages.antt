@@ -1,5 +1,5 @@
 -- A request and a response on one record given as its image (`update_from_request`, `update_from_response` of lib.rs). What they make of the record is
--- `requestUpdate` and `responseUpdate` (dialog/specs/Updates.antt); here are the refusals before it, in the order of document 01, "Turned back": 1 and 2 of
+-- `requestUpdate` and `responseUpdate` (dialog_rules/specs/Updates.antt); here are the refusals before it, in the order of document 01, "Turned back": 1 and 2 of
 -- what is given, then 3.
 use Prim.Native.Nat.{ℕ}
 use mathlib.Core.List.{List}
@@ -7,7 +7,7 @@ use Rattle.limits.specs.Limits.{LimitSet}
 use Rattle.limits.specs.Outcome.{Outcome, given, orElse, refuseBy}
 use Rattle.text.specs.Answers.{lengthCause}
 use Rattle.msg.specs.Block.{blockCause}
-use Rattle.dialog.specs.Updates.{kindOf, requestUpdate, responseUpdate}
+use Rattle.dialog_rules.specs.Updates.{kindOf, requestUpdate, responseUpdate}
 use Rattle.dialog_changes.specs.ImageUpdates.{imageAfter}
 
 -- 1 (method, block), 2, 3, 4, 9; ACK: 11; others: 10, 11, 12; 18

@@ -4,3 +4,4 @@ mod revision;
 
 pub use revision::renew;
 pub use revision::revise;
+pub use revision::revise_to;

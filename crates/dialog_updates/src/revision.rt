@@ -17,11 +17,11 @@ ghost use Rattle.record.specs.NumbersForm.{meaning};
 ghost use Rattle.image.specs.Places.{recordFrom};
 ghost use Rattle.image.specs.declared.RecordReading.the-variants.{Whole};
 ghost use Rattle.image_edit.specs.Changes.{readAt, changed};
-ghost use Rattle.route_set.specs.Routes.{routesOf};
+ghost use Rattle.route_set.specs.Routes.{contactOf, contactFrom, routesOf};
 ghost use Rattle.route_section.specs.Section.{sectionFrom};
 ghost use Rattle.route_section.specs.declared.Section.the-variants.{Of};
 ghost use Rattle.routes_edit.specs.Rerouted.{renewedBy};
-ghost use Rattle.dialog.specs.Updates.{retargeted};
+ghost use Rattle.dialog_rules.specs.Updates.{retargeted};
 
 // For the record whose image begins at a place of the used bytes: 18. Answers the new used length.
 pub fn revise(
@@ -37,7 +37,26 @@ pub fn revise(
     ensures { λ n. ⌜ n ≡ writtenFrom (fitted (length (now (bytes .entry))) (changed (λ v. retargeted (now (block .entry)) (withNumbers (meaning numbers) v)) at (take used (now (bytes .entry))))) ⌝ }
     ensures { λ _. ⌜ now (bytes .exit) ≡ leaves (fitted (length (now (bytes .entry))) (changed (λ v. retargeted (now (block .entry)) (withNumbers (meaning numbers) v)) at (take used (now (bytes .entry))))) (now (bytes .entry)) ⌝ }
 {
-    let Contact::At(c) = route_set::find_contact(block) else {
+    let contact = route_set::find_contact(block);
+    revise_to(bytes, used, at, r, numbers, block, contact)
+}
+
+// The same with the Contact that was read.
+pub fn revise_to(
+    bytes: &mut [u8],
+    used: usize,
+    at: usize,
+    r: RecordAt,
+    numbers: Numbers,
+    block: &[u8],
+    contact: Contact,
+) -> Written
+    requires { ⌜ (used ≤ length (now bytes)) × (at ≤ used) × (length (now block) < 65536) × (contact ≡ contactFrom (contactOf (now block))) ⌝ }
+    requires { ⌜ recordFrom at (readAt at (take used (now bytes))) ≡ Whole r ⌝ }
+    ensures { λ n. ⌜ n ≡ writtenFrom (fitted (length (now (bytes .entry))) (changed (λ v. retargeted (now (block .entry)) (withNumbers (meaning numbers) v)) at (take used (now (bytes .entry))))) ⌝ }
+    ensures { λ _. ⌜ now (bytes .exit) ≡ leaves (fitted (length (now (bytes .entry))) (changed (λ v. retargeted (now (block .entry)) (withNumbers (meaning numbers) v)) at (take used (now (bytes .entry))))) (now (bytes .entry)) ⌝ }
+{
+    let Contact::At(c) = contact else {
         return revise_numbers(bytes, used, at, r, numbers);
     };
     let a = c.start;

@@ -8,17 +8,18 @@ use lib.ListN.{length}
 use Rattle.text.specs.Text.{equal}
 use Rattle.record.specs.Record.{Record, isGiven}
 use Rattle.record.specs.Store.{sameId, lacks, distinct, decodeAll}
-use Rattle.record.proofs.CodecLaws.{Bytes}
+use Rattle.codec.proofs.CodecLaws.{Bytes}
 use Rattle.distinct.specs.Distinct.{Whole, isDistinct}
 use Rattle.ordered_store.specs.Order.{order}
 use Rattle.ordered_store.specs.declared.Order.the-variants.{Same}
 use Rattle.ordered_store.proofs.OrderLaws.{order-itself, order-equal}
-use Rattle.distinct.specs.Keys.{At, keyAt}
-use Rattle.distinct.specs.Ends.{endAt}
+use Rattle.record_walk.specs.Walk.{At, endAt}
+use Rattle.distinct.specs.Keys.{keyAt}
 use Rattle.distinct.specs.Pairs.{WholeFrom, aloneFrom}
 use Rattle.distinct.proofs.Identities.{same-key}
-use Rattle.distinct.proofs.Images.{back, key-is}
-use Rattle.distinct.proofs.Sames.{equal-same, equal-is}
+use Rattle.record_walk.proofs.Images.{back}
+use Rattle.distinct.proofs.KeysAt.{key-is}
+use Rattle.text.proofs.Sames.{equal-same, equal-is}
 use Rattle.distinct.proofs.Walks.{From, Next, next, from-end, from-more}
 
 module _ (s : List ℕ) (b : Bytes s) where

@@ -10,10 +10,11 @@ use Rattle.record.specs.Record.{bitOf}
 use Rattle.ordered_store.specs.Order.{order}
 use Rattle.ordered_store.specs.declared.Order.the-variants.{Before, Same}
 use Rattle.ordered_store.proofs.OrderLaws.{order-itself, order-transitive}
-use Rattle.distinct.specs.Keys.{At, keyAt}
+use Rattle.record_walk.specs.Walk.{At}
+use Rattle.distinct.specs.Keys.{keyAt}
 use Rattle.distinct.specs.Sorting.{EachAt, Ascending, tally}
 use Rattle.distinct.proofs.Bits.{bit-le}
-use Rattle.distinct.proofs.Sames.{equal-same, equal-is}
+use Rattle.text.proofs.Sames.{equal-same, equal-is}
 
 module _ (s : List ℕ) where
   -- ---- each place

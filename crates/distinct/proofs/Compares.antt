@@ -4,12 +4,13 @@ use native.Mathlib.Omega.{arith}
 use mathlib.Core.Path.{_≡_, refl, ap₂, _∙_}
 use mathlib.Core.List.{List}
 use lib.ListN.{length, take, drop, getD}
-use Rattle.record.proofs.CodecLaws.{Bytes}
+use Rattle.codec.proofs.CodecLaws.{Bytes}
 use Rattle.ordered_store.specs.Order.{order}
 use Rattle.ordered_store.specs.declared.Order.the-variants.{Before, After}
 use Rattle.ordered_store.proofs.OrderLaws.{byte-less, byte-more, byte-same}
-use Rattle.distinct.specs.Keys.{At, keyAt}
-use Rattle.distinct.proofs.Images.{key-bytes}
+use Rattle.record_walk.specs.Walk.{At}
+use Rattle.distinct.specs.Keys.{keyAt}
+use Rattle.distinct.proofs.KeysAt.{key-bytes}
 
 module _ (s : List ℕ) (p q : ℕ) (b : Bytes s) (x : At s p) (y : At s q) (f g : ℕ) (u : f ≡ getD (keyAt s p) 0 0) (v : g ≡ getD (keyAt s q) 0 0) where
   pub flags-less : f < g → order (keyAt s p) (keyAt s q) ≡ Before

@@ -7,15 +7,15 @@ use mathlib.Core.List.{List, [], _∷_}
 use Rattle.text.specs.Text.{equal}
 use Rattle.record.specs.Record.{Record, WellFormed, bitOf}
 use Rattle.record.specs.Store.{sameId, lacks, distinct, decodeAll, placesFrom}
-use Rattle.record.proofs.CodecLaws.{Bytes}
+use Rattle.codec.proofs.CodecLaws.{Bytes}
 use Rattle.record.proofs.StoreLaws.{EachFormed}
 use Rattle.distinct.specs.Distinct.{Places, isDistinct}
 use Rattle.distinct.specs.Keys.{keyOf}
-use Rattle.distinct.specs.Ends.{endAt}
+use Rattle.record_walk.specs.Walk.{endAt}
 use Rattle.distinct.specs.Sorting.{EachAt, tally, SortedOr}
 use Rattle.distinct.proofs.Ascents.{once}
 use Rattle.distinct.proofs.Identities.{same-key}
-use Rattle.distinct.proofs.Sames.{equal-same, equal-is}
+use Rattle.text.proofs.Sames.{equal-same, equal-is}
 use Rattle.distinct.proofs.Walks.{From, next, each-formed, each-place}
 
 -- how many of the records have a key

@@ -7,16 +7,17 @@ use mathlib.Core.List.{List, [], _∷_, _++_}
 use mathlib.Core.Option.{Option, some}
 use Rattle.text.specs.Text.{isValue, all, equal}
 use Rattle.text.specs.Number.{nonEmpty}
-use Rattle.record.specs.Codec.{Reading, Codec, then}
+use Rattle.codec.specs.Codec.{Reading, Codec, then}
 use Rattle.record.specs.Record.{Record, Ids, WellFormed, isFilled, idText, idsMap, fieldsOf}
 use Rattle.record.specs.Store.{sameId}
-use Rattle.record.proofs.CodecLaws.{Exact, text-exact, then-exact, such-exact, GoodFlag, flagged-exact}
+use Rattle.codec.proofs.CodecLaws.{Exact, text-exact, then-exact, such-exact, GoodFlag, flagged-exact}
 use Rattle.record.proofs.MapLaws.{stands-0, stands-1, stands-2}
 use Rattle.record.proofs.RecordLaws.{GoodId}
 use Rattle.record.proofs.WellFormedLaws.{good}
-use Rattle.distinct.specs.Keys.{idsBytes, keyOf}
+use Rattle.record_walk.specs.Walk.{idsBytes}
+use Rattle.distinct.specs.Keys.{keyOf}
 use Rattle.distinct.proofs.Bits.{bit-le, bit-same}
-use Rattle.distinct.proofs.Sames.{both, equal-same, equal-is}
+use Rattle.text.proofs.Sames.{both, equal-same, equal-is}
 
 -- ---- the bytes of an identifier under its flags
 

@@ -5,10 +5,6 @@ pub mod Compares
 pub mod Counts
 pub mod Halves
 pub mod Identities
-pub mod Images
+pub mod KeysAt
 pub mod Merges
-pub mod Parts
-pub mod Sames
-pub mod Tails
-pub mod Texts
 pub mod Walks

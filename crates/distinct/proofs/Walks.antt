@@ -5,16 +5,17 @@ use mathlib.Core.Path.{_≡_, refl, ap, subst, _∙_}
 use mathlib.Core.List.{List, [], _∷_}
 use mathlib.Core.Option.{Option, none, some}
 use lib.ListN.{length, drop, length-drop, drop-of-length-le}
-use Rattle.record.specs.Codec.{Reading}
+use Rattle.codec.specs.Codec.{Reading}
 use Rattle.record.specs.Record.{Record, WellFormed, image}
 use Rattle.record.specs.Store.{recordBefore, readOn, recordsIn, placesFrom}
-use Rattle.record.proofs.CodecLaws.{Bytes}
+use Rattle.codec.proofs.CodecLaws.{Bytes}
 use Rattle.record.proofs.StoreLaws.{EachFormed}
-use Rattle.distinct.specs.Keys.{At, keyOf, keyAt}
-use Rattle.distinct.specs.Ends.{endAt}
+use Rattle.record_walk.specs.Walk.{At, endAt}
+use Rattle.distinct.specs.Keys.{keyOf, keyAt}
 use Rattle.distinct.specs.Sorting.{EachAt}
-use Rattle.distinct.proofs.Parts.{lies-past}
-use Rattle.distinct.proofs.Images.{back, image-at, key-is}
+use Rattle.record_walk.proofs.Parts.{lies-past}
+use Rattle.record_walk.proofs.Images.{back, image-at}
+use Rattle.distinct.proofs.KeysAt.{key-is}
 
 -- ---- records of bytes
 

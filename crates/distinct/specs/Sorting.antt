@@ -8,7 +8,8 @@ use Rattle.text.specs.Text.{equal}
 use Rattle.record.specs.Record.{bitOf}
 use Rattle.ordered_store.specs.Order.{order}
 use Rattle.ordered_store.specs.declared.Order.the-variants.{Before}
-use Rattle.distinct.specs.Keys.{At, keyAt}
+use Rattle.record_walk.specs.Walk.{At}
+use Rattle.distinct.specs.Keys.{keyAt}
 
 -- a record stands at each of the places
 unfoldable pub EachAt : List ℕ → List ℕ → Type 0

@@ -1,11 +1,13 @@
 // The key of a record: which of the three texts of its identifier stand, then the bytes of those texts with their lengths.
 // Two records have one identifier exactly if they have one key.
 use ordered_store::Order;
+use record_walk::ids_end;
+use record_walk::two;
 ghost use mathlib.Core.Path.{_≡_};
-ghost use Prim.Native.Nat.{_+_, _≤_, _<_};
-ghost use lib.ListN.{length, getD};
+ghost use lib.ListN.{getD};
 ghost use Rattle.ordered_store.specs.Order.{order};
-ghost use Rattle.distinct.specs.Keys.{At, twoAt, pastText, keyAt};
+ghost use Rattle.record_walk.specs.Walk.{At};
+ghost use Rattle.distinct.specs.Keys.{keyAt};
 
 // How the key of the record at one place stands to that at another.
 pub fn compare(bytes: &[u8], p: usize, q: usize) -> Order
@@ -33,40 +35,4 @@ fn flags(bytes: &[u8], p: usize) -> usize
     ensures { λ r. ⌜ r ≡ getD (keyAt (now (bytes .entry)) p) 0 0 ⌝ }
 {
     two(bytes, p) % 8
-}
-
-// The place past the identifier of the record at a place.
-pub fn ids_end(bytes: &[u8], p: usize) -> usize
-    requires { ⌜ At (now bytes) p ⌝ }
-    ensures { λ r. ⌜ (r ≡ p + 1 + length (keyAt (now (bytes .entry)) p)) × (r ≤ length (now (bytes .entry))) ⌝ }
-{
-    let m = two(bytes, p);
-    let a = past(bytes, p + 2, m % 2 == 1);
-    let b = past(bytes, a, m / 2 % 2 == 1);
-    past(bytes, b, m / 4 % 2 == 1)
-}
-
-// The place past a text, where one stands.
-pub fn past(bytes: &[u8], at: usize, stands: bool) -> usize
-    requires { ⌜ pastText (now bytes) at stands ≤ length (now bytes) ⌝ }
-    ensures { λ r. ⌜ r ≡ pastText (now (bytes .entry)) at stands ⌝ }
-{
-    if !stands {
-        return at;
-    }
-    at + 2 + two(bytes, at)
-}
-
-// The number in two bytes.
-pub fn two(bytes: &[u8], at: usize) -> usize
-    requires { ⌜ at + 1 < length (now bytes) ⌝ }
-    ensures { λ r. ⌜ (r ≡ twoAt (now (bytes .entry)) at) × (r < 65536) ⌝ }
-{
-    wide(bytes[at]) * 256 + wide(bytes[at + 1])
-}
-
-pub fn wide(b: u8) -> usize
-    ensures { λ r. ⌜ (r ≡ b) × (r < 256) ⌝ }
-{
-    b as usize
 }

@@ -3,14 +3,9 @@ ghost use mathlib.Core.Path.{_≡_};
 ghost use lib.ListN.{length};
 ghost use Rattle.distinct.specs.Distinct.{Places, Whole, isDistinct};
 
-mod ends;
 mod keys;
 mod merging;
 mod pairs;
-
-pub use ends::record_end;
-pub use keys::past;
-pub use keys::two;
 
 // Of bytes that are whole records: `places` are those of their images, and `scratch` is as long. Both are changed.
 pub fn is_distinct(bytes: &[u8], places: &mut [usize], scratch: &mut [usize]) -> bool
@@ -28,7 +23,7 @@ pub fn is_distinct_by_pairs(bytes: &[u8]) -> bool
 {
     let mut p = 0;
     while p < bytes.len() {
-        let end = ends::record_end(bytes, p);
+        let end = record_walk::record_end(bytes, p);
         if !pairs::is_alone(bytes, p, end) {
             return false;
         }

@@ -1,9 +1,9 @@
 // A record against those after it.
-use crate::ends::record_end;
 use crate::keys::compare;
 use ordered_store::Order;
+use record_walk::record_end;
 ghost use mathlib.Core.Path.{_≡_};
-ghost use Rattle.distinct.specs.Keys.{At};
+ghost use Rattle.record_walk.specs.Walk.{At};
 ghost use Rattle.distinct.specs.Pairs.{WholeFrom, aloneFrom};
 
 // No record from a place on has the identifier of the record at `p`.

@@ -7,14 +7,14 @@ use mathlib.Core.Bool.{Bool, true, false}
 use mathlib.Core.List.{List, [], _∷_}
 use mathlib.Core.Option.{Option, none, some}
 use lib.ListN.{length, take, drop}
-use lib.Seq.{take-all}
+use lib.Seq.{take-all, length-take-le}
 use lib.Dec.{eqb}
 use borrow.Author.Tests.{eqb-true, eqb-false}
 use Rattle.text.specs.Text.{is, other, same, span, split, trimmed}
 use Rattle.text.specs.Number.{readDigits, numberFrom}
 use Rattle.text.specs.declared.number.Number.the-variants.{Value, Unreadable}
-use Rattle.text.proofs.Runs.{drop-part}
-use Rattle.text.proofs.Words.{split-at, split-last, left, left-done, left-cons}
+use Rattle.text.proofs.Runs.{drop-part, part-length}
+use Rattle.text.proofs.Words.{split-at, split-last, left, left-done, left-cons, segment-fits}
 use Rattle.limits.specs.Outcome.{given}
 use Rattle.msg.specs.Block.{HeaderLine, valueOf, textOf}
 use Rattle.msg.proofs.LookupLaws.{Says, said-text}
@@ -94,3 +94,7 @@ some-interval (some i) k r e =
     let p : i .seconds ≡ k = cc in
     let q : i .refresher ≡ r = cc in
     rw (p, q)
+
+-- the part between semicolons that starts at `at`: n is what the search for the next one answers
+pub part-at : (v : List ℕ) (at n : ℕ) → at ≤ length v → n ≡ span (other 59) (take (length v - at) (drop at v)) → length (take n (take (length v - at) (drop at v))) ≡ n
+part-at v at n h hn = length-take-le n (take (length v - at) (drop at v)) (omega (arith, part-length v at, segment-fits (is 59) v at n h hn))

@@ -1,2 +1,3 @@
 pub mod ExpiresLaws
 pub mod TagLaws
+pub mod SegmentLaws

@@ -9,15 +9,16 @@ use lib.ListN.{length, take, drop, length-drop, length-take}
 use lib.Seq.{length-take-le, drop-drop}
 use lib.Dec.{ltb}
 use borrow.Author.Tests.{ltb-true, ltb-false}
-use Rattle.text.specs.Text.{is, other, span, blanks, trimmed, split, Piece}
+use Rattle.text.specs.Text.{blanks, trimmed, Piece}
 use Rattle.text.specs.Answers.{spanOf}
 use Rattle.text.specs.declared.Span.{Span}
 use Rattle.text.proofs.Runs.{part-length, drop-part}
 use Rattle.text.proofs.Trimming.{trimmed-fits, trimmed-part, drop-take}
 use Rattle.msg.proofs.LookupLaws.{Placed}
 use Rattle.text.proofs.Alike.{alike-length}
-use Rattle.text.proofs.Words.{left, left-start, left-done, left-cons, segment-fits}
-use Rattle.headers.specs.Tag.{tagEq, isTag, tagAt, firstTag, partOf, partAnswer}
+use Rattle.headers.proofs.SegmentLaws.{left, left-start, left-done, left-cons, segment-fits}
+use Rattle.headers.specs.declared.tag.Mode.the-variants.{Outside}
+use Rattle.headers.specs.Tag.{segmentsIn, cutLength, tagEq, isTag, tagAt, firstTag, partOf, partAnswer}
 use Rattle.headers.specs.declared.tag.Part.the-variants.{At, Nothing}
 use Rattle.headers.specs.declared.tag.PartAnswer.the-variants as answer
 use Rattle.limits.specs.Outcome.{orRefuse}
@@ -25,35 +26,35 @@ use Rattle.limits.specs.declared.Refusal.the-variants.{MissingHeader}
 
 -- the tag in the segments of v that are left at a place
 abbrev pub tagFrom : List ℕ → ℕ → Option Piece
-tagFrom v at = firstTag at (left (is 59) v at)
+tagFrom v at = firstTag at (left v at)
 
-pub tag-start : (v : List ℕ) → firstTag 0 (split (is 59) v) ≡ tagFrom v 0
-tag-start v = ap (firstTag 0) (sym (left-start (is 59) v))
+pub tag-start : (v : List ℕ) → firstTag 0 (segmentsIn Outside v) ≡ tagFrom v 0
+tag-start v = ap (firstTag 0) (sym (left-start v))
 
 pub tag-done : (v : List ℕ) (at : ℕ) → length v < at → tagFrom v at ≡ none
 unfolding firstTag
-tag-done v at h = rw (left-done (is 59) v at h)
+tag-done v at h = rw (left-done v at h)
 
--- n is what the search for the next semicolon answers of the part from `at` on
-module _ (v : List ℕ) (at n : ℕ) (h : at ≤ length v) (hn : n ≡ span (other 59) (take (length v - at) (drop at v))) where
+-- n is how many bytes of the part from `at` on stand before the next cut
+module _ (v : List ℕ) (at n : ℕ) (h : at ≤ length v) (hn : n ≡ cutLength Outside (take (length v - at) (drop at v))) where
   -- the segment that starts at `at`
   abbrev segment : List ℕ
   segment = take n (take (length v - at) (drop at v))
 
   pub segment-length : length (take n (take (length v - at) (drop at v))) ≡ n
-  segment-length = length-take-le n (take (length v - at) (drop at v)) (omega (arith, part-length v at, segment-fits (is 59) v at n h hn))
+  segment-length = length-take-le n (take (length v - at) (drop at v)) (omega (arith, part-length v at, segment-fits v at n h hn))
 
   pub tag-next : isTag (trimmed segment) ≡ false → tagFrom v at ≡ tagFrom v (at + n + 1)
   unfolding firstTag
-  tag-next e = rw (left-cons (is 59) v at n h hn, e, segment-length)
+  tag-next e = rw (left-cons v at n h hn, e, segment-length)
 
   pub tag-hit : isTag (trimmed segment) ≡ true
       → partOf (tagFrom v at) ≡ At (record { start = at + blanks segment + 4; length = length (trimmed segment) - 4 })
   unfolding firstTag
-  tag-hit e = rw (left-cons (is 59) v at n h hn, e, length-drop)
+  tag-hit e = rw (left-cons v at n h hn, e, length-drop)
 
   pub segment-within : at + blanks segment + length (trimmed segment) ≤ length v
-  segment-within = omega (arith, trimmed-fits segment, segment-length, segment-fits (is 59) v at n h hn)
+  segment-within = omega (arith, trimmed-fits segment, segment-length, segment-fits v at n h hn)
 
 -- fewer than four bytes are no tag
 pub short : (t : List ℕ) → length t < 4 → isTag t ≡ false
@@ -73,7 +74,7 @@ long t e = by (ltb (length t) 4) refl
 tail-placed : (v g : List ℕ) (a : ℕ) → take (length (trimmed g)) (drop a v) ≡ trimmed g → take (length (drop 4 (trimmed g))) (drop (a + 4) v) ≡ drop 4 (trimmed g)
 tail-placed v g a e = rw (length-drop, ← drop-drop 4 a v, ← drop-take 4 (length (trimmed g)) (drop a v), e)
 
-module _ (v : List ℕ) (at n : ℕ) (h : at ≤ length v) (hn : n ≡ span (other 59) (take (length v - at) (drop at v))) where
+module _ (v : List ℕ) (at n : ℕ) (h : at ≤ length v) (hn : n ≡ cutLength Outside (take (length v - at) (drop at v))) where
   placed-here : isTag (trimmed (take n (take (length v - at) (drop at v)))) ≡ true → Placed v (tagAt at (take n (take (length v - at) (drop at v))))
   placed-here e =
       let g : List ℕ = take n (take (length v - at) (drop at v)) in
@@ -99,16 +100,16 @@ placed-from v p (suc fuel) at h e = by (ltb (length v) at) refl (λ m. placed-fr
     by : (u : Bool) → ltb (length v) at ≡ u → ((m : ℕ) → length v < m + fuel → tagFrom v m ≡ some p → Placed v p) → Placed v p
     by true k more = absurd (let x : tagFrom v at ≡ none = tag-done v at (ltb-true _ _ k) in let z : _≡_ {A = ℕ} 0 1 = cc in omega arith)
     by false k more =
-        let n : ℕ = span (other 59) (take (length v - at) (drop at v)) in
+        let n : ℕ = cutLength Outside (take (length v - at) (drop at v)) in
         let l : at ≤ length v = ltb-false _ _ k in
         let g : List ℕ = take n (take (length v - at) (drop at v)) in
-        by-first v p at g (left (is 59) v (at + n + 1)) (isTag (trimmed g)) refl
+        by-first v p at g (left v (at + n + 1)) (isTag (trimmed g)) refl
         (placed-here v at n l refl)
         (λ q. more (at + n + 1) (omega arith) (rw (segment-length v at n l refl) at q))
-        (rw (left-cons (is 59) v at n l refl) at e)
+        (rw (left-cons v at n l refl) at e)
 
 -- a tag that was read stands in the value
-pub tag-placed : (v : List ℕ) (p : Piece) → firstTag 0 (split (is 59) v) ≡ some p → Placed v p
+pub tag-placed : (v : List ℕ) (p : Piece) → firstTag 0 (segmentsIn Outside v) ≡ some p → Placed v p
 tag-placed v p e = placed-from v p (suc (length v)) 0 (omega arith) (sym (tag-start v) ∙ e)
 
 -- as `find_tag` answers it

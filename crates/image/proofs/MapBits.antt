@@ -10,9 +10,9 @@ use lib.Dec.{leb, ltb, eqb}
 use borrow.Author.Tests.{eq-eqb, ne-eqb, eqb-true, eqb-false, lt-ltb, ltb-true}
 use Rattle.text.specs.Text.{isValue, all}
 use Rattle.text.specs.Number.{nonEmpty}
-use Rattle.record.specs.Codec.{Reading, Codec, Pair, four, text, counted, paired, readThen, then, passing, such, flagged, renamed}
+use Rattle.codec.specs.Codec.{Reading, Codec, Pair, four, text, counted, paired, readThen, then, passing, such, flagged, renamed}
 use Rattle.record.specs.Record.{uac, uas, idText, uriText, number, optional, sideOf, refresherField, routesField, bitOf, stands, isFilled, isGiven, Ids, Tail, Fields, idsField, tailField, mapOf}
-use Rattle.image.proofs.SizeLaws.{no-reading}
+use Rattle.codec.proofs.CodecLaws.{no-reading}
 
 -- ---- arithmetic
 

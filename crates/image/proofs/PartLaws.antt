@@ -1,16 +1,14 @@
 -- Each field at a place of bytes: the tests that the code makes pick what is answered. Assumes nothing.
-use Prim.Native.Nat.{ℕ, suc, _+_, _-_, _*_, _/_, _%_, _≤_, _<_}
-use native.Mathlib.Numerals.{add-one}
+use Prim.Native.Nat.{ℕ, _+_, _-_, _/_, _%_, _≤_, _<_}
 use native.Mathlib.Nat.{add-zero}
 use native.Mathlib.Omega.{arith}
 use mathlib.Core.Path.{_≡_, refl, sym, ap, ap₂, _∙_}
 use mathlib.Core.Bool.{Bool, true, false, cond, _&&_}
 use mathlib.Core.List.{List, [], _∷_}
 use mathlib.Core.Option.{none, some}
-use lib.ListN.{length, take, drop, getD, length-drop, drop-of-length-le}
-use lib.Seq.{drop-cons, length-take-le}
+use lib.ListN.{length, take, drop, getD}
 use lib.Dec.{ltb, eqb}
-use borrow.Author.Tests.{eq-eqb, ne-eqb, lt-ltb, le-ltb, le-leb, lt-leb}
+use borrow.Author.Tests.{eq-eqb, ne-eqb, lt-ltb, le-ltb}
 use Rattle.text.specs.Text.{isValue, all}
 use Rattle.text.specs.Number.{nonEmpty}
 use Rattle.text.specs.declared.Span.{Span}
@@ -18,90 +16,27 @@ use Rattle.uri.specs.SipUri.{sipUri, uriFrom as answerOf}
 use Rattle.uri.specs.declared.SipUri.{SipUri}
 use Rattle.uri.specs.declared.Uri.the-variants as uri
 use Rattle.uri.proofs.Laws.{PartsRead, read, unread}
-use Rattle.record.specs.Codec.{byte, two, readTwo, four, readFour, text}
+use Rattle.codec.specs.Codec.{four, text}
+use Rattle.codec.proofs.ReadLaws.{byte-at, byte-none, four-none}
 use Rattle.record.specs.Record.{idText, uriText, number, optional, refresherField, stateOf, stateByte}
 use Rattle.record.specs.NumbersForm.{stateFrom}
 use Rattle.record.specs.declared.numbers.State.{State}
 use Rattle.record.specs.declared.numbers.State.the-variants as state
 use Rattle.record.specs.declared.numbers.Optional.the-variants as may
 use Rattle.record.specs.declared.numbers.Refresher.the-variants as side
-use Rattle.image.specs.Places.{textSpan, textFrom, idFrom, uriFrom, numberAt, optionalAt, refresherAt, stateFieldOf}
-use Rattle.image.specs.declared.parts.Text.{Text}
-use Rattle.image.specs.declared.parts.Text.the-variants as T
+use Rattle.codec.specs.Places.{textSpan, textFrom}
+use Rattle.image.specs.Places.{idFrom, uriFrom, numberAt, optionalAt, refresherAt, stateFieldOf}
+use Rattle.codec.specs.declared.reading.Text.{Text}
+use Rattle.codec.specs.declared.reading.Text.the-variants as T
 use Rattle.image.specs.declared.parts.UriText.the-variants as U
 use Rattle.image.specs.declared.parts.Number.the-variants as N
 use Rattle.image.specs.declared.parts.OptionalNumber.the-variants as O
 use Rattle.image.specs.declared.parts.RefresherNumber.the-variants as F
 use Rattle.image.specs.declared.parts.StateField.the-variants as S
-use Rattle.image.proofs.AnswerLaws.{TextGot, text-got, text-not, text-part}
+use Rattle.codec.proofs.AnswerLaws.{TextGot, text-got, text-not, text-part}
 use Rattle.image.proofs.UriLaws.{secure-is}
 
--- ---- one, two and four bytes
-
-short-two : (t : List ℕ) → length t < 2 → readTwo t ≡ none
-short-two [] h = refl
-short-two (a ∷ []) h = refl
-short-two (a ∷ b ∷ t) h = absurd (omega arith)
-
-short-four : (t : List ℕ) → length t < 4 → readFour t ≡ none
-short-four [] h = refl
-short-four (a ∷ []) h = refl
-short-four (a ∷ b ∷ []) h = refl
-short-four (a ∷ b ∷ c ∷ []) h = refl
-short-four (a ∷ b ∷ c ∷ d ∷ t) h = absurd (omega arith)
-
 module _ (s : List ℕ) (at : ℕ) where
-  pub byte-at : at < length s → byte .read (drop at s) ≡ some (record { value = getD s at 0; rest = drop (at + 1) s })
-  byte-at h = rw (drop-cons s at 0 h, add-one at)
-
-  pub byte-none : length s ≡ at → byte .read (drop at s) ≡ none
-  byte-none e = rw (drop-of-length-le s {i = at} (omega arith))
-
-  pub two-at : at + 2 ≤ length s → two .read (drop at s) ≡ some (record { value = getD s at 0 * 256 + getD s (at + 1) 0; rest = drop (at + 2) s })
-  two-at h =
-      let a : at < length s = omega arith in
-      let b : suc at < length s = omega arith in
-      let e : suc (suc at) ≡ at + 2 = omega arith in
-      rw (drop-cons s at 0 a, drop-cons s (suc at) 0 b, add-one at, e)
-
-  pub two-told : at + 2 ≤ length s → {a b : ℕ} → a ≡ getD s at 0 → b ≡ getD s (at + 1) 0 → two .read (drop at s) ≡ some (record { value = a * 256 + b; rest = drop (at + 2) s })
-  two-told h p q = rw (p, q) (two-at h)
-
-  pub two-none : length s - at < 2 → two .read (drop at s) ≡ none
-  two-none h = short-two (drop at s) (omega (arith, length-drop at s))
-
-  pub four-at : at + 4 ≤ length s → four .read (drop at s) ≡ some (record { value = ((getD s at 0 * 256 + getD s (at + 1) 0) * 256 + getD s (at + 2) 0) * 256 + getD s (at + 3) 0; rest = drop (at + 4) s })
-  four-at h =
-      let a : at < length s = omega arith in
-      let b : suc at < length s = omega arith in
-      let c : suc (suc at) < length s = omega arith in
-      let d : suc (suc (suc at)) < length s = omega arith in
-      let e : at + 2 ≡ suc (suc at) = omega arith in
-      let f : at + 3 ≡ suc (suc (suc at)) = omega arith in
-      let g : at + 4 ≡ suc (suc (suc (suc at))) = omega arith in
-      rw (drop-cons s at 0 a, drop-cons s (suc at) 0 b, drop-cons s (suc (suc at)) 0 c, drop-cons s (suc (suc (suc at))) 0 d, add-one at, e, f, g)
-
-  pub four-told : at + 4 ≤ length s → {a b c d : ℕ} → a ≡ getD s at 0 → b ≡ getD s (at + 1) 0 → c ≡ getD s (at + 2) 0 → d ≡ getD s (at + 3) 0
-      → four .read (drop at s) ≡ some (record { value = ((a * 256 + b) * 256 + c) * 256 + d; rest = drop (at + 4) s })
-  four-told h p q r t = rw (p, q, r, t) (four-at h)
-
-  pub four-none : length s - at < 4 → four .read (drop at s) ≡ none
-  four-none h = short-four (drop at s) (omega (arith, length-drop at s))
-
-  -- ---- texts
-
-  pub text-short : length s - at < 2 → T.Broken ≡ textFrom at (text .read (drop at s))
-  text-short h = rw (two-none h)
-
-  module _ {n : ℕ} (e : two .read (drop at s) ≡ some (record { value = n; rest = drop (at + 2) s })) where
-    pub text-long : length s - at - 2 < n → T.Broken ≡ textFrom at (text .read (drop at s))
-    text-long h = rw (e, lt-leb n (length (drop (at + 2) s)) (omega (arith, length-drop (at + 2) s)))
-
-    pub text-whole : at + 2 ≤ length s → n ≤ length s - at - 2 → T.At (record { start = at + 2; length = n }) ≡ textFrom at (text .read (drop at s))
-    text-whole k h =
-        let l : n ≤ length (drop (at + 2) s) = omega (arith, length-drop (at + 2) s) in
-        rw (e, le-leb n (length (drop (at + 2) s)) l, length-take-le n (drop (at + 2) s) l)
-
   -- ---- identifier parts
 
   pub id-absent : {b : Bool} → b ≡ false → T.At (record { start = at; length = 0 }) ≡ idFrom at (idText b .read (drop at s))
@@ -173,13 +108,13 @@ module _ (s : List ℕ) (at : ℕ) where
 
   module _ {b : Bool} (f : b ≡ true) where
     pub number-short : length s - at < 4 → N.Broken ≡ numberAt at (number b .read (drop at s))
-    number-short h = rw (f, four-none h)
+    number-short h = rw (f, four-none s at h)
 
     pub optional-short : length s - at < 4 → O.Broken ≡ optionalAt at (optional b .read (drop at s))
-    optional-short h = rw (f, four-none h)
+    optional-short h = rw (f, four-none s at h)
 
     pub side-short : length s - at < 4 → F.Broken ≡ refresherAt at (refresherField b .read (drop at s))
-    side-short h = rw (f, four-none h)
+    side-short h = rw (f, four-none s at h)
 
     module _ {n : ℕ} (e : four .read (drop at s) ≡ some (record { value = n; rest = drop (at + 4) s })) where
       pub number-zero : n ≡ 0 → N.Broken ≡ numberAt at (number b .read (drop at s))
@@ -203,15 +138,15 @@ module _ (s : List ℕ) (at : ℕ) where
   -- ---- the state byte
 
   pub state-none : length s ≡ at → S.Broken ≡ stateFieldOf (stateByte .read (drop at s))
-  state-none e = rw (byte-none e)
+  state-none e = rw (byte-none s at e)
 
   module _ (h : at < length s) where
     pub state-large : 16 ≤ getD s at 0 → S.Broken ≡ stateFieldOf (stateByte .read (drop at s))
-    state-large l = rw (byte-at h, le-ltb (getD s at 0) 16 l)
+    state-large l = rw (byte-at s at h, le-ltb (getD s at 0) 16 l)
 
     module _ (l : getD s at 0 < 16) where
       pub state-whole : {t : State} → 0 < getD s at 0 % 4 → t ≡ stateFrom (stateOf (getD s at 0 % 4)) → S.Of t (eqb (getD s at 0 / 4 % 2) 1) (eqb (getD s at 0 / 8) 1) ≡ stateFieldOf (stateByte .read (drop at s))
-      state-whole p e = rw (byte-at h, lt-ltb (getD s at 0) 16 l, lt-ltb 0 (getD s at 0 % 4) p) (ap (λ (x : State). S.Of x (eqb (getD s at 0 / 4 % 2) 1) (eqb (getD s at 0 / 8) 1)) e)
+      state-whole p e = rw (byte-at s at h, lt-ltb (getD s at 0) 16 l, lt-ltb 0 (getD s at 0 % 4) p) (ap (λ (x : State). S.Of x (eqb (getD s at 0 / 4 % 2) 1) (eqb (getD s at 0 / 8) 1)) e)
 
       pub state-early : getD s at 0 % 4 ≡ 1 → S.Of state.Early (eqb (getD s at 0 / 4 % 2) 1) (eqb (getD s at 0 / 8) 1) ≡ stateFieldOf (stateByte .read (drop at s))
       state-early e = state-whole (omega arith) (rw e)
@@ -223,4 +158,4 @@ module _ (s : List ℕ) (at : ℕ) where
       state-terminated e = state-whole (omega arith) (rw e)
 
       pub state-zero : (getD s at 0 % 4 ≡ 1 → ⊥) → (getD s at 0 % 4 ≡ 2 → ⊥) → (getD s at 0 % 4 ≡ 3 → ⊥) → S.Broken ≡ stateFieldOf (stateByte .read (drop at s))
-      state-zero x y z = rw (byte-at h, lt-ltb (getD s at 0) 16 l, le-ltb 0 (getD s at 0 % 4) (omega arith))
+      state-zero x y z = rw (byte-at s at h, lt-ltb (getD s at 0) 16 l, le-ltb 0 (getD s at 0 % 4) (omega arith))

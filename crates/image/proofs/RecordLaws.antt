@@ -8,7 +8,7 @@ use mathlib.Core.Option.{Option, none, some}
 use lib.ListN.{length, drop}
 use lib.Dec.{eqb}
 use borrow.Author.Tests.{not-true, not-false}
-use Rattle.record.specs.Codec.{Reading, two, paired, passing, renamed, keyedBy}
+use Rattle.codec.specs.Codec.{Reading, two, paired, passing, renamed, keyedBy}
 use Rattle.record.specs.Record.{Fields, Tail, isSecure, secureRight, mapOf, fields, recordOf, image, stateByte, idsField, urisField, tailField}
 use Rattle.record.specs.NumbersForm.{stateFrom, numbersFrom}
 use Rattle.record.specs.declared.numbers.State.{State}
@@ -26,8 +26,9 @@ use Rattle.image.specs.declared.sections.TailSection.{TailSection}
 use Rattle.image.specs.declared.sections.TailSection.the-variants as TailS
 use Rattle.image.specs.declared.RecordAt.{RecordAt}
 use Rattle.image.specs.declared.RecordReading.the-variants as Whole
-use Rattle.image.proofs.PartLaws.{two-none}
-use Rattle.image.proofs.AnswerLaws.{both, IdsGot, ids-not, StateGot, state-not, UrisGot, uris-not, TailGot, tail-not}
+use Rattle.codec.proofs.ReadLaws.{two-none}
+use Rattle.codec.proofs.AnswerLaws.{both}
+use Rattle.image.proofs.AnswerLaws.{IdsGot, ids-not, StateGot, state-not, UrisGot, uris-not, TailGot, tail-not}
 use Rattle.image.proofs.MapBits.{isMap, map-is, map-not, ids-give, tail-gives}
 
 -- ---- the secure bit: v is what the code holds it against

@@ -10,14 +10,15 @@ use lib.ListN.{length, drop, getD}
 use lib.Dec.{leb, ltb}
 use borrow.Author.Tests.{lt-ltb, le-leb, lt-leb}
 use Rattle.text.specs.declared.Span.{Span}
-use Rattle.record.specs.Codec.{Reading, inFront, passing, readAll}
+use Rattle.codec.specs.Codec.{Reading, inFront, passing, readAll}
 use Rattle.record.specs.Record.{uriText, routesField, isFilled, bitOf}
 use Rattle.image.specs.Places.{textsSize, routesAt}
 use Rattle.image.specs.declared.parts.Routes.{Routes}
 use Rattle.image.specs.declared.parts.Routes.the-variants as R
 use Rattle.image.proofs.SizeLaws.{texts-end}
-use Rattle.image.proofs.PartLaws.{byte-at, byte-none}
-use Rattle.image.proofs.AnswerLaws.{both, UriGot}
+use Rattle.codec.proofs.ReadLaws.{byte-at, byte-none}
+use Rattle.codec.proofs.AnswerLaws.{both}
+use Rattle.image.proofs.AnswerLaws.{UriGot}
 
 -- gone on with, where i texts were read before and the next would begin at `end`
 abbrev pub resume : ℕ → ℕ → Option (Reading (List (List ℕ))) → Routes

@@ -10,8 +10,8 @@ use Rattle.record.specs.Record.{stands, idText, uriText, number, optional, refr
 use Rattle.record.specs.declared.numbers.Optional.{Optional}
 use Rattle.record.specs.declared.numbers.Refresher.{Refresher}
 use Rattle.image.specs.Places.{idFrom, numberAt, optionalAt, refresherAt, routesAt, idsFrom, urisFrom, tailFrom}
-use Rattle.image.specs.declared.parts.Text.{Text}
-use Rattle.image.specs.declared.parts.Text.the-variants as T
+use Rattle.codec.specs.declared.reading.Text.{Text}
+use Rattle.codec.specs.declared.reading.Text.the-variants as T
 use Rattle.image.specs.declared.parts.Number.{Number}
 use Rattle.image.specs.declared.parts.Number.the-variants as N
 use Rattle.image.specs.declared.parts.OptionalNumber.{OptionalNumber}
@@ -23,7 +23,8 @@ use Rattle.image.specs.declared.parts.Routes.the-variants as R
 use Rattle.image.specs.declared.sections.IdsSection.the-variants as IdsS
 use Rattle.image.specs.declared.sections.UrisSection.the-variants as UrisS
 use Rattle.image.specs.declared.sections.TailSection.the-variants as TailS
-use Rattle.image.proofs.AnswerLaws.{both, IdGot, id-got, id-not, UriGot, NumberGot, number-got, number-not, OptionalGot, optional-got, optional-not, SideGot, side-got, side-not, RoutesGot, routes-got, routes-not}
+use Rattle.codec.proofs.AnswerLaws.{both}
+use Rattle.image.proofs.AnswerLaws.{IdGot, id-got, id-not, UriGot, NumberGot, number-got, number-not, OptionalGot, optional-got, optional-not, SideGot, side-got, side-not, RoutesGot, routes-got, routes-not}
 
 -- ---- in a caller's words: r is what the call gave, b the bit that it was handed
 

@@ -3,15 +3,16 @@
 -- with length 0. What the parts are is `image .read` alone (record/specs/Record.antt); here are only their places.
 use Prim.Native.Nat.{ℕ, _+_, _*_}
 use mathlib.Core.List.{List, [], _∷_}
-use mathlib.Core.Option.{Option, none, some}
+use mathlib.Core.Option.{Option}
 use lib.ListN.{length}
 use lib.Dec.{ltb}
 use Rattle.text.specs.declared.Span.{Span}
-use Rattle.record.specs.Codec.{Reading}
+use Rattle.codec.specs.Codec.{Reading}
+use Rattle.codec.specs.Places.{answered, textSpan, textEnd}
 use Rattle.record.specs.Record.{Side, Record, Numbers, Ids, Uris, Tail, StateByte, bitOf, isFilled, isGiven, isSips}
 use Rattle.record.specs.NumbersForm.{stateFrom, numberFrom, sideFrom, numbersFrom}
-use Rattle.image.specs.declared.parts.Text.{Text}
-use Rattle.image.specs.declared.parts.Text.the-variants as text
+use Rattle.codec.specs.declared.reading.Text.{Text}
+use Rattle.codec.specs.declared.reading.Text.the-variants as text
 use Rattle.image.specs.declared.parts.UriText.{UriText}
 use Rattle.image.specs.declared.parts.UriText.the-variants as uriText
 use Rattle.image.specs.declared.parts.Number.{Number}
@@ -60,25 +61,11 @@ routesSize ts = bitOf (isFilled ts) + textsSize ts
 
 -- ---- one field
 
--- what a reader answers: that it is broken, or what it tells of the value
-abbrev pub answered : {A R : Type 0} → R → (A → R) → Option (Reading A) → R
-answered broken tell none = broken
-answered broken tell (some x) = tell (x .value)
-
 abbrev pub idSpan : ℕ → List ℕ → Span
 idSpan at t = record { start = at + lead t; length = length t }
 
 abbrev pub idEnd : ℕ → List ℕ → ℕ
 idEnd at t = at + lead t + length t
-
-abbrev pub textSpan : ℕ → List ℕ → Span
-textSpan at t = record { start = at + 2; length = length t }
-
-abbrev pub textEnd : ℕ → List ℕ → ℕ
-textEnd at t = at + 2 + length t
-
-abbrev pub textFrom : ℕ → Option (Reading (List ℕ)) → Text
-textFrom at o = answered text.Broken (λ v. text.At (textSpan at v)) o
 
 abbrev pub idFrom : ℕ → Option (Reading (List ℕ)) → Text
 idFrom at o = answered text.Broken (λ v. text.At (idSpan at v)) o

@@ -17,10 +17,6 @@ ghost use Rattle.image.specs.Places.{recordFrom};
 mod parts;
 mod sections;
 
-pub use parts::Text;
-pub use parts::read_four;
-pub use parts::read_text;
-pub use parts::read_two;
 pub use sections::IdsAt;
 pub use sections::UrisAt;
 
@@ -49,7 +45,7 @@ pub fn read_record(bytes: &[u8], at: usize) -> RecordReading
     if bytes.len() - at < 2 {
         return RecordReading::Broken;
     }
-    let map = parts::read_two(bytes, at);
+    let map = codec::read_two(bytes, at);
     if !is_map(map) {
         return RecordReading::Broken;
     }
@@ -82,7 +78,8 @@ fn is_map(map: usize) -> bool
     map < 8192
 }
 
-fn either(a: bool, b: bool) -> bool
+// One of two flags stands, or both.
+pub fn either(a: bool, b: bool) -> bool
     ensures { λ r. ⌜ r ≡ a || b ⌝ }
 {
     if a {

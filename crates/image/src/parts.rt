@@ -1,24 +1,21 @@
 // The fields of an image, each read at a place. A field whose bit doesn't stand takes no bytes.
+use codec::Text;
+use codec::read_four;
+use codec::read_text;
+use codec::wide;
 use record::Optional;
 use record::Refresher;
 use record::State;
 use text::Span;
 use uri::Uri;
 ghost use mathlib.Core.Path.{_≡_};
-ghost use mathlib.Core.Option.{some};
 ghost use Prim.Native.Nat.{_+_, _≤_, _<_};
 ghost use lib.ListN.{length, drop};
-ghost use Rattle.record.specs.Codec.{text, two, four};
 ghost use Rattle.record.specs.Record.{idText, uriText, number, optional, refresherField, routesField, stateByte};
-ghost use Rattle.image.specs.Places.{textFrom, idFrom, uriFrom, numberAt, optionalAt, refresherAt, routesAt, stateFieldOf};
+ghost use Rattle.codec.specs.Places.{textFrom};
+ghost use Rattle.image.specs.Places.{idFrom, uriFrom, numberAt, optionalAt, refresherAt, routesAt, stateFieldOf};
 
-// Where a text lies; the next field begins at its end.
-pub enum Text {
-    At(Span),
-    Broken,
-}
-
-// The same of a URI, with whether it is `sips`.
+// Where a URI lies, and whether it is `sips`; the next field begins at its end.
 pub enum UriText {
     At(Span, bool),
     Broken,
@@ -199,53 +196,4 @@ pub fn read_state(bytes: &[u8], at: usize) -> StateField
         3 => StateField::Of(State::Terminated, we_are_uac, secure),
         _ => StateField::Broken,
     }
-}
-
-// Two length bytes, then as many bytes.
-pub fn read_text(bytes: &[u8], at: usize) -> Text
-    requires { ⌜ at ≤ length (now bytes) ⌝ }
-    ensures { λ r. ⌜ r ≡ textFrom at (text .read (drop at (now (bytes .entry)))) ⌝ }
-{
-    if bytes.len() - at < 2 {
-        return Text::Broken;
-    }
-    let n = read_two(bytes, at);
-    if bytes.len() - at - 2 < n {
-        return Text::Broken;
-    }
-    Text::At(Span {
-        start: at + 2,
-        length: n,
-    })
-}
-
-// The two bytes at a place, as a number.
-pub fn read_two(bytes: &[u8], at: usize) -> usize
-    requires { ⌜ at + 2 ≤ length (now bytes) ⌝ }
-    ensures { λ r. ⌜ two .read (drop at (now (bytes .entry))) ≡ some (record { value = r; rest = drop (at + 2) (now (bytes .entry)) }) ⌝ }
-    ensures { λ r. ⌜ r < 65536 ⌝ }
-{
-    wide(bytes[at]) * 256 + wide(bytes[at + 1])
-}
-
-// The four bytes at a place, as a number.
-pub fn read_four(bytes: &[u8], at: usize) -> u32
-    requires { ⌜ at + 4 ≤ length (now bytes) ⌝ }
-    ensures { λ r. ⌜ four .read (drop at (now (bytes .entry))) ≡ some (record { value = r; rest = drop (at + 4) (now (bytes .entry)) }) ⌝ }
-{
-    ((word(bytes[at]) * 256 + word(bytes[at + 1])) * 256 + word(bytes[at + 2])) * 256
-        + word(bytes[at + 3])
-}
-
-// A byte as a wider number.
-fn wide(b: u8) -> usize
-    ensures { λ r. ⌜ (r ≡ b) × (r < 256) ⌝ }
-{
-    b as usize
-}
-
-fn word(b: u8) -> u32
-    ensures { λ r. ⌜ (r ≡ b) × (r < 256) ⌝ }
-{
-    b as u32
 }

@@ -26,27 +26,6 @@ put-cut f m m′ b s at p q =
     same-size : (a b c d : List ℕ) → length b ≡ length c → length (a ++ (b ++ d)) ≡ length (a ++ (c ++ d))
     same-size a b c d h = simp length-append (omega arith)
 
--- ---- two sections beside each other: a length and a text
-
--- g the used bytes before the record, r those after it; in its image a before the length l and the text t, z after them
-module _ (g a l l′ t t′ z r s : List ℕ) (at n : ℕ) (p : at ≡ length g + length a) (q : length l ≡ length l′) (w : n ≡ at + length l) where
-  pub text-edit : putAt at l′ (over (spliced n (length t) t′ (g ++ ((a ++ (l ++ (t ++ z))) ++ r))) s) ≡ over (g ++ ((a ++ (l′ ++ (t′ ++ z))) ++ r)) s
-  text-edit =
-      ap (λ (u : List ℕ). putAt at l′ (over (spliced n (length t) t′ u) s)) (around g a l t z r)
-      ∙ ap (λ (u : List ℕ). putAt at l′ (over u s)) (splice-cut (g ++ (a ++ l)) t t′ (z ++ r) n (length t) (simp length-append (omega arith)) refl)
-      ∙ ap (λ (u : List ℕ). putAt at l′ (over u s)) (before g a l t′ z r)
-      ∙ put-cut (g ++ a) l l′ (t′ ++ (z ++ r)) s at (simp length-append (omega arith)) q
-      ∙ ap (λ (u : List ℕ). over u s) (whole g a l′ t′ z r)
-    where
-      around : (g a l t z r : List ℕ) → g ++ ((a ++ (l ++ (t ++ z))) ++ r) ≡ (g ++ (a ++ l)) ++ (t ++ (z ++ r))
-      around g a l t z r = simp append-assoc
-
-      before : (g a l t z r : List ℕ) → (g ++ (a ++ l)) ++ (t ++ (z ++ r)) ≡ (g ++ a) ++ (l ++ (t ++ (z ++ r)))
-      before g a l t z r = simp append-assoc
-
-      whole : (g a l t z r : List ℕ) → (g ++ a) ++ (l ++ (t ++ (z ++ r))) ≡ g ++ ((a ++ (l ++ (t ++ z))) ++ r)
-      whole g a l t z r = simp append-assoc
-
 -- ---- three sections: the first, the third and the fifth
 
 module _ (g a a′ b c c′ d e e′ f r s : List ℕ) (k m n : ℕ) (p : k ≡ length g) (q : length a ≡ length a′) (v : m ≡ k + length a + length b) (w : length c ≡ length c′) (x : n ≡ m + length c + length d) where

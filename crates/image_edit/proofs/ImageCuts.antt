@@ -7,7 +7,7 @@ use native.Mathlib.Omega.{arith}
 use lib.ListN.{length, take, drop, getD, take-append-drop}
 use lib.Seq.{length-take-le}
 use Rattle.record.specs.Record.{Record, Ids, isFilled, idText, image}
-use Rattle.record.proofs.CodecLaws.{Bytes, bytes-take, bytes-drop, bytes-all}
+use Rattle.codec.proofs.CodecLaws.{Bytes, bytes-take, bytes-drop, bytes-all}
 use Rattle.record.proofs.WellFormedLaws.{image-back}
 use Rattle.image.specs.Places.{lead, idsPlaces, recordPlaces, recordFrom}
 use Rattle.image.specs.declared.RecordAt.{RecordAt}

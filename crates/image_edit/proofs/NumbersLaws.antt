@@ -9,7 +9,7 @@ use lib.Dec.{ltb}
 use lib.ListN.{length, take, drop, length-append}
 use lib.Seq.{take-at}
 use Rattle.edit.specs.Edit.{over, putAt, spliced}
-use Rattle.record.specs.Codec.{two}
+use Rattle.codec.specs.Codec.{two}
 use Rattle.record.specs.Record.{Numbers, Record, bitOf, isFilled, isGiven, routesField, stateByteNumber, image}
 use Rattle.image.specs.declared.RecordAt.{RecordAt}
 use Rattle.image.specs.Places.{idsOf, urisOf, numbersSize}

@@ -1,15 +1,15 @@
-// A record changed in its place in lent bytes: its numbers, or its target. The caller has read it, and has measured that the change fits.
+// A record's numbers changed in its place in lent bytes. The caller has read it, and has measured that the change fits.
+use codec::write_byte;
+use codec::write_two;
 use edit::replace;
 use image::IdsAt;
 use image::RecordAt;
+use image::either;
 use image_writer::map_of;
 use image_writer::state_byte;
-use image_writer::write_byte;
 use image_writer::write_numbers;
-use image_writer::write_two;
 use record::Numbers;
 ghost use mathlib.Core.Path.{_≡_};
-ghost use mathlib.Core.Bool.{_||_};
 ghost use Prim.Native.Nat.{_+_, _-_, _≤_, _<_};
 ghost use lib.Dec.{ltb};
 ghost use lib.ListN.{length, take};
@@ -20,7 +20,7 @@ ghost use Rattle.image.specs.Places.{recordFrom};
 ghost use Rattle.image.specs.declared.RecordReading.the-variants.{Whole};
 ghost use Rattle.image_writer.specs.Parts.{numbersBytes};
 ghost use Rattle.image_edit.specs.Changes.{readAt, changed};
-ghost use Rattle.record.specs.Changes.{withNumbers, withTarget};
+ghost use Rattle.record.specs.Changes.{withNumbers};
 ghost use Rattle.image_edit.specs.Maps.{mapFrom};
 
 // Other numbers, the state among them, for the record whose image begins at a place of the used bytes. The new used length.
@@ -47,23 +47,6 @@ pub fn change_numbers(
     let n = replace_numbers(bytes, used, from, r.routes - from, numbers);
     write_byte(bytes, state_at, state);
     write_two(bytes, at, map);
-    n
-}
-
-// Another target, a text of at most 65,535 bytes.
-pub fn change_target(bytes: &mut [u8], used: usize, at: usize, r: RecordAt, target: &[u8]) -> usize
-    requires { ⌜ (used ≤ length (now bytes)) × (at ≤ used) × (length (now target) < 65536) ⌝ }
-    requires { ⌜ recordFrom at (readAt at (take used (now bytes))) ≡ Whole r ⌝ }
-    requires { ⌜ length (changed (withTarget (now target)) at (take used (now bytes))) ≤ length (now bytes) ⌝ }
-    ensures { λ n. ⌜ n ≡ length (changed (withTarget (now (target .entry))) at (take used (now (bytes .entry)))) ⌝ }
-    ensures { λ _. ⌜ now (bytes .exit) ≡ over (changed (withTarget (now (target .entry))) at (take used (now (bytes .entry)))) (now (bytes .entry)) ⌝ }
-{
-    let uris = r.uris;
-    let old = uris.target;
-    let start = old.start;
-    let old_length = old.length;
-    let n = replace(bytes, used, start, old_length, target);
-    write_two(bytes, start - 2, target.len());
     n
 }
 
@@ -100,13 +83,4 @@ fn bit(n: usize) -> usize
         return 0;
     }
     1
-}
-
-pub fn either(a: bool, b: bool) -> bool
-    ensures { λ r. ⌜ r ≡ a || b ⌝ }
-{
-    if a {
-        return true;
-    }
-    b
 }

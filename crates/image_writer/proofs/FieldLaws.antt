@@ -2,14 +2,15 @@
 use Prim.Native.Nat.{ℕ, zero, suc, _+_, _*_, _≤_, _<_}
 use native.Mathlib.Nat.{zero-add}
 use native.Mathlib.Omega.{arith}
-use mathlib.Core.Path.{_≡_, refl, sym, ap, subst, _∙_}
+use mathlib.Core.Path.{_≡_, refl, ap, subst, _∙_}
 use mathlib.Core.Bool.{Bool, true, false}
 use mathlib.Core.List.{List, [], _∷_, _++_, append-assoc}
 use mathlib.Core.Option.{Option, none, some}
 use lib.ListN.{length, length-append}
 use lib.Dec.{ltb}
 use borrow.Author.Tests.{lt-ltb, le-ltb}
-use Rattle.record.specs.Codec.{two, four, text}
+use Rattle.codec.specs.Codec.{two, four, text}
+use Rattle.codec.proofs.SizeLaws.{text-size}
 use Rattle.record.specs.Record.{Side, uac, uas, Numbers, Ids, Uris, bitOf, isFilled, isGiven, idsMap, idText, number, optional, refresherField}
 use Rattle.edit.specs.Edit.{over}
 use Rattle.edit.proofs.EditLaws.{Wrote, wrote-then}
@@ -35,9 +36,6 @@ id-empty (x ∷ t) e = absurd (omega arith)
 pub id-filled : (t : List ℕ) → (length t ≡ 0 → ⊥) → idText (isFilled t) .write t ≡ text .write t
 id-filled [] n = absurd (n refl)
 id-filled (x ∷ t) n = refl
-
-pub text-size : (t : List ℕ) → length (text .write t) ≡ 2 + length t
-text-size t = length-append (two .write (length t)) t
 
 -- ---- numbers
 

@@ -4,7 +4,7 @@ use native.Mathlib.Omega.{arith}
 use mathlib.Core.Path.{_≡_, refl, sym, ap, _∙_}
 use mathlib.Core.Bool.{Bool, true, false, _||_}
 use mathlib.Core.List.{List, [], _∷_, _++_, append-assoc}
-use Rattle.record.specs.Codec.{two}
+use Rattle.codec.specs.Codec.{two}
 use Rattle.record.specs.Record.{Record, bitOf, stands, isFilled, isGiven, isSips, number, optional, refresherField, fields, fieldsOf, routesField, mapOf, image}
 use Rattle.record.proofs.MapLaws.{stands-0, stands-1, stands-2, stands-7, stands-8, stands-9, stands-10, stands-11, stands-12}
 use lib.Dec.{ltb}

@@ -7,9 +7,9 @@ use mathlib.Core.List.{List, [], _∷_, _++_, append-assoc}
 use mathlib.Core.Option.{some}
 use lib.ListN.{length, take, drop}
 use lib.Seq.{drop-drop, take-append-seam, drop-append-seam}
-use Rattle.record.specs.Codec.{Reading, two}
+use Rattle.codec.specs.Codec.{Reading, two}
 use Rattle.record.specs.Record.{Record, Ids, isFilled, idText, image}
-use Rattle.record.proofs.CodecLaws.{Bytes}
+use Rattle.codec.proofs.CodecLaws.{Bytes}
 use Rattle.record.proofs.WellFormedLaws.{image-back}
 use Rattle.image.specs.Places.{lead, idEnd}
 use Rattle.image_writer.specs.Parts.{idsBytes, urisBytes, numbersBytes, mapOfParts, stateByteOf, imageOf}

@@ -8,7 +8,7 @@ use lib.ListN.{length}
 use lib.Dec.{ltb}
 use Rattle.limits.specs.Outcome.{Outcome, given, causeIf, refuseBy}
 use Rattle.limits.specs.declared.Refusal.the-variants.{NoRoom}
-use Rattle.record.specs.Codec.{two, text}
+use Rattle.codec.specs.Codec.{two, text}
 use Rattle.record.specs.Record.{Numbers, Ids, Uris, StateByte, bitOf, isFilled, isGiven, idsMap, idText, number, optional, refresherField, stateByteNumber}
 
 -- the parts of a record that are given

@@ -1,5 +1,6 @@
 // The fields of an image, each written at a place. A field whose bit doesn't stand takes no bytes. Each answers the place after it.
-use edit::put;
+use codec::write_four;
+use codec::write_text;
 use record::Optional;
 use record::Refresher;
 ghost use mathlib.Core.Path.{_≡_};
@@ -8,7 +9,7 @@ ghost use Prim.Native.Nat.{_+_, _≤_, _<_};
 ghost use lib.ListN.{length};
 ghost use lib.Dec.{ltb};
 ghost use Rattle.edit.specs.Edit.{putAt};
-ghost use Rattle.record.specs.Codec.{two, four, text};
+ghost use Rattle.codec.specs.Codec.{two, four, text};
 ghost use Rattle.record.specs.NumbersForm.{numberIn, sideIn};
 ghost use Rattle.record.specs.Record.{isFilled, isGiven, idText, number, optional, refresherField};
 
@@ -22,17 +23,6 @@ pub fn write_id(out: &mut [u8], at: usize, t: &[u8]) -> usize
         return at;
     }
     write_text(out, at, t)
-}
-
-// Two length bytes, and the text.
-pub fn write_text(out: &mut [u8], at: usize, t: &[u8]) -> usize
-    requires { ⌜ (length (now t) < 65536) × (at + 2 + length (now t) ≤ length (now out)) ⌝ }
-    ensures { λ r. ⌜ r ≡ at + length (text .write (now (t .entry))) ⌝ }
-    ensures { λ _. ⌜ now (out .exit) ≡ putAt at (text .write (now (t .entry))) (now (out .entry)) ⌝ }
-{
-    let a = write_two(out, at, t.len());
-    put(out, a, t);
-    a + t.len()
 }
 
 // A number that isn't 0; nothing where it is.
@@ -70,38 +60,4 @@ pub fn write_refresher(out: &mut [u8], at: usize, r: Refresher) -> usize
         Refresher::Uas => write_four(out, at, 2),
         Refresher::Unspecified => at,
     }
-}
-
-// One byte.
-pub fn write_byte(out: &mut [u8], at: usize, b: u8) -> usize
-    requires { ⌜ at + 1 ≤ length (now out) ⌝ }
-    ensures { λ r. ⌜ r ≡ at + 1 ⌝ }
-    ensures { λ _. ⌜ now (out .exit) ≡ putAt at (b ∷ []) (now (out .entry)) ⌝ }
-{
-    put(out, at, &[b]);
-    at + 1
-}
-
-// A number of two bytes, the higher first.
-pub fn write_two(out: &mut [u8], at: usize, n: usize) -> usize
-    requires { ⌜ (n < 65536) × (at + 2 ≤ length (now out)) ⌝ }
-    ensures { λ r. ⌜ r ≡ at + 2 ⌝ }
-    ensures { λ _. ⌜ now (out .exit) ≡ putAt at (two .write n) (now (out .entry)) ⌝ }
-{
-    put(out, at, &[(n / 256) as u8, (n % 256) as u8]);
-    at + 2
-}
-
-// A number of four bytes, the highest first.
-fn write_four(out: &mut [u8], at: usize, n: u32) -> usize
-    requires { ⌜ at + 4 ≤ length (now out) ⌝ }
-    ensures { λ r. ⌜ r ≡ at + 4 ⌝ }
-    ensures { λ _. ⌜ now (out .exit) ≡ putAt at (four .write n) (now (out .entry)) ⌝ }
-{
-    let a = (n / 16777216) as u8;
-    let b = (n / 65536 % 256) as u8;
-    let c = (n / 256 % 256) as u8;
-    let d = (n % 256) as u8;
-    put(out, at, &[a, b, c, d]);
-    at + 4
 }

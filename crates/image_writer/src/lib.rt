@@ -5,6 +5,8 @@ use crate::sections::ids_size;
 use crate::sections::uris_size;
 use crate::sections::write_ids;
 use crate::sections::write_uris;
+use codec::write_byte;
+use codec::write_two;
 use limits::Refusal;
 use output::Written;
 use record::Numbers;
@@ -20,9 +22,6 @@ ghost use Rattle.image_writer.specs.Parts.{frontFrom, frontOf, fittedBef
 mod fields;
 mod sections;
 
-pub use fields::write_byte;
-pub use fields::write_text;
-pub use fields::write_two;
 pub use sections::map_of;
 pub use sections::numbers_size;
 pub use sections::state_byte;

@@ -3,7 +3,7 @@ use crate::fields::write_id;
 use crate::fields::write_number;
 use crate::fields::write_optional;
 use crate::fields::write_refresher;
-use crate::fields::write_text;
+use codec::write_text;
 use record::Numbers;
 use record::Optional;
 use record::Refresher;

@@ -1,1 +1,2 @@
+pub mod HalfLaws
 pub mod LineLaws

@@ -1,7 +1,10 @@
 -- Document 01, "Handover listing": a line per record, then the total. A line has nine columns with a space between them: "position, state
--- letter (E, C, T), side, local, remote, last ACK, seconds, refresh second (seconds halved, rounded down), route count; absent is `-`, but
--- local and remote numbers print 0 when their bits don't stand". Positions are counted from 1.
-use Prim.Native.Nat.{ℕ, suc, _/_}
+-- letter (E, C, T), side, local, remote, last ACK, seconds, refresh second, route count; absent is `-`, but local and remote numbers print 0
+-- when their bits don't stand". Positions are counted from 1. Document 02, request 8: the refresh second is half of the seconds, "halves to the
+-- nearest second, a half going to the even one".
+use Prim.Native.Nat.{ℕ, suc, _+_, _*_, _-_, _≤_, _/_, _%_}
+use mathlib.Core.Path.{_≡_}
+use mathlib.Core.Logic.{_⊎_}
 use mathlib.Core.Bool.{Bool, true, false}
 use mathlib.Core.List.{List, [], _∷_, _++_}
 use mathlib.Core.Option.{Option, none, some}
@@ -35,10 +38,23 @@ abbrev pub orDash : Option ℕ → List ℕ
 orDash none = 45 ∷ []
 orDash (some n) = decimalOf n
 
--- the seconds halved, rounded down
+-- How far two numbers are apart.
+abbrev pub apart : ℕ → ℕ → ℕ
+apart a b = (a - b) + (b - a)
+
+-- h is half of n to the nearest whole number, and the even one of two that are as near. All is said of twice the number, since n may be odd.
+pub record NearestHalf (n h : ℕ) : Type 0 where
+  pub nearest : (k : ℕ) → apart (2 * h) n ≤ apart (2 * k) n
+  pub even-of-two : (k : ℕ) → apart (2 * k) n ≡ apart (2 * h) n → (k ≡ h) ⊎ (h % 2 ≡ 0)
+
+-- That half: rounded down, and one more where n is three above a multiple of four, since the lower one is odd there (`nearest-half`).
+abbrev pub halfToEven : ℕ → ℕ
+halfToEven n = n / 2 + n % 4 / 3
+
+-- the refresh second of a number of seconds
 abbrev pub refreshSecond : Option ℕ → Option ℕ
 refreshSecond none = none
-refreshSecond (some n) = some (n / 2)
+refreshSecond (some n) = some (halfToEven n)
 
 abbrev pub columnsOf : ℕ → Numbers → Bool → ℕ → List (List ℕ)
 columnsOf position x weAreUac routes =

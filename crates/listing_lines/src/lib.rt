@@ -115,12 +115,12 @@ fn write_optional(out: &mut [u8], at: usize, n: Optional) -> usize
     }
 }
 
-// The seconds halved, rounded down.
+// Half of the seconds, to the nearest whole second; of two that are as near, the even one.
 fn refresh_second(seconds: Optional) -> Optional
     ensures { λ r. ⌜ numberIn r ≡ refreshSecond (numberIn seconds) ⌝ }
 {
     match seconds {
-        Optional::Number(n) => Optional::Number(n / 2),
+        Optional::Number(n) => Optional::Number(n / 2 + n % 4 / 3),
         Optional::Absent => Optional::Absent,
     }
 }

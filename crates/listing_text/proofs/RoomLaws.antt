@@ -15,7 +15,7 @@ use Rattle.output.specs.Output.{fitted, writtenFrom}
 use Rattle.output.specs.declared.Written.the-variants.{Length, Refused}
 use Rattle.record.specs.Record.{Record}
 use Rattle.record.specs.Store.{decodeAll}
-use Rattle.record.proofs.CodecLaws.{Bytes}
+use Rattle.codec.proofs.CodecLaws.{Bytes}
 use Rattle.listing_lines.specs.Listing.{listing, listingOf}
 use Rattle.listing_text.proofs.SizeLaws.{listing-small}
 

@@ -16,15 +16,16 @@ use Rattle.uri.specs.SipUri.{sip, sips, hostText, isHostText, withHost, withUse
 use Rattle.uri.proofs.Parts.{starts-fits}
 use Rattle.output.specs.Decimal.{decimalOf}
 use Rattle.output.proofs.DecimalLaws.{few-digits, ten-digits}
-use Rattle.record.specs.Codec.{writeAll}
+use Rattle.codec.specs.Codec.{writeAll}
 use Rattle.record.specs.Record.{State, early, confirmed, terminated, Record, isRead, isReadable, bitOf, image, OptionalPart, WellFormed}
 use Rattle.record.specs.Store.{encodeAll, decodeAll}
-use Rattle.record.proofs.CodecLaws.{Bytes}
+use Rattle.codec.proofs.CodecLaws.{Bytes}
 use Rattle.record.proofs.WellFormedLaws.{image-round}
 use Rattle.record.proofs.StoreLaws.{EachFormed, decoded}
 use Rattle.image.specs.Places.{numberSize, optionSize}
 use Rattle.image.proofs.SizeLaws.{recordSize, record-sized}
-use Rattle.listing_lines.specs.Listing.{stateLetter, sideText, orDash, refreshSecond, columns, lineOf, linesFrom, totalLine, listingOf}
+use Rattle.listing_lines.proofs.HalfLaws.{half-least}
+use Rattle.listing_lines.specs.Listing.{stateLetter, sideText, orDash, halfToEven, refreshSecond, columns, lineOf, linesFrom, totalLine, listingOf}
 
 -- ---- an image
 
@@ -84,7 +85,7 @@ option-length (some n) h = omega (arith, ten-digits n h)
 -- the seconds, and half of them
 seconds-length : (o : Option ℕ) → OptionalPart o → length (orDash o) + length (orDash (refreshSecond o)) ≤ 12 + 2 * optionSize o
 seconds-length none h = omega arith
-seconds-length (some n) h = omega (arith, ten-digits n h, ten-digits (n / 2) (omega (arith, h)))
+seconds-length (some n) h = omega (arith, ten-digits n h, ten-digits (halfToEven n) (omega (arith, h, half-least n)))
 
 -- ---- a line
 

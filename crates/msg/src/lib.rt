@@ -11,9 +11,10 @@ ghost use Rattle.limits.specs.Limits.{rustLimits};
 ghost use Rattle.limits.specs.Outcome.{checkOf};
 ghost use Rattle.text.specs.Text.{span};
 ghost use Rattle.text.specs.Answers.{lookupOf, nextOf};
-ghost use Rattle.msg.specs.Block.{isName, lineAt, isBlock, linesFrom, linesOf, linesSince, firstNamed, foundOf, partOf, partPlace, pointerAt, valueNamed, blockCause, lookup, lookupFrom};
+ghost use Rattle.msg.specs.Block.{isName, lineAt, isBlock, linesFrom, linesOf, linesSince, named, firstNamed, foundOf, partOf, partPlace, pointerAt, valueNamed, blockCause, lookup, lookupFrom};
 
 mod status;
+mod table;
 
 pub use status::is_client_error;
 pub use status::is_error;
@@ -22,6 +23,10 @@ pub use status::is_informational;
 pub use status::is_redirection;
 pub use status::is_server_error;
 pub use status::is_success;
+pub use table::HeaderTable;
+pub use table::Headers;
+pub use table::line_value;
+pub use table::read_headers;
 
 // A line at the front of some bytes: how long its name and its value are.
 pub enum Line {
@@ -114,7 +119,7 @@ pub fn find_from(block: &[u8], from: usize, name: &[u8]) -> Found
         let Line::Of(n, m) = read_line(rest) else {
             return Found::Nothing;
         };
-        if text::same_text(&rest[..n], name) {
+        if is_named(&rest[..n], name) {
             let v = text::trim_span(&rest[n + 1..n + 1 + m]);
             return Found::At(
                 Span {
@@ -127,6 +132,13 @@ pub fn find_from(block: &[u8], from: usize, name: &[u8]) -> Found
         at = at + (n + m + 3);
     }
     Found::Nothing
+}
+
+// Whether a line of this name is one that is asked for: the full name, letter case ignored.
+fn is_named(name: &[u8], asked: &[u8]) -> bool
+    ensures { λ r. ⌜ r ≡ named (now (asked .entry)) (now (name .entry)) ⌝ }
+{
+    text::same_text(name, asked)
 }
 
 // The place of the first line that starts at `from` or after it.

@@ -6,8 +6,8 @@ use mathlib.Core.Bool.{Bool, true, false}
 use mathlib.Core.List.{List, [], _∷_, _++_}
 use mathlib.Core.Option.{Option, none, some}
 use lib.ListN.{length, length-append}
-use Rattle.record.specs.Codec.{Reading, Codec, writeAll}
-use Rattle.record.proofs.CodecLaws.{Bytes, bytes-after, Exact, GoodAll}
+use Rattle.codec.specs.Codec.{Reading, Codec, writeAll}
+use Rattle.codec.proofs.CodecLaws.{Bytes, bytes-after, Exact, GoodAll}
 use Rattle.ordered_store.specs.Entries.{Key, entryBefore, entriesOn, unlessEnded, encodeEntries, entriesIn, ascending, onlyAscending, decodeEntries}
 
 -- where there are bytes, there are entries

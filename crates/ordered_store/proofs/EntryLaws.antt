@@ -8,8 +8,8 @@ use mathlib.Core.Option.{none, some}
 use lib.ListN.{length, length-append}
 use lib.Seq.{take-append-seam, drop-append-seam, drop-append-add}
 use Rattle.edit.specs.Edit.{spliced}
-use Rattle.record.specs.Codec.{Codec, writeAll}
-use Rattle.record.proofs.CodecLaws.{GoodAll}
+use Rattle.codec.specs.Codec.{Codec, writeAll}
+use Rattle.codec.proofs.CodecLaws.{GoodAll}
 use Rattle.ordered_store.specs.Entries.{Key, setBy, encodeEntries, ascendingFrom, ascending, entryOf, setEntry, withoutEntry}
 use Rattle.ordered_store.specs.Order.{keyOrder, isBefore, isSame}
 use Rattle.ordered_store.specs.Slot.{Slot, held, free, slotBy, slotIn}
@@ -384,9 +384,6 @@ module _ {A : Type 0} (form : Codec A) (keyOf : A → Key) where
         let s : keyOrder (keyOf e) (keyOf a) ≡ Same = ap (keyOrder (keyOf e)) q ∙ h .same in
         ap (encodeEntries form) (ap (setEntry keyOf a) (h .split) ∙ front-set keyOf a (h .front) (e ∷ h .back) b ∙ ap (λ l. h .front ++ l) (set-here keyOf a e (h .back) s))
         ∙ encode-append (h .front) (a ∷ h .back) ∙ ap (λ l. encodeEntries form (h .front) ++ l) (encode-cons a (h .back))
-
-    pub held-set : (a : A) → keyOf a ≡ k → encodeEntries form (setEntry keyOf a es) ≡ spliced place (length (form .write e)) (form .write a) (encodeEntries form es)
-    held-set a q = held-parts a q ∙ other (form .write a)
 
     -- removed: its bytes cut out
     pub held-without : encodeEntries form (withoutEntry keyOf k es) ≡ spliced place (length (form .write e)) [] (encodeEntries form es)

@@ -15,8 +15,8 @@ use Rattle.limits.specs.Outcome.{Outcome, refused, given, refuseBy, refuseIf, a
 use Rattle.limits.specs.declared.Refusal.{Refusal}
 use Rattle.limits.specs.declared.Refusal.the-variants.{BadStore, NoRoom}
 use Rattle.edit.specs.Edit.{over}
-use Rattle.record.specs.Codec.{Codec, writeAll}
-use Rattle.record.proofs.CodecLaws.{Exact, GoodAll}
+use Rattle.codec.specs.Codec.{Codec, writeAll}
+use Rattle.codec.proofs.CodecLaws.{Exact, GoodAll}
 use Rattle.ordered_store.specs.Entries.{Key, encodeEntries, decodeEntries, ascending}
 use Rattle.ordered_store.specs.Run.{Decided, Left, fitting, leave, verdict, run}
 use Rattle.ordered_store.specs.History.{Calls, Call, World, decide, after, answerOf, content, contentAnswers, EachSent, EachTyped, lending, world, storeAnswers, Follows, Seen, Shows, EachShows, Ran, start, called, Serving, Made, none-made, one-more, KeepsContracts}

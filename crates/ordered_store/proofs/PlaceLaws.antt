@@ -6,8 +6,8 @@ use mathlib.Core.List.{List, _++_}
 use mathlib.Core.Option.{Option, none, some}
 use lib.ListN.{length, drop, length-append, length-drop}
 use lib.Seq.{drop-drop, drop-append-seam}
-use Rattle.record.specs.Codec.{Reading, Codec}
-use Rattle.record.proofs.CodecLaws.{Bytes, bytes-drop, Exact}
+use Rattle.codec.specs.Codec.{Reading, Codec}
+use Rattle.codec.proofs.CodecLaws.{Bytes, bytes-drop, Exact}
 use Rattle.ordered_store.specs.Entries.{Key}
 
 -- A form of entries, and where the parts of an entry lie: what a store says of its own. Its code's reading of an entry answers the places, or that there is none.

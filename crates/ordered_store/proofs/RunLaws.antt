@@ -12,7 +12,7 @@ use Rattle.limits.specs.Outcome.{Outcome, refused, given, refuseBy, refuseIf, a
 use Rattle.limits.specs.declared.Refusal.{Refusal}
 use Rattle.limits.specs.declared.Refusal.the-variants.{BadStore, NoRoom}
 use Rattle.edit.specs.Edit.{over}
-use Rattle.record.specs.Codec.{Codec}
+use Rattle.codec.specs.Codec.{Codec}
 use Rattle.ordered_store.specs.Entries.{Key, encodeEntries, decodeEntries}
 use Rattle.ordered_store.specs.Run.{Decided, Left, fitting, leave, verdict, run}
 

@@ -5,8 +5,8 @@ use mathlib.Core.Path.{_≡_, refl, sym, ap, subst, _∙_}
 use mathlib.Core.List.{List, [], _∷_, _++_}
 use mathlib.Core.Option.{Option, some}
 use lib.ListN.{length, drop, length-append, length-drop}
-use Rattle.record.specs.Codec.{Reading, writeAll}
-use Rattle.record.proofs.CodecLaws.{Bytes, GoodAll}
+use Rattle.codec.specs.Codec.{Reading, writeAll}
+use Rattle.codec.proofs.CodecLaws.{Bytes, GoodAll}
 use Rattle.ordered_store.specs.Entries.{Key, encodeEntries, decodeEntries}
 use Rattle.ordered_store.specs.Order.{keyOrder}
 use Rattle.ordered_store.specs.Places.{Stored}

@@ -9,7 +9,7 @@ use mathlib.Core.Option.{Option, none, some}
 use lib.ListN.{length, take}
 use lib.Dec.{ltb}
 use borrow.Author.Tests.{lt-ltb, le-ltb, ltb-true, ltb-false}
-use Rattle.record.specs.Codec.{Codec}
+use Rattle.codec.specs.Codec.{Codec}
 use Rattle.ordered_store.specs.Entries.{Key, decodeEntries}
 use Rattle.ordered_store.specs.Places.{Stored, countOf}
 use Rattle.ordered_store.specs.Slot.{Slot, slotIn, slotRead, slotUsed}

@@ -5,7 +5,7 @@ use mathlib.Core.Bool.{Bool, true, cond, _&&_}
 use mathlib.Core.List.{List, [], _∷_}
 use mathlib.Core.Option.{Option, none, some}
 use lib.ListN.{length}
-use Rattle.record.specs.Codec.{Reading, Codec, writeAll}
+use Rattle.codec.specs.Codec.{Reading, Codec, writeAll}
 use Rattle.ordered_store.specs.Order.{keyOrder, isBefore, isSame}
 use Rattle.ordered_store.specs.declared.Order.{Order}
 use Rattle.ordered_store.specs.declared.Order.the-variants.{Before, Same, After}

@@ -10,7 +10,7 @@ use lib.Dec.{ltb}
 use Rattle.limits.specs.Outcome.{Outcome, refused, given, refuseBy, refuseIf, andThen, numberIn}
 use Rattle.limits.specs.declared.Refusal.{Refusal}
 use Rattle.limits.specs.declared.Refusal.the-variants.{BadStore}
-use Rattle.record.specs.Codec.{Codec}
+use Rattle.codec.specs.Codec.{Codec}
 use Rattle.ordered_store.specs.Entries.{Key, encodeEntries, decodeEntries}
 use Rattle.ordered_store.specs.Run.{Decided, Left, Returns, fitting, run}
 

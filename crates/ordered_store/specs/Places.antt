@@ -4,7 +4,7 @@ use mathlib.Core.Path.{_≡_}
 use mathlib.Core.List.{List}
 use mathlib.Core.Option.{Option, none, some}
 use lib.ListN.{length}
-use Rattle.record.specs.Codec.{Codec}
+use Rattle.codec.specs.Codec.{Codec}
 use Rattle.ordered_store.specs.Entries.{Key, decodeEntries}
 use Rattle.ordered_store.specs.declared.Count.{Count}
 use Rattle.ordered_store.specs.declared.Count.the-variants as counts

@@ -6,7 +6,7 @@ use mathlib.Core.List.{List, [], _∷_}
 use mathlib.Core.Option.{Option, none, some}
 use lib.ListN.{length, take}
 use lib.Dec.{ltb}
-use Rattle.record.specs.Codec.{Codec}
+use Rattle.codec.specs.Codec.{Codec}
 use Rattle.ordered_store.specs.Entries.{Key, decodeEntries}
 use Rattle.ordered_store.specs.Order.{keyOrder}
 use Rattle.ordered_store.specs.declared.Order.{Order}

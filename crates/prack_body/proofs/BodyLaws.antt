@@ -11,14 +11,14 @@ use lib.Dec.{leb}
 use borrow.Author.Tests.{leb-true, leb-false}
 use Rattle.limits.specs.Limits.{rustLimits}
 use Rattle.edit.specs.Edit.{putAt}
-use Rattle.record.specs.Codec.{Reading, four, text, writeAll}
-use Rattle.record.proofs.CodecLaws.{Bytes, bytes-drop, four-exact}
+use Rattle.codec.specs.Codec.{Reading, four, text, writeAll, eight}
+use Rattle.codec.proofs.CodecLaws.{Bytes, bytes-drop, four-exact, eight-exact}
 use Rattle.prack_body.specs.Lists.{Pending, Tracked, staying, cleaned}
-use Rattle.prack_body.specs.Layout.{eight, toBit, pendingForm, PendingFormed, AllFormed, ListFormed, listForm, trackedForm, TrackedFormed}
+use Rattle.prack_body.specs.Layout.{toBit, pendingForm, PendingFormed, AllFormed, ListFormed, listForm, trackedForm, TrackedFormed}
 use Rattle.prack_body.specs.Places.{listPlaces, trackedPlaces}
 use Rattle.prack_body.specs.Body.{bodyRoom, bodyOf, Holds, Stands}
 use Rattle.prack_body.specs.declared.TrackedAt.{TrackedAt}
-use Rattle.prack_body.proofs.LayoutLaws.{eight-exact, tracked-exact, entries-size}
+use Rattle.prack_body.proofs.LayoutLaws.{tracked-exact, entries-size}
 
 read-value : {A : Type 0} {a b : Reading A} → some a ≡ some b → a .value ≡ b .value
 read-value {A} {a} {b} e = let q : a ≡ b = cc in ap (λ (x : Reading A). x .value) q
@@ -33,10 +33,6 @@ module _ (s : List ℕ) (at : ℕ) (p : Pending) (rest : List ℕ) (e : drop at 
   -- the byte of the method
   pub method-at : getD s (at + 8) 0 ≡ p .method
   method-at = sym (getD-drop at s 8 0) ∙ ap (λ (l : List ℕ). getD l 8 0) e
-
-  -- the next entry, or what follows the last
-  pub next-at : drop (at + 20) s ≡ rest
-  next-at = sym (drop-drop 20 at s) ∙ ap (drop 20) e
 
   module _ (f : PendingFormed p) {n : ℕ} {more : List ℕ} where
     -- the number that is read as RSeq, as CSeq and as time

@@ -6,7 +6,7 @@ use mathlib.Core.List.{List, [], _∷_, _++_, append-assoc, append-nil}
 use lib.ListN.{length, take, drop, length-append}
 use lib.Seq.{length-take-le, drop-drop, take-at, drop-append-add}
 use Rattle.edit.specs.Edit.{putAt}
-use Rattle.record.specs.Codec.{writeAll}
+use Rattle.codec.specs.Codec.{writeAll}
 use Rattle.prack_body.specs.Lists.{Pending}
 use Rattle.prack_body.specs.Layout.{pendingForm}
 

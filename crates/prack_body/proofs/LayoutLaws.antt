@@ -1,7 +1,7 @@
 -- The bytes of what is held for one identifier text are exact, and their sizes. Assumes nothing.
-use Prim.Native.Nat.{ℕ, zero, suc, _*_, _/_, _%_, _≤_, _<_}
+use Prim.Native.Nat.{ℕ, zero, suc, _*_, _≤_, _<_}
 use native.Mathlib.Omega.{arith}
-use mathlib.Core.Path.{_≡_, refl, sym, ap, ap₂, subst, _∙_}
+use mathlib.Core.Path.{_≡_, refl, sym, ap, subst, _∙_}
 use mathlib.Core.Bool.{Bool, true, false, _&&_, and-false, false≢true}
 use mathlib.Core.List.{List, [], _∷_, _++_}
 use mathlib.Core.Option.{Option, none, some}
@@ -9,33 +9,11 @@ use lib.ListN.{length}
 use lib.Dec.{leb}
 use borrow.Author.Tests.{leb-true}
 use Rattle.limits.specs.Limits.{LimitSet}
-use Rattle.record.specs.Codec.{Reading, Codec, Pair, renamed, writeAll}
-use Rattle.record.proofs.CodecLaws.{Bytes, bytes-after, Exact, byte-exact, two-exact, four-exact, text-exact, then-exact, such-exact, mapped-exact, counted-exact, GoodAll}
+use Rattle.codec.specs.Codec.{Reading, Codec, Pair, renamed, writeAll}
+use Rattle.codec.proofs.CodecLaws.{Bytes, bytes-after, no-reading, Exact, byte-exact, two-exact, four-exact, eight-exact, text-exact, then-exact, such-exact, mapped-exact, counted-exact, GoodAll}
 use Rattle.methods.specs.Methods.{isMethod}
 use Rattle.prack_body.specs.Lists.{Pending, Tracked}
-use Rattle.prack_body.specs.Layout.{wide, halves, eight, isBit, fromBit, toBit, bit, optionAfter, readOption, optional, Parts, pendingFrom, pendingParts, pendingForm, PendingFormed, isShort, trackedFrom, trackedParts, trackedForm, AllFormed, ListFormed, TrackedFormed}
-
--- nothing read is not something read
-pub no-reading : {A : Type 0} {r : Reading A} → none ≡ some r → ⊥
-no-reading e = let z : _≡_ {A = ℕ} 0 1 = cc in omega arith
-
--- ---- eight bytes
-
-same-pair : {A B : Type 0} {a c : A} {b d : B} → a ≡ c → b ≡ d → _≡_ {A = Pair A B} (record { first = a; second = b }) (record { first = c; second = d })
-same-pair p q = ap₂ (λ x y. record { first = x; second = y }) p q
-
-eight-there : (n : ℕ) → n < 18446744073709551616 → (wide (halves n) ≡ n) × ((n / 4294967296 < 4294967296) × (n % 4294967296 < 4294967296))
-eight-there n h = (omega arith, (omega arith, omega arith))
-
-eight-again : (p : Pair ℕ ℕ) → (p .first < 4294967296) × (p .second < 4294967296) → (halves (wide p) ≡ p) × (wide p < 18446744073709551616)
-eight-again p g =
-    let h : p .first < 4294967296 = g .0 in
-    let l : p .second < 4294967296 = g .1 in
-    (same-pair (omega arith) (omega arith), omega arith)
-
--- below 2 to the 64
-pub eight-exact : Exact eight (λ n. n < 18446744073709551616)
-eight-exact = mapped-exact (then-exact four-exact four-exact) (λ n. n < 18446744073709551616) wide halves eight-there eight-again
+use Rattle.prack_body.specs.Layout.{isBit, fromBit, toBit, bit, optionAfter, readOption, optional, Parts, pendingFrom, pendingParts, pendingForm, PendingFormed, isShort, trackedFrom, trackedParts, trackedForm, AllFormed, ListFormed, TrackedFormed}
 
 -- ---- a byte 0 or 1
 

@@ -7,45 +7,27 @@ use mathlib.Core.List.{List, _∷_, _++_}
 use mathlib.Core.Option.{Option, none, some}
 use lib.ListN.{length, drop, getD, length-drop, length-append}
 use lib.Dec.{leb, eqb}
-use borrow.Author.Tests.{le-leb, lt-leb, leb-true, leb-false}
+use borrow.Author.Tests.{le-leb, lt-leb, leb-true}
 use Rattle.limits.specs.Limits.{rustLimits}
 use Rattle.text.specs.declared.Span.{Span}
-use Rattle.record.specs.Codec.{Reading, four, text, inFront, passing, renamed, readAll, writeAll}
-use Rattle.record.proofs.CodecLaws.{Bytes, counted-exact}
+use Rattle.codec.specs.Codec.{Reading, text, inFront, passing, renamed, readAll, writeAll, eight}
+use Rattle.codec.proofs.CodecLaws.{Bytes, counted-exact}
 use Rattle.methods.specs.Methods.{isMethod}
-use Rattle.image.proofs.AnswerLaws.{TextGot}
-use Rattle.image.proofs.PartLaws.{byte-at, byte-none, two-at, four-at, four-none}
+use Rattle.codec.proofs.AnswerLaws.{TextGot}
+use Rattle.codec.proofs.ReadLaws.{byte-at, byte-none, two-at, four-at, eight-none}
 use Rattle.prack_body.specs.Lists.{Pending}
-use Rattle.prack_body.specs.Layout.{eight, isBit, pendingForm, isShort, listForm, trackedForm}
+use Rattle.prack_body.specs.Layout.{isBit, pendingForm, isShort, listForm, trackedForm}
 use Rattle.prack_body.specs.Places.{isRead, listPlaces, listFrom, trackedFrom}
 use Rattle.prack_body.specs.declared.ListAt.{ListAt}
 use Rattle.prack_body.specs.declared.ListReading.the-variants as L
 use Rattle.prack_body.specs.declared.TrackedReading.the-variants as T
 use Rattle.prack_body.proofs.LayoutLaws.{pending-exact, entries-size}
 
--- ---- eight bytes
+-- ---- entries
 
 -- the four bytes at a place as a number
 abbrev pub fourAt : List ℕ → ℕ → ℕ
 fourAt s at = ((getD s at 0 * 256 + getD s (at + 1) 0) * 256 + getD s (at + 2) 0) * 256 + getD s (at + 3) 0
-
-module _ (s : List ℕ) (at : ℕ) where
-  -- eight bytes by two readings of four
-  pub eight-told : {a b c d : ℕ} → four .read (drop at s) ≡ some (record { value = a; rest = drop (at + 4) s }) → four .read (drop (at + 4) s) ≡ some (record { value = b; rest = drop (at + 4 + 4) s }) → c ≡ a → d ≡ b
-      → eight .read (drop at s) ≡ some (record { value = c * 4294967296 + d; rest = drop (at + 8) s })
-  eight-told p q u v =
-      let e : at + 4 + 4 ≡ at + 8 = omega arith in
-      rw (p, q, e, u, v)
-
--- too few
-pub eight-none : (s : List ℕ) (at : ℕ) → length s - at < 8 → eight .read (drop at s) ≡ none
-eight-none s at h = by (leb 4 (length s - at)) refl
-  where
-    by : (b : Bool) → leb 4 (length s - at) ≡ b → eight .read (drop at s) ≡ none
-    by true e = let l : 4 ≤ length s - at = leb-true _ _ e in rw (four-at s at (omega arith), four-none s (at + 4) (omega arith))
-    by false e = let l : length s - at < 4 = leb-false _ _ e in rw (four-none s at l)
-
--- ---- entries
 
 module _ (s : List ℕ) (at : ℕ) (h : at + 20 ≤ length s) where
   -- a method's number and a flag in their places: an entry

@@ -6,9 +6,9 @@ use mathlib.Core.List.{List, _++_}
 use mathlib.Core.Option.{some}
 use lib.ListN.{length, take, drop}
 use Rattle.limits.specs.Limits.{rustLimits}
-use Rattle.record.specs.Codec.{writeAll}
+use Rattle.codec.specs.Codec.{writeAll, eight}
 use Rattle.prack_body.specs.Lists.{Pending, Tracked}
-use Rattle.prack_body.specs.Layout.{eight, pendingForm, listForm, trackedForm, TrackedFormed}
+use Rattle.prack_body.specs.Layout.{pendingForm, listForm, trackedForm, TrackedFormed}
 use Rattle.prack_body.specs.Places.{trackedPlaces}
 use Rattle.prack_body.specs.declared.TrackedAt.{TrackedAt}
 

@@ -1,7 +1,7 @@
 -- The bytes of what is held for one identifier text. Document 01, "Intervals, PRACK, RSeq": the layout is the team's, "written in docs/ first"; it is that of
 -- docs/LAYOUTS.md, "The PRACK store". Big-endian: the text with two length bytes, the last cleanup's time in eight bytes, a byte that is 1 where a list stands
 -- and otherwise 0; then, where it stands, a count byte and the entries of 20 bytes each. A list has at most as many entries as the limits say.
-use Prim.Native.Nat.{ℕ, _+_, _*_, _/_, _%_, _<_}
+use Prim.Native.Nat.{ℕ, _+_, _<_}
 use mathlib.Core.Path.{_≡_}
 use mathlib.Core.Bool.{Bool, true, false}
 use mathlib.Core.List.{List, [], _∷_, _++_}
@@ -9,21 +9,11 @@ use mathlib.Core.Option.{Option, none, some}
 use lib.ListN.{length}
 use lib.Dec.{leb, eqb}
 use Rattle.limits.specs.Limits.{LimitSet}
-use Rattle.record.specs.Codec.{Reading, Codec, Pair, then, such, renamed, mapped, byte, two, four, text, counted}
+use Rattle.codec.specs.Codec.{Reading, Codec, Pair, then, such, renamed, mapped, byte, two, four, eight, text, counted}
 use Rattle.methods.specs.Methods.{isMethod}
 use Rattle.prack_body.specs.Lists.{Pending, Tracked}
 
 -- ---- small forms
-
--- eight bytes
-abbrev pub wide : Pair ℕ ℕ → ℕ
-wide p = p .first * 4294967296 + p .second
-
-abbrev pub halves : ℕ → Pair ℕ ℕ
-halves n = record { first = n / 4294967296; second = n % 4294967296 }
-
-abbrev pub eight : Codec ℕ
-eight = mapped wide halves (then four four)
 
 -- a byte 0 or 1
 abbrev pub isBit : ℕ → Bool

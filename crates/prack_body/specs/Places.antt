@@ -5,7 +5,7 @@ use mathlib.Core.Bool.{Bool, true, false}
 use mathlib.Core.List.{List}
 use mathlib.Core.Option.{Option, none, some}
 use lib.ListN.{length}
-use Rattle.record.specs.Codec.{Reading}
+use Rattle.codec.specs.Codec.{Reading}
 use Rattle.prack_body.specs.Lists.{Pending, Tracked}
 use Rattle.prack_body.specs.declared.ListAt.{ListAt}
 use Rattle.prack_body.specs.declared.ListReading.{ListReading}

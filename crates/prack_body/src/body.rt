@@ -1,6 +1,6 @@
 // What is held for one identifier text, without the text, in a small array of which the first n bytes are its body (specs/Body.antt).
 use crate::TrackedAt;
-use crate::numbers::write_eight;
+use codec::write_eight;
 use edit::put;
 ghost use mathlib.Core.Path.{_≡_};
 ghost use mathlib.Core.Option.{none};

@@ -10,9 +10,9 @@ use lib.Seq.{drop-drop}
 use borrow.Author.Tests.{le-leb, lt-leb}
 use Rattle.limits.specs.Limits.{rustLimits}
 use Rattle.edit.specs.Edit.{putAt}
-use Rattle.record.specs.Codec.{writeAll}
+use Rattle.codec.specs.Codec.{writeAll, eight}
 use Rattle.prack_body.specs.Lists.{Pending, Tracked, staying, cleaned, cleanedList, withoutPracked, withList}
-use Rattle.prack_body.specs.Layout.{eight, pendingForm, PendingFormed, AllFormed, TrackedFormed}
+use Rattle.prack_body.specs.Layout.{pendingForm, PendingFormed, AllFormed, TrackedFormed}
 use Rattle.prack_body.specs.Body.{bodyOf, Holds, Kept}
 use Rattle.prack_staying.specs.Test.{testOf}
 use Rattle.prack_cleaning.specs.KeptList.{keptList}

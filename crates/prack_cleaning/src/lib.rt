@@ -1,8 +1,11 @@
 // The entries that stay in a body (prack_body/specs/Body.antt), moved together: the cleanup of a call, and `remove_pracked`.
+use codec::read_eight;
+use codec::write_eight;
 use edit::move_left;
 use limits::Limits;
-use prack_body::read_eight;
-use prack_body::write_eight;
+use prack_body::COUNT_AT;
+use prack_body::ENTRIES_AT;
+use prack_body::ENTRY_SIZE;
 use prack_staying::Test;
 use prack_staying::elapsed;
 use prack_staying::passes;
@@ -12,7 +15,7 @@ ghost use mathlib.Core.List.{List, _++_};
 ghost use Prim.Native.Nat.{ℕ, _+_, _*_, _≤_};
 ghost use lib.ListN.{length, drop};
 ghost use Rattle.limits.specs.Limits.{rustLimits};
-ghost use Rattle.record.specs.Codec.{writeAll};
+ghost use Rattle.codec.specs.Codec.{writeAll};
 ghost use Rattle.prack_body.specs.Lists.{Pending, Tracked, staying, cleaned, withList, withoutPracked};
 ghost use Rattle.prack_body.specs.Layout.{pendingForm, AllFormed};
 ghost use Rattle.prack_body.specs.Body.{bodyRoom, Holds, Kept};
@@ -45,12 +48,12 @@ fn keep_list(body: &mut [u8], n: usize, which: Test) -> usize
     requires { ⌜ (9 ≤ n) × ((n ≤ bodyRoom) × (bodyRoom ≤ length (now body))) ⌝ }
     ensures { λ r. ⌜ ((t : Tracked) → Holds (now (body .entry)) n t → Holds (now (body .exit)) r (withList (keptList which (t .list)) t)) ⌝ }
 {
-    if n < 10 {
+    if n < ENTRIES_AT {
         return n;
     }
-    let kept = keep(body, (n - 10) / 20, which);
-    body[9] = kept as u8;
-    10 + kept * 20
+    let kept = keep(body, (n - ENTRIES_AT) / ENTRY_SIZE, which);
+    body[COUNT_AT] = kept as u8;
+    ENTRIES_AT + kept * ENTRY_SIZE
 }
 
 // The entries that stay, moved together behind the count byte. How many.
@@ -62,8 +65,9 @@ fn keep(body: &mut [u8], count: usize, which: Test) -> usize
     let mut i = 0;
     let mut kept = 0;
     while i < count {
-        if passes(body, 10 + i * 20, which) {
-            move_left(body, 10 + i * 20, 10 + kept * 20, 20);
+        let at = ENTRIES_AT + i * ENTRY_SIZE;
+        if passes(body, at, which) {
+            move_left(body, at, ENTRIES_AT + kept * ENTRY_SIZE, ENTRY_SIZE);
             kept += 1;
         }
         i += 1;

@@ -7,8 +7,8 @@ use mathlib.Core.Option.{Option, none, some}
 use lib.ListN.{length, take, length-append}
 use Rattle.limits.specs.Limits.{rustLimits}
 use Rattle.edit.specs.Edit.{spliced}
-use Rattle.record.specs.Codec.{text}
-use Rattle.record.proofs.CodecLaws.{Bytes}
+use Rattle.codec.specs.Codec.{text}
+use Rattle.codec.proofs.CodecLaws.{Bytes}
 use Rattle.ordered_store.specs.Entries.{setEntry}
 use Rattle.ordered_store.proofs.EntryLaws.{instead, held-key, whole, at-front, held-parts, free-set}
 use Rattle.prack_body.specs.Lists.{Tracked, cleaned}

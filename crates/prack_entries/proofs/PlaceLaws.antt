@@ -6,8 +6,8 @@ use mathlib.Core.List.{List, _++_}
 use mathlib.Core.Option.{Option, none, some}
 use lib.ListN.{length, drop, length-append, length-drop}
 use Rattle.limits.specs.Limits.{rustLimits}
-use Rattle.record.specs.Codec.{Reading, Codec}
-use Rattle.record.proofs.CodecLaws.{Exact}
+use Rattle.codec.specs.Codec.{Reading, Codec}
+use Rattle.codec.proofs.CodecLaws.{Exact}
 use Rattle.text.specs.Spans.{partIn, PartWithin}
 use Rattle.ordered_store.proofs.PlaceLaws.{Layout}
 use Rattle.prack_body.specs.Lists.{Tracked}

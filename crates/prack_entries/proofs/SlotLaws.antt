@@ -9,7 +9,7 @@ use lib.ListN.{length, take, drop}
 use lib.Seq.{length-take-le, drop-append-seam}
 use Rattle.limits.specs.Limits.{rustLimits}
 use Rattle.edit.specs.Edit.{spliced}
-use Rattle.record.proofs.CodecLaws.{Bytes, bytes-take, GoodAll}
+use Rattle.codec.proofs.CodecLaws.{Bytes, bytes-take, GoodAll}
 use Rattle.ordered_store.specs.Entries.{ascending, withoutEntry}
 use Rattle.ordered_store.specs.Slot.{Slot, held, free, slotIn, slotRead, slotUsed}
 use Rattle.ordered_store.proofs.BytesLaws.{decoded}

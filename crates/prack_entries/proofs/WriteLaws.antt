@@ -13,7 +13,7 @@ use Rattle.edit.proofs.EditLaws.{Wrote, wrote-then, replace-law}
 use Rattle.output.specs.Output.{fitted, leaves, writtenFrom}
 use Rattle.output.specs.declared.Written.{Written}
 use Rattle.output.specs.declared.Written.the-variants as written
-use Rattle.record.specs.Codec.{text}
+use Rattle.codec.specs.Codec.{text}
 
 -- what is answered for a list that is to be written, and what the bytes then are
 abbrev pub Answered : List ℕ → List ℕ → Written → List ℕ → Type 0

@@ -1,5 +1,6 @@
 // What is held for one text: copied from the store and cleaned, and set in the store.
 use crate::finding::Slot;
+use codec::LENGTH_SIZE;
 use limits::Refusal;
 use output::Written;
 ghost use mathlib.Core.Path.{_≡_};
@@ -9,7 +10,7 @@ ghost use lib.ListN.{length, take};
 ghost use Rattle.limits.specs.Limits.{rustLimits};
 ghost use Rattle.edit.specs.Edit.{spliced};
 ghost use Rattle.output.specs.Output.{fitted, writtenFrom, leaves};
-ghost use Rattle.record.specs.Codec.{text};
+ghost use Rattle.codec.specs.Codec.{text};
 ghost use Rattle.ordered_store.specs.Entries.{setEntry};
 ghost use Rattle.prack_body.specs.Lists.{Tracked};
 ghost use Rattle.prack_body.specs.Body.{bodyRoom, bodyOf, Holds};
@@ -59,12 +60,12 @@ fn insert(id: &[u8], body: &[u8], bytes: &mut [u8], used: usize, at: usize) -> W
     ensures { λ r. ⌜ r ≡ writtenFrom (fitted (length (now (bytes .entry))) (spliced at 0 (text .write (now (id .entry)) ++ now (body .entry)) (take used (now (bytes .entry))))) ⌝ }
     ensures { λ _. ⌜ now (bytes .exit) ≡ leaves (fitted (length (now (bytes .entry))) (spliced at 0 (text .write (now (id .entry)) ++ now (body .entry)) (take used (now (bytes .entry))))) (now (bytes .entry)) ⌝ }
 {
-    let size = 2 + id.len() + body.len();
+    let size = LENGTH_SIZE + id.len() + body.len();
     if bytes.len() - used < size {
         return Written::Refused(Refusal::NoRoom);
     }
     let n = edit::move_tail(bytes, used, at, 0, size);
-    let behind = image_writer::write_text(bytes, at, id);
+    let behind = codec::write_text(bytes, at, id);
     edit::put(bytes, behind, body);
     Written::Length(n)
 }

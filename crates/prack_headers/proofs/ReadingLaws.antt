@@ -16,9 +16,14 @@ use Rattle.limits.specs.declared.Refusal.the-variants.{MissingHeader}
 use Rattle.text.specs.Answers.{spanOf}
 use Rattle.text.specs.declared.Span.{Span}
 use Rattle.msg.specs.Block.{HeaderLine, linesOf, firstNamed, valueOf, valueNamed, textOf, partOf, foundOf, blockCause}
+use Rattle.msg.specs.Table.{textAt}
+use Rattle.msg.specs.declared.Found.{Found}
 use Rattle.msg.proofs.LookupLaws.{Says, found-at}
+use Rattle.msg.proofs.TableLaws.{text-at}
+use Rattle.text.specs.Number.{numberFrom, readNumber}
+use Rattle.words.specs.Words.{wordAt}
 use Rattle.msg.specs.declared.Found.the-variants.{At}
-use Rattle.prack_headers.specs.Sequence.{valueText, readIn, stands, isReliable, reliableProvisional}
+use Rattle.prack_headers.specs.Sequence.{cseqName, cseqNumber, valueText, readIn, stands, isReliable, reliableProvisional}
 
 -- the value's bytes in the block are its text
 pub value-text : (name block : List ℕ) → partOf (valueNamed name block) block ≡ valueText name block
@@ -30,6 +35,10 @@ value-text name block = by (firstNamed name (linesOf block)) refl
         let r : Says block (firstNamed name (linesOf block)) (spanOf (l .value)) (l .next) = found-at block name 0 (spanOf (l .value)) (l .next) (omega arith) (ap foundOf e) in
         let q : r .line ≡ l = cc (r .is) in
         subst (λ (h : HeaderLine). take (length (h .value .text)) (drop (h .value .place) block) ≡ h .value .text) q (r .placed .there)
+
+-- the number of CSeq by its look-up
+pub cseq-found : (block : List ℕ) (f : Found) → f ≡ foundOf (firstNamed cseqName (linesOf block)) → numberFrom (readNumber 32 (wordAt 0 (textAt f block))) ≡ numberFrom (cseqNumber block)
+cseq-found block f e = rw (e, text-at cseqName block)
 
 -- r is what the check of the block answers
 module _ {A : Type 0} (L : LimitSet) (block : List ℕ) (o : Option A) {r : Check} (h : r ≡ checkOf (blockCause L block)) where

@@ -6,7 +6,11 @@ use msg::Found;
 use text::Number;
 ghost use mathlib.Core.Path.{_≡_};
 ghost use Rattle.limits.specs.Limits.{rustLimits};
-ghost use Rattle.text.specs.Number.{numberFrom};
+ghost use Prim.Native.Nat.{_≤_};
+ghost use lib.ListN.{length};
+ghost use Rattle.text.specs.Number.{numberFrom, readNumber};
+ghost use Rattle.msg.specs.Table.{textAt, endOf};
+ghost use Rattle.words.specs.Words.{wordAt};
 ghost use Rattle.methods.specs.Methods.{methodFrom};
 ghost use Rattle.prack_headers.specs.Sequence.{rseqNumber, cseqNumber, cseqMethod, extractRseq, extractCseqNumber, extractCseqMethod, reliableProvisional, numberAnswer, methodAnswer, reliableAnswer};
 
@@ -98,7 +102,16 @@ pub fn rseq(block: &[u8]) -> Number
 pub fn cseq_number(block: &[u8]) -> Number
     ensures { λ r. ⌜ r ≡ numberFrom (cseqNumber (now (block .entry))) ⌝ }
 {
-    let value = msg::header_value(block, b"CSeq");
+    let line = msg::find(block, b"CSeq");
+    cseq_at(block, line)
+}
+
+// The first word of a CSeq line that was looked up, as a number.
+pub fn cseq_at(block: &[u8], line: Found) -> Number
+    requires { ⌜ endOf line ≤ length (now block) ⌝ }
+    ensures { λ r. ⌜ r ≡ numberFrom (readNumber 32 (wordAt 0 (textAt line (now (block .entry))))) ⌝ }
+{
+    let value = msg::line_value(block, line);
     text::read_u32(words::word(value))
 }
 

@@ -9,9 +9,9 @@ use lib.ListN.{length, take, drop, getD, set, length-drop, length-append}
 use lib.Seq.{drop-drop, drop-length, set-at}
 use lib.Dec.{eqb}
 use borrow.Author.Tests.{eq-eqb, ne-eqb, le-leb}
-use Rattle.record.specs.Codec.{writeAll, four}
+use Rattle.codec.specs.Codec.{writeAll, four, eight}
 use Rattle.prack_body.specs.Lists.{Pending, Tracked, firstOf, marked, acknowledge, withList}
-use Rattle.prack_body.specs.Layout.{eight, toBit, pendingForm, PendingFormed, AllFormed}
+use Rattle.prack_body.specs.Layout.{toBit, pendingForm, PendingFormed, AllFormed}
 use Rattle.prack_body.specs.Body.{bodyOf, Holds}
 use Rattle.prack_list.specs.Steps.{placeFrom, positionAt, positionIn}
 use Rattle.prack_list.specs.declared.finding.Position.{Position}

@@ -9,7 +9,7 @@ use lib.ListN.{length, drop, getD, length-append}
 use lib.Seq.{getD-drop, drop-length}
 use Rattle.edit.specs.Edit.{putAt, over}
 use Rattle.edit.proofs.EditLaws.{Wrote, wrote-then}
-use Rattle.record.specs.Codec.{two, four}
+use Rattle.codec.specs.Codec.{two, four}
 use Rattle.prack_body.specs.Lists.{Pending, Tracked, staying, isOpen, entriesOf}
 use Rattle.prack_body.specs.Layout.{toBit, pendingForm, openBytes}
 use Rattle.prack_body.specs.Body.{Holds}

@@ -10,9 +10,9 @@ use borrow.Author.Tests.{le-leb}
 use Rattle.limits.specs.Limits.{rustLimits}
 use Rattle.edit.specs.Edit.{putAt}
 use Rattle.edit.proofs.EditLaws.{Wrote, wrote-then}
-use Rattle.record.specs.Codec.{two, four, writeAll}
+use Rattle.codec.specs.Codec.{two, four, writeAll, eight}
 use Rattle.prack_body.specs.Lists.{Pending, Tracked, entriesOf, pushed, registered, pendingOf}
-use Rattle.prack_body.specs.Layout.{eight, pendingForm, listForm, PendingFormed, AllFormed}
+use Rattle.prack_body.specs.Layout.{pendingForm, listForm, PendingFormed, AllFormed}
 use Rattle.prack_body.specs.Body.{bodyRoom, bodyOf, Holds, Kept}
 use Rattle.prack_list.specs.Steps.{lastOf}
 use Rattle.prack_body.proofs.LayoutLaws.{entries-size}

@@ -1,5 +1,10 @@
 // The first entry of an RSeq in a body: found, and marked.
-use image::read_four;
+use codec::read_four;
+use prack_body::ACKNOWLEDGED_AT;
+use prack_body::CSEQ_AT;
+use prack_body::ENTRIES_AT;
+use prack_body::ENTRY_SIZE;
+use prack_body::METHOD_AT;
 ghost use mathlib.Core.Path.{_≡_};
 ghost use mathlib.Core.Option.{some};
 ghost use mathlib.Core.List.{List};
@@ -21,19 +26,19 @@ pub fn first_of(body: &[u8], n: usize, rseq: u32) -> Position
     requires { ⌜ n ≤ length (now body) ⌝ }
     ensures { λ r. ⌜ ((t : Tracked) → Holds (now (body .entry)) n t → r ≡ positionIn rseq (t .list)) ⌝ }
 {
-    if n < 10 {
+    if n < ENTRIES_AT {
         return Position::NoList;
     }
-    let count = (n - 10) / 20;
+    let count = (n - ENTRIES_AT) / ENTRY_SIZE;
     let mut i: usize = 0;
     while i < count {
-        let at = 10 + i * 20;
+        let at = ENTRIES_AT + i * ENTRY_SIZE;
         if read_four(body, at) == rseq {
             return Position::At(
                 at,
-                read_four(body, at + 4),
-                body[at + 8],
-                body[at + 11] == 1,
+                read_four(body, at + CSEQ_AT),
+                body[at + METHOD_AT],
+                body[at + ACKNOWLEDGED_AT] == 1,
             );
         }
         i += 1;
@@ -46,5 +51,5 @@ pub fn mark(body: &mut [u8], place: usize)
     requires { ⌜ place + 20 ≤ length (now body) ⌝ }
     ensures { λ _. ⌜ ((n rseq : ℕ) (t : Tracked) (ps : List Pending) (p : Pending) → Holds (now (body .entry)) n t → t .list ≡ some ps → firstOf rseq ps ≡ some p → place ≡ placeFrom 10 rseq ps → Holds (now (body .exit)) n (withList (some (marked rseq ps)) t)) ⌝ }
 {
-    body[place + 11] = 1;
+    body[place + ACKNOWLEDGED_AT] = 1;
 }

@@ -1,14 +1,23 @@
 // The responses of a body that wait for their PRACK: RSeq in four bytes and code in two, in list order.
 use edit::put;
+use prack_body::ACKNOWLEDGED_AT;
+use prack_body::CODE_AT;
+use prack_body::ENTRIES_AT;
+use prack_body::ENTRY_SIZE;
 ghost use mathlib.Core.Path.{_≡_};
 ghost use mathlib.Core.List.{List, _++_};
 ghost use Prim.Native.Nat.{ℕ, _+_, _-_, _*_, _/_, _≤_};
 ghost use lib.ListN.{length, drop};
 ghost use Rattle.edit.specs.Edit.{putAt, over};
-ghost use Rattle.record.specs.Codec.{two, four};
+ghost use Rattle.codec.specs.Codec.{two, four};
 ghost use Rattle.prack_body.specs.Lists.{Pending, Tracked, openIn};
 ghost use Rattle.prack_body.specs.Layout.{pendingForm, openBytes};
 ghost use Rattle.prack_body.specs.Body.{bodyRoom, Holds};
+
+// Where the first entry's acknowledged byte lies, and the bytes that are written of an entry.
+const FIRST_ACKNOWLEDGED_AT: usize = ENTRIES_AT + ACKNOWLEDGED_AT;
+
+const OPEN_SIZE: usize = 6;
 
 // How many bytes they take.
 pub fn open_size(body: &[u8], n: usize) -> usize
@@ -19,8 +28,8 @@ pub fn open_size(body: &[u8], n: usize) -> usize
     let mut i = 0;
     let mut size = 0;
     while i < count {
-        if body[21 + i * 20] == 0 {
-            size += 6;
+        if body[FIRST_ACKNOWLEDGED_AT + i * ENTRY_SIZE] == 0 {
+            size += OPEN_SIZE;
         }
         i += 1;
     }
@@ -36,8 +45,8 @@ pub fn open_bytes(body: &[u8], n: usize, out: &mut [u8]) -> usize
     let mut i = 0;
     let mut to = 0;
     while i < count {
-        if body[21 + i * 20] == 0 {
-            to = put_open(body, 10 + i * 20, out, to);
+        if body[FIRST_ACKNOWLEDGED_AT + i * ENTRY_SIZE] == 0 {
+            to = put_open(body, ENTRIES_AT + i * ENTRY_SIZE, out, to);
         }
         i += 1;
     }
@@ -50,7 +59,7 @@ fn put_open(body: &[u8], at: usize, out: &mut [u8], to: usize) -> usize
     ensures { λ r. ⌜ r ≡ to + 6 ⌝ }
     ensures { λ _. ⌜ ((p : Pending) (rest : List ℕ) → drop at (now (body .entry)) ≡ pendingForm .write p ++ rest → now (out .exit) ≡ putAt to (four .write (p .rseq) ++ two .write (p .code)) (now (out .entry))) ⌝ }
 {
-    let code = at + 9;
+    let code = at + CODE_AT;
     put(
         out,
         to,
@@ -63,15 +72,15 @@ fn put_open(body: &[u8], at: usize, out: &mut [u8], to: usize) -> usize
             body[code + 1],
         ],
     );
-    to + 6
+    to + OPEN_SIZE
 }
 
 // How many entries a body of so many bytes has.
 fn count_in(n: usize) -> usize
     ensures { λ r. ⌜ r ≡ (n - 10) / 20 ⌝ }
 {
-    if n < 10 {
+    if n < ENTRIES_AT {
         return 0;
     }
-    (n - 10) / 20
+    (n - ENTRIES_AT) / ENTRY_SIZE
 }

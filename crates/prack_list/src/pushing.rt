@@ -1,13 +1,15 @@
 // One entry more in a body.
+use codec::write_eight;
+use codec::write_four;
+use codec::write_two;
 use edit::move_left;
 use edit::put;
 use limits::Limits;
 use prack_body::BODY_ROOM;
+use prack_body::COUNT_AT;
 use prack_body::ENTRIES_AT;
 use prack_body::ENTRY_SIZE;
-use prack_body::write_eight;
-use prack_body::write_four;
-use prack_body::write_two;
+use prack_body::LIST_AT;
 ghost use mathlib.Core.Path.{_≡_};
 ghost use mathlib.Core.Bool.{true};
 ghost use Prim.Native.Nat.{_+_, _≤_};
@@ -39,9 +41,17 @@ pub fn push(
     ensures { λ r. ⌜ ((t : Tracked) → Holds (now (body .entry)) n t → Holds (now (body .exit)) r (registered rustLimits (pendingOf rseq cseq method code time) t)) ⌝ }
 {
     let count = make_room(body, n);
-    let end = write_entry(body, 10 + count * 20, rseq, cseq, method, code, time);
-    body[8] = 1;
-    body[9] = (count + 1) as u8;
+    let end = write_entry(
+        body,
+        ENTRIES_AT + count * ENTRY_SIZE,
+        rseq,
+        cseq,
+        method,
+        code,
+        time,
+    );
+    body[LIST_AT] = 1;
+    body[COUNT_AT] = (count + 1) as u8;
     end
 }
 
@@ -51,10 +61,10 @@ fn make_room(body: &mut [u8], n: usize) -> usize
     ensures { λ r. ⌜ r ≤ 9 ⌝ }
     ensures { λ r. ⌜ ((t : Tracked) → Holds (now (body .entry)) n t → Kept (now (body .entry)) (lastOf (entriesOf (t .list))) (now (body .exit)) r) ⌝ }
 {
-    if n < 10 {
+    if n < ENTRIES_AT {
         return 0;
     }
-    let count = (n - 10) / 20;
+    let count = (n - ENTRIES_AT) / ENTRY_SIZE;
     if count < Limits::MAX_PENDING_PRACK_PER_DIALOG {
         return count;
     }
@@ -79,7 +89,7 @@ fn write_entry(
     let a = write_four(out, at, rseq);
     let b = write_four(out, a, cseq);
     put(out, b, &[method]);
-    let d = write_two(out, b + 1, code);
+    let d = write_two(out, b + 1, code as usize);
     put(out, d, &[0]);
     write_eight(out, d + 1, time)
 }

@@ -1,4 +1,5 @@
 // PrackValidator: the calls that remove, on a lent store of which so many bytes are used. Neither cleans.
+use codec::LENGTH_SIZE;
 use limits::Refusal;
 use output::Written;
 use prack_entries::Slot;
@@ -20,7 +21,7 @@ pub fn remove_dialog(id: &[u8], bytes: &mut [u8], used: usize) -> Written
     }
     match find(id, bytes, used) {
         Slot::Held(t) => {
-            let at = t.id.start - 2;
+            let at = t.id.start - LENGTH_SIZE;
             Written::Length(edit::replace(bytes, used, at, t.end - at, b""))
         }
         Slot::Free(_) => Written::Length(used),

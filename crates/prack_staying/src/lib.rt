@@ -1,7 +1,9 @@
 // Which entries of a body stay (prack_body/specs/Body.antt): the test of a cleanup, and that of `remove_pracked`.
-use image::read_four;
+use codec::read_eight;
+use codec::read_four;
 use limits::Limits;
-use prack_body::read_eight;
+use prack_body::ACKNOWLEDGED_AT;
+use prack_body::REGISTERED_AT;
 ghost use mathlib.Core.Path.{_≡_};
 ghost use mathlib.Core.List.{List, _++_};
 ghost use Prim.Native.Nat.{ℕ, _+_, _-_, _≤_};
@@ -43,10 +45,10 @@ fn is_young(body: &[u8], at: usize, time: u64) -> bool
     requires { ⌜ at + 20 ≤ length (now body) ⌝ }
     ensures { λ r. ⌜ ((p : Pending) (rest : List ℕ) → PendingFormed p → drop at (now (body .entry)) ≡ pendingForm .write p ++ rest → r ≡ stays rustLimits time p) ⌝ }
 {
-    if body[at + 11] == 1 {
+    if body[at + ACKNOWLEDGED_AT] == 1 {
         return false;
     }
-    let since = read_eight(body, at + 12);
+    let since = read_eight(body, at + REGISTERED_AT);
     elapsed(time, since) <= Limits::PENDING_PRACK_TIMEOUT_SECS * 1000000000
 }
 
@@ -58,5 +60,5 @@ fn is_other(body: &[u8], at: usize, rseq: u32) -> bool
     if read_four(body, at) != rseq {
         return true;
     }
-    body[at + 11] == 0
+    body[at + ACKNOWLEDGED_AT] == 0
 }

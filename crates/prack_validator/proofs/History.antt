@@ -18,7 +18,7 @@ use Rattle.msg.specs.Block.{isBlock, blockCause}
 use Rattle.methods.specs.Methods.{isMethod, methodCause}
 use Rattle.output.specs.Output.{fitted}
 use Rattle.rack.specs.declared.RAck.{RAck}
-use Rattle.record.proofs.CodecLaws.{GoodAll}
+use Rattle.codec.proofs.CodecLaws.{GoodAll}
 use Rattle.ordered_store.specs.Entries.{Key, ascending, entryOf, setEntry}
 use Rattle.ordered_store.specs.Run.{Decided}
 use Rattle.ordered_store.specs.History.{Call, EachSent, EachTyped, content, Follows, lending}

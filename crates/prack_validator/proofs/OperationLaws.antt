@@ -19,7 +19,7 @@ use Rattle.msg.specs.Block.{blockCause}
 use Rattle.methods.specs.Methods.{isMethod, methodCause}
 use Rattle.edit.specs.Edit.{over, putAt}
 use Rattle.output.specs.Output.{fitted}
-use Rattle.record.proofs.CodecLaws.{Bytes, bytes-take}
+use Rattle.codec.proofs.CodecLaws.{Bytes, bytes-take}
 use Rattle.ordered_store.specs.Entries.{setEntry, withoutEntry}
 use Rattle.ordered_store.specs.Run.{Left}
 use Rattle.ordered_store.proofs.RunLaws.{keptWith, way-arguments, way-over, way-unread, way-judged, way-full, way-taken}

@@ -1,4 +1,3 @@
-pub mod CodecLaws
 pub mod MapLaws
 pub mod NumberLaws
 pub mod RecordLaws

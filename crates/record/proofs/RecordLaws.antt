@@ -10,9 +10,9 @@ use lib.Dec.{leb, ltb, eqb}
 use borrow.Author.Tests.{eq-eqb, ne-eqb, eqb-true, eqb-false, lt-ltb, le-ltb, ltb-true, ltb-false}
 use Rattle.text.specs.Text.{isValue, all}
 use Rattle.text.specs.Number.{nonEmpty}
-use Rattle.record.specs.Codec.{Codec, Pair, byte, four, text, then, such, flagged, mapped, counted, keyed}
+use Rattle.codec.specs.Codec.{Codec, Pair, byte, four, text, then, such, flagged, mapped, counted, keyed}
 use Rattle.record.specs.Record.{State, early, confirmed, terminated, Side, uac, uas, Record, isReadable, isSips, idText, uriText, number, valueOr, optional, sideNumber, sideOf, refresherField, routesField, bitOf, stateNumber, stateOf, StateByte, stateByteNumber, stateByteOf, stateByte, stands, Fields, fields, isFilled, isGiven, mapOf, fieldsOf, recordOf, secureRight, image}
-use Rattle.record.proofs.CodecLaws.{Bytes, Exact, byte-exact, four-exact, text-exact, then-exact, such-exact, GoodFlag, flagged-exact, mapped-exact, GoodAll, counted-exact, keyed-exact}
+use Rattle.codec.proofs.CodecLaws.{Bytes, Exact, byte-exact, four-exact, text-exact, then-exact, such-exact, GoodFlag, flagged-exact, mapped-exact, GoodAll, counted-exact, keyed-exact}
 
 -- ---- fields
 

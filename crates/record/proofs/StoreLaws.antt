@@ -6,10 +6,10 @@ use mathlib.Core.Bool.{Bool, true, false, cond}
 use mathlib.Core.List.{List, [], _∷_, _++_, append-nil}
 use mathlib.Core.Option.{Option, none, some}
 use lib.ListN.{length, length-append}
-use Rattle.record.specs.Codec.{Reading, writeAll}
+use Rattle.codec.specs.Codec.{Reading, writeAll}
 use Rattle.record.specs.Record.{Record, WellFormed, mapOf, fieldsOf, image}
 use Rattle.record.specs.Store.{distinct, encodeAll, recordBefore, readOn, recordsIn, onlyDistinct, decodeAll}
-use Rattle.record.proofs.CodecLaws.{Bytes, bytes-after}
+use Rattle.codec.proofs.CodecLaws.{Bytes, bytes-after}
 use Rattle.record.proofs.WellFormedLaws.{image-round, image-back}
 
 -- every record is well-formed

@@ -9,9 +9,9 @@ use lib.ListN.{length}
 use lib.Dec.{leb, ltb}
 use borrow.Author.Tests.{lt-ltb, le-ltb, ltb-true, ltb-false, le-leb, leb-true}
 use Rattle.text.specs.Text.{all}
-use Rattle.record.specs.Codec.{Reading}
+use Rattle.codec.specs.Codec.{Reading}
 use Rattle.record.specs.Record.{Record, Side, IdPart, UriPart, OptionalPart, EachUri, WellFormed, isFilled, isGiven, fieldsOf, mapOf, image}
-use Rattle.record.proofs.CodecLaws.{Bytes, Exact, GoodFlag, GoodAll}
+use Rattle.codec.proofs.CodecLaws.{Bytes, Exact, GoodFlag, GoodAll}
 use Rattle.record.proofs.MapLaws.{stands-0, stands-1, stands-2, stands-7, stands-8, stands-9, stands-10, stands-11, stands-12, map-fits}
 use Rattle.record.proofs.RecordLaws.{GoodId, GoodUri, GoodNumber, GoodOptional, GoodSide, GoodRoutes, GoodFields, GoodRecord, image-exact}
 

@@ -1,5 +1,4 @@
 pub mod Changes
-pub mod Codec
 pub mod NumbersForm
 pub mod Record
 pub mod Rules

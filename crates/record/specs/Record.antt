@@ -11,7 +11,7 @@ use Rattle.limits.specs.Limits.{LimitSet}
 use Rattle.text.specs.Text.{isValue, all, same}
 use Rattle.text.specs.Number.{nonEmpty}
 use Rattle.uri.specs.SipUri.{UriParts, sipUri, sips}
-use Rattle.record.specs.Codec.{Codec, Pair, byte, four, text, then, such, flagged, mapped, counted, keyed}
+use Rattle.codec.specs.Codec.{Codec, Pair, byte, four, text, then, such, flagged, mapped, counted, keyed}
 
 -- ---- the record
 

@@ -9,7 +9,7 @@ use lib.Dec.{leb, ltb, eqb}
 use Rattle.limits.specs.Limits.{LimitSet}
 use Rattle.limits.specs.Outcome.{Outcome, given, refuseBy, refuseIf}
 use Rattle.limits.specs.declared.Refusal.the-variants.{CSeqZero, CSeqTooLarge, InvalidCSeq, CSeqJumpTooLarge}
-use Rattle.session_timer_manager.specs.Intervals.{secondsCause}
+use Rattle.session_seconds.specs.Seconds.{secondsCause}
 use Rattle.record.specs.Record.{State, early, confirmed, terminated, Numbers}
 
 -- ---- requests

@@ -5,7 +5,7 @@ use mathlib.Core.List.{List, [], _∷_}
 use mathlib.Core.Option.{Option, none, some}
 use lib.ListN.{length}
 use Rattle.text.specs.Text.{equal}
-use Rattle.record.specs.Codec.{Reading, writeAll}
+use Rattle.codec.specs.Codec.{Reading, writeAll}
 use Rattle.record.specs.Record.{Record, image}
 
 -- ---- identifiers

@@ -1,8 +1,8 @@
 // The state and the numbers of a record, by value, and what requests and other calls make of them.
 use limits::Limits;
 use limits::Refusal;
-use session_timer_manager::CheckedSeconds;
-use session_timer_manager::check_expires_seconds;
+use session_seconds::CheckedSeconds;
+use session_seconds::check_expires_seconds;
 ghost use mathlib.Core.Path.{_≡_};
 ghost use Rattle.limits.specs.Limits.{rustLimits};
 ghost use Rattle.record.specs.Rules.{requestStep, ackStep, otherStep, confirmStep, terminateStep, localStep, withSeconds, intervalStep};

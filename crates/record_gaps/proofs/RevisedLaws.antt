@@ -9,7 +9,7 @@ use lib.ListN.{length, take, drop, length-append, take-append-drop}
 use lib.Seq.{length-take-le}
 use Rattle.edit.specs.Edit.{over, putAt}
 use Rattle.record.specs.Changes.{withNumbers, withTarget, withRoutes}
-use Rattle.record.specs.Codec.{text, two}
+use Rattle.codec.specs.Codec.{text, two}
 use Rattle.record.specs.Record.{Numbers, Record, stateByteNumber, image}
 use Rattle.image.specs.declared.RecordAt.{RecordAt}
 use Rattle.image.specs.Places.{idsOf, urisOf}
@@ -66,11 +66,11 @@ module _ (bytes : List ℕ) (used at : ℕ) (p : RecordAt) (fits : used ≤ leng
       let v = h .value in
       let s = state-is (take used bytes) at p h (v .numbers) in
       let e = end-is (take used bytes) at p h (v .numbers) in
-      let f = start-is (take used bytes) at p h (v .target) in
+      let f = start-is (take used bytes) at p h in
       let l : length (urisBytes (urisOf v)) ≡ length target + length m = length-append target m in
       let b = length-append map (ids ++ state) in
       let c = length-append ids state in
-      (s, omega (arith, s, f, b, c), length-is (take used bytes) at p h (v .target), omega (arith, e, l))
+      (s, omega (arith, s, f, b, c), length-is (take used bytes) at p h, omega (arith, e, l))
 
   used-is : used ≡ at + 2 + length ids + 3 + length (h .value .target) + length m + length o + length (k ++ h .rest)
   used-is =

@@ -1,5 +1,5 @@
 -- Steps of the code: a record with other numbers and another target, and with the routes that a response gives. What the calls make of a record
--- is said in dialog/specs/Updates.antt.
+-- is said in dialog_rules/specs/Updates.antt.
 use Prim.Native.Nat.{ℕ}
 use mathlib.Core.List.{List}
 use Rattle.limits.specs.Outcome.{Outcome}

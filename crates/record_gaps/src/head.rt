@@ -1,11 +1,11 @@
 // The bit map, the state byte and the target of a record.
+use codec::write_byte;
+use codec::write_text;
+use codec::write_two;
 use image::RecordAt;
-use image_edit::either;
+use image::either;
 use image_edit::new_map;
 use image_writer::state_byte;
-use image_writer::write_byte;
-use image_writer::write_text;
-use image_writer::write_two;
 use record::Numbers;
 ghost use mathlib.Core.Path.{_≡_};
 ghost use mathlib.Core.List.{_∷_, [], _++_};
@@ -13,7 +13,7 @@ ghost use mathlib.Core.Bool.{_||_};
 ghost use Prim.Native.Nat.{_+_, _≤_, _<_};
 ghost use lib.ListN.{length};
 ghost use Rattle.edit.specs.Edit.{putAt};
-ghost use Rattle.record.specs.Codec.{two, text};
+ghost use Rattle.codec.specs.Codec.{two, text};
 ghost use Rattle.record.specs.Record.{stateByteNumber};
 ghost use Rattle.record.specs.NumbersForm.{meaning};
 ghost use Rattle.image_edit.specs.Maps.{mapFrom};

@@ -20,6 +20,9 @@ pub fn call(
     if row < 32 {
         return read(row, b, v, o);
     }
+    if 81 < row {
+        return stores::verdicts(row, v, store, o) as u64;
+    }
     if row < 38 || 78 < row {
         return reckon(row, b, v, o);
     }

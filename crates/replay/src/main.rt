@@ -21,24 +21,24 @@ fn main() {
 }
 
 // Room for a list, or for the memory of a store.
-fn zeros() -> [u8; 720896]
-    ensures { λ r. ⌜ 720896 ≡ length r ⌝ }
+fn zeros() -> [u8; 786432]
+    ensures { λ r. ⌜ 786432 ≡ length r ⌝ }
 {
-    [0; 720896]
+    [0; 786432]
 }
 
-// The head of the list has a row for each of the 82 operations, and ends before the first empty line.
+// The head of the list has a row for each of the 84 operations, and ends before the first empty line.
 fn replay(list: &[u8]) {
-    if list.len() == 720896 {
+    if list.len() == 786432 {
         show(b"the list is too long\n");
         return;
     }
     let rows = part(list, 0, head_end(list));
-    if !find_row(rows, b"", 81).found || find_row(rows, b"", 82).found {
-        show(b"the list doesn't begin with 82 rows\n");
+    if !find_row(rows, b"", 83).found || find_row(rows, b"", 84).found {
+        show(b"the list doesn't begin with 84 rows\n");
         return;
     }
-    let mut tallies = [0u64; 247];
+    let mut tallies = [0u64; 253];
     each_line(list, rows, &mut tallies);
     report(rows, &tallies);
 }
@@ -59,13 +59,13 @@ fn head_end(list: &[u8]) -> usize {
 }
 
 // Goes through the lines behind the head. They are numbered from 1 at the list's start.
-fn each_line(list: &[u8], rows: &[u8], tallies: &mut [u64; 247]) {
+fn each_line(list: &[u8], rows: &[u8], tallies: &mut [u64; 253]) {
     let mut store = zeros();
     let mut old = zeros();
     let mut bytes = zeros();
     let mut size = 0;
     let mut at = rows.len();
-    let mut number = 83;
+    let mut number = 85;
     while at < list.len() {
         let end = line_end(list, at);
         if end < at {

@@ -1,4 +1,4 @@
-// The counts, and what is printed of them. For the row r: how many calls at r, how many of them differ at 82 + r, the first one's line at 164 + r; at 246 how many lines
+// The counts, and what is printed of them. For the row r: how many calls at r, how many of them differ at 84 + r, the first one's line at 168 + r; at 252 how many lines
 // can't be read.
 use crate::Outcome;
 use libc::STDOUT_FILENO;
@@ -7,7 +7,7 @@ use replay_lines::part;
 use replay_lines::word;
 
 // Counts what became of a line; how many bytes the memory then has.
-pub fn take(outcome: Outcome, line: usize, tallies: &mut [u64; 247], size: usize) -> usize {
+pub fn take(outcome: Outcome, line: usize, tallies: &mut [u64; 253], size: usize) -> usize {
     match outcome {
         Outcome::Passed => size,
         Outcome::Memory(n) => n,
@@ -24,53 +24,53 @@ pub fn take(outcome: Outcome, line: usize, tallies: &mut [u64; 247], size: usize
             show(b"line ");
             show_decimal(line as u64);
             show(b" can't be read\n");
-            add(tallies, 246);
+            add(tallies, 252);
             size
         }
     }
 }
 
-fn add(tallies: &mut [u64; 247], i: usize) {
-    if i < 247 {
+fn add(tallies: &mut [u64; 253], i: usize) {
+    if i < 253 {
         if tallies[i] < 18446744073709551615 {
             tallies[i] = tallies[i] + 1;
         }
     }
 }
 
-fn add_differing(tallies: &mut [u64; 247], row: usize, line: usize) {
-    if row < 82 {
-        add(tallies, 82 + row);
-        if tallies[164 + row] == 0 {
-            tallies[164 + row] = line as u64;
+fn add_differing(tallies: &mut [u64; 253], row: usize, line: usize) {
+    if row < 84 {
+        add(tallies, 84 + row);
+        if tallies[168 + row] == 0 {
+            tallies[168 + row] = line as u64;
         }
     }
 }
 
 // A line for each operation, and the verdict.
-pub fn report(rows: &[u8], tallies: &[u64; 247]) {
+pub fn report(rows: &[u8], tallies: &[u64; 253]) {
     let mut row = 0;
-    while row < 82 {
+    while row < 84 {
         let at = find_row(rows, b"", row).name;
         show(part(rows, at, word(rows, at)));
         show(b": ");
         show_decimal(tallies[row]);
         show(b" calls");
-        show_differing(tallies[82 + row], tallies[164 + row]);
+        show_differing(tallies[84 + row], tallies[168 + row]);
         row += 1;
     }
-    let differ = total(tallies, 82);
+    let differ = total(tallies, 84);
     show_decimal(total(tallies, 0));
-    if differ == 0 && tallies[246] == 0 {
+    if differ == 0 && tallies[252] == 0 {
         show(b" calls, all as recorded\n");
         return;
     }
     show(b" calls, ");
     show_decimal(differ);
     show(b" differ");
-    if tallies[246] != 0 {
+    if tallies[252] != 0 {
         show(b", ");
-        show_decimal(tallies[246]);
+        show_decimal(tallies[252]);
         show(b" lines can't be read");
     }
     show(b"\n");
@@ -86,20 +86,20 @@ fn show_differing(differ: u64, line: u64) {
     show(b"\n");
 }
 
-// The sum of 82 counts.
-fn total(tallies: &[u64; 247], from: usize) -> u64 {
+// The sum of 84 counts.
+fn total(tallies: &[u64; 253], from: usize) -> u64 {
     let mut sum = 0;
     let mut i = 0;
-    while i < 82 {
+    while i < 84 {
         sum = std::num::wrapping_add_u64(sum, tally(tallies, from, i));
         i += 1;
     }
     sum
 }
 
-fn tally(tallies: &[u64; 247], from: usize, i: usize) -> u64 {
-    if from < 165 {
-        if i < 82 {
+fn tally(tallies: &[u64; 253], from: usize, i: usize) -> u64 {
+    if from < 169 {
+        if i < 84 {
             return tallies[from + i];
         }
     }

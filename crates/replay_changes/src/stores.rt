@@ -1,4 +1,4 @@
-// The calls on the three kinds of stores. `store` is the part of the memory that they are lent; the used length is the first of the out numbers.
+// The calls on the three kinds of stores, and on a run of verdicts. `store` is the part of the memory that they are lent; the used length is the first of the out numbers.
 use replay_lines::low8;
 use replay_lines::low16;
 use replay_lines::low32;
@@ -27,6 +27,8 @@ use sip_dialog::stores::sip_dialog_response;
 use sip_dialog::stores::sip_dialog_set_session_expires;
 use sip_dialog::stores::sip_dialog_sweep;
 use sip_dialog::stores::sip_dialog_terminate;
+use sip_dialog::verdicts::sip_dialog_add_verdict;
+use sip_dialog::verdicts::sip_dialog_worst_minute;
 
 // The used length alone.
 pub fn used_only(row: usize, b: &[u8], v: &[u64; 48], store: &mut [u8], o: &mut [u64; 8]) -> u8 {
@@ -246,5 +248,23 @@ pub fn validate(b: &[u8], v: &[u64; 48], store: &mut [u8], o: &mut [u64; 8]) -> 
     o[1] = rseq as u64;
     o[2] = cseq as u64;
     o[3] = n as u64;
+    r
+}
+
+// A run of verdicts.
+pub fn verdicts(row: usize, v: &[u64; 48], store: &mut [u8], o: &mut [u64; 8]) -> u8 {
+    let mut used = o[0] as usize;
+    if row == 82 {
+        let r = sip_dialog_add_verdict(v[0], low8(v[1]), store, &mut used);
+        o[0] = used as u64;
+        return r;
+    }
+    let mut refusals = o[1] as usize;
+    let mut found = low8(o[2]);
+    let mut start = o[3];
+    let r = sip_dialog_worst_minute(store, used, &mut refusals, &mut found, &mut start);
+    o[1] = refusals as u64;
+    o[2] = found as u64;
+    o[3] = start;
     r
 }

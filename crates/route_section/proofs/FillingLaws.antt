@@ -26,7 +26,7 @@ use Rattle.uri.proofs.Cuts.{Stands}
 use Rattle.uri.proofs.Laws.{found, part-bytes}
 use Rattle.edit.specs.Edit.{putAt}
 use Rattle.edit.proofs.EditLaws.{drop-take}
-use Rattle.record.specs.Codec.{text}
+use Rattle.codec.specs.Codec.{text}
 use Rattle.route_set.specs.Routes.{recordRouteName, elementsIn}
 use Rattle.route_set.specs.Scan.{elementFrom}
 use Rattle.route_set.specs.declared.routes.Element.{Element}

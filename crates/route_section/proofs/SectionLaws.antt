@@ -18,9 +18,9 @@ use Rattle.uri.specs.SipUri.{overEstimate}
 use Rattle.uri.specs.HeaderUri.{ReadUri, headerUri}
 use Rattle.edit.specs.Edit.{putAt}
 use Rattle.edit.proofs.EditLaws.{put-nothing, put-put}
-use Rattle.record.specs.Codec.{text, writeAll}
+use Rattle.codec.specs.Codec.{text, writeAll}
 use Rattle.record.specs.Record.{uriText}
-use Rattle.image_writer.proofs.FieldLaws.{text-size}
+use Rattle.codec.proofs.SizeLaws.{text-size}
 use Rattle.route_set.specs.Routes.{routeBefore, withElement, routesFrom, routesOf, routeElements, inOrder}
 use Rattle.route_section.specs.Section.{sectionOf, routeTexts, sectionIn, sectionFrom}
 use Rattle.route_section.specs.declared.Section.the-variants as section

@@ -14,7 +14,7 @@ use Rattle.text.specs.Text.{Piece}
 use Rattle.uri.specs.SipUri.{overEstimate}
 use Rattle.uri.specs.HeaderUri.{ReadUri, headerUri}
 use Rattle.edit.specs.Edit.{putAt}
-use Rattle.record.specs.Codec.{text}
+use Rattle.codec.specs.Codec.{text}
 use Rattle.route_section.specs.declared.filling.Routes.{Routes}
 use Rattle.route_section.specs.declared.filling.Routes.the-variants.{Held, Refused}
 

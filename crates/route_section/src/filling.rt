@@ -1,5 +1,5 @@
 // Lent bytes filled with the texts of a block's routes, one line after another.
-use image_writer::write_text;
+use codec::write_text;
 use limits::Check;
 use limits::Limits;
 use limits::Refusal;

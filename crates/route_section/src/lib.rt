@@ -1,7 +1,7 @@
 // The routes' section of a record image, measured and written out of the Record-Route lines of a header block that was checked.
 use crate::filling::Routes;
 use crate::filling::fill_routes;
-use image_writer::write_byte;
+use codec::write_byte;
 use limits::Refusal;
 ghost use mathlib.Core.Path.{_≡_};
 ghost use Prim.Native.Nat.{_≤_};

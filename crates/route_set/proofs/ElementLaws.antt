@@ -1,27 +1,31 @@
 -- One element with its URI, and the Contact's URI: what the answers say. Assumes nothing.
-use Prim.Native.Nat.{ℕ, _+_, _-_, _≤_}
+use Prim.Native.Nat.{ℕ, _+_, _-_}
+use native.Mathlib.Nat.{add-sub-cancel-left}
 use native.Mathlib.Omega.{arith}
-use mathlib.Core.Path.{_≡_, refl, sym, ap, subst, _∙_}
-use mathlib.Core.Bool.{Bool, true, false}
+use mathlib.Core.Path.{_≡_, refl, sym, ap, _∙_}
+use mathlib.Core.Bool.{true, false}
 use mathlib.Core.List.{List}
 use mathlib.Core.Option.{Option, none, some}
 use lib.ListN.{length, take, drop}
 use lib.Dec.{ltb}
 use Rattle.limits.specs.Limits.{rustLimits}
 use Rattle.limits.specs.Outcome.{given}
-use Rattle.text.specs.Text.{Piece, movedPiece, moved}
+use Rattle.text.specs.Text.{Piece, moved}
 use Rattle.text.specs.Answers.{spanOf, lookupOf}
 use Rattle.text.specs.declared.Span.{Span}
 use Rattle.text.specs.declared.Lookup.the-variants as lookup
-use Rattle.msg.specs.Block.{HeaderLine, valueOf}
-use Rattle.msg.proofs.LookupLaws.{Says, said-text}
+use Rattle.msg.specs.Block.{firstNamed, linesOf, foundOf}
+use Rattle.msg.specs.Table.{valueAt}
+use Rattle.msg.specs.declared.Found.{Found}
+use Rattle.msg.specs.declared.Found.the-variants as line
+use Rattle.msg.proofs.TableLaws.{value-at}
 use Rattle.uri.specs.SipUri.{overEstimate}
 use Rattle.uri.specs.Steps.{sizeOf}
 use Rattle.uri.specs.HeaderUri.{ReadUri, headerUri, headerUriFrom, pieceOf}
 use Rattle.uri.specs.declared.SipUri.{SipUri}
 use Rattle.uri.specs.declared.HeaderUri.the-variants as header
 use Rattle.uri.proofs.Laws.{FoundAt, found-at, not-found, over-is}
-use Rattle.route_set.specs.Routes.{uriIn, contactFrom}
+use Rattle.route_set.specs.Routes.{contactName, uriIn, contactOf, contactFrom}
 use Rattle.route_set.specs.Scan.{movedSpan, elementFrom}
 use Rattle.route_set.specs.declared.routes.Element.the-variants.{Route, Unreadable, TooLong}
 use Rattle.route_set.specs.declared.routes.Contact.the-variants as contact
@@ -47,9 +51,14 @@ module _ (o : Option ReadUri) (at : ℕ) (u : Span) (parts : SipUri) (e : header
   pub contact-moved : contact.At (record { start = at + u .start; length = u .length }) ≡ contactFrom (moved at (pieceOf o))
   contact-moved = let f = found-at o e in rw (f .finds) (ap (λ (x : Span). contact.At (movedSpan at x)) (sym (f .place)))
 
-pub contact-in : (s : List ℕ) (o : Option HeaderLine) (v : Span) (next : ℕ) → Says s o v next
-    → uriIn (valueOf o) ≡ moved (v .start) (pieceOf (headerUri (take (v .start + v .length - v .start) (drop (v .start) s))))
-contact-in s o v next r = rw (said-text s o v next r, r .is) (ap (λ (x : Span). moved (x .start) (pieceOf (headerUri (r .line .value .text)))) (r .span-is))
+pub contact-line : (s : List ℕ) (f : Found) (v : Span) (next : ℕ) → f ≡ line.At v next
+    → uriIn (valueAt f s) ≡ moved (v .start) (pieceOf (headerUri (take (v .start + v .length - v .start) (drop (v .start) s))))
+contact-line s f v next e = rw (e, add-sub-cancel-left)
+
+-- the Contact by its look-up
+pub contact-found : (block : List ℕ) (f : Found) → f ≡ foundOf (firstNamed contactName (linesOf block)) → contactFrom (uriIn (valueAt f block)) ≡ contactFrom (contactOf block)
+unfolding contactOf
+contact-found block f e = rw (e, value-at contactName block)
 
 pub no-contact : (o : Option Piece) → contactFrom o ≡ contact.Nothing → lookup.Nothing ≡ lookupOf (given o)
 no-contact none e = refl

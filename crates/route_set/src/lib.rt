@@ -9,6 +9,7 @@ pub use routes::Contact;
 pub use routes::Count;
 pub use routes::Element;
 pub use routes::Scan;
+pub use routes::contact_at;
 pub use routes::find_contact;
 pub use routes::read_contact;
 pub use routes::read_element;

@@ -13,7 +13,8 @@ ghost use Prim.Native.Nat.{_+_, _<_, _≤_, _^_};
 ghost use lib.ListN.{length, take, drop};
 ghost use Rattle.limits.specs.Limits.{rustLimits};
 ghost use Rattle.text.specs.Answers.{lookupOf};
-ghost use Rattle.route_set.specs.Routes.{contact, contactOf, contactFrom, routeElements, routeCount, routeAt, countOf};
+ghost use Rattle.msg.specs.Table.{valueAt, endOf};
+ghost use Rattle.route_set.specs.Routes.{contact, contactOf, uriIn, contactFrom, routeElements, routeCount, routeAt, countOf};
 ghost use Rattle.route_set.specs.Scan.{scan, elementFrom, routeIn, movedSpan, InValue};
 ghost use Rattle.uri.specs.HeaderUri.{headerUri};
 
@@ -61,7 +62,16 @@ pub fn read_contact(block: &[u8]) -> Lookup
 pub fn find_contact(block: &[u8]) -> Contact
     ensures { λ r. ⌜ r ≡ contactFrom (contactOf (now (block .entry))) ⌝ }
 {
-    let Found::At(v, _) = msg::find(block, b"Contact") else {
+    let line = msg::find(block, b"Contact");
+    contact_at(block, line)
+}
+
+// The URI of a line that was looked up.
+pub fn contact_at(block: &[u8], line: Found) -> Contact
+    requires { ⌜ endOf line ≤ length (now block) ⌝ }
+    ensures { λ r. ⌜ r ≡ contactFrom (uriIn (valueAt line (now (block .entry)))) ⌝ }
+{
+    let Found::At(v, _) = line else {
         return Contact::Nothing;
     };
     let a = v.start;

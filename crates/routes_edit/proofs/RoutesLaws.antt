@@ -13,13 +13,14 @@ use Rattle.limits.specs.Outcome.{Outcome, refused, given}
 use Rattle.text.specs.Text.{Piece}
 use Rattle.edit.specs.Edit.{over, putAt, spliced, tailMoved}
 use Rattle.edit.proofs.EditLaws.{put-put, replace-law}
-use Rattle.record.specs.Codec.{two, writeAll}
+use Rattle.codec.specs.Codec.{two, writeAll}
 use Rattle.record.specs.Changes.{withNumbers, withRoutes}
 use Rattle.record.specs.Record.{Numbers, Record, isFilled, uriText, routesField, stateByteNumber, image}
 use Rattle.image.specs.declared.RecordAt.{RecordAt}
 use Rattle.image.specs.Places.{idsOf, urisOf, numbersSize, textsSize, routesSize}
 use Rattle.image_writer.specs.Parts.{idsBytes, urisBytes, numbersBytes, mapOfParts, stateByteOf}
-use Rattle.image_writer.proofs.FieldLaws.{numbers-size, text-size}
+use Rattle.image_writer.proofs.FieldLaws.{numbers-size}
+use Rattle.codec.proofs.SizeLaws.{text-size}
 use Rattle.image_writer.proofs.ImageLaws.{partsIn, routesBytes}
 use Rattle.image_edit.specs.Changes.{changed}
 use Rattle.image_edit.specs.Maps.{mapFrom}

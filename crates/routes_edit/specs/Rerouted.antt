@@ -1,5 +1,5 @@
 -- Steps of the code: a record with the routes that a response gives, reversed over all its Record-Route lines (document 01, "Routes"; RFC 3261 section
--- 12.1.2), and with other numbers. What a response makes of a record is `responseUpdate` (dialog/specs/Updates.antt).
+-- 12.1.2), and with other numbers. What a response makes of a record is `responseUpdate` (dialog_rules/specs/Updates.antt).
 use mathlib.Core.Bool.{true}
 use mathlib.Core.List.{List}
 use Rattle.limits.specs.Outcome.{Outcome, refused, given}

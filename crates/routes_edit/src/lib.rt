@@ -1,14 +1,14 @@
 // A record changed in its place in lent bytes, its numbers and its routes in one step: what a 2xx does that confirms an Early record. The caller
 // has read the record, has measured the routes, and has measured that the change fits.
+use codec::write_byte;
+use codec::write_two;
 use edit::move_tail;
 use image::RecordAt;
-use image_edit::either;
+use image::either;
 use image_edit::new_map;
 use image_writer::numbers_size;
 use image_writer::state_byte;
-use image_writer::write_byte;
 use image_writer::write_numbers;
-use image_writer::write_two;
 use record::Numbers;
 use route_section::write_routes;
 ghost use mathlib.Core.Path.{_≡_};

@@ -6,8 +6,8 @@ use mathlib.Core.Bool.{true}
 use mathlib.Core.List.{List, _++_}
 use lib.ListN.{length, length-append}
 use borrow.Author.Tests.{lt-ltb, ltb-true}
-use Rattle.record.specs.Codec.{Pair, four, text}
-use Rattle.record.proofs.CodecLaws.{Exact, then-exact, such-exact, mapped-exact, text-exact, four-exact}
+use Rattle.codec.specs.Codec.{Pair, four, text}
+use Rattle.codec.proofs.CodecLaws.{Exact, then-exact, such-exact, mapped-exact, text-exact, four-exact}
 use Rattle.rseq_entries.specs.Entries.{Entry, isPositive, parts, entryFrom, partsOf, entryForm, WellFormed}
 
 abbrev GoodText : List ℕ → Type 0

@@ -6,10 +6,10 @@ use mathlib.Core.List.{List, [], _∷_, _++_, append-assoc}
 use mathlib.Core.Option.{Option, none, some}
 use lib.ListN.{length, take, drop, length-append, length-drop}
 use lib.Seq.{drop-drop, take-append-seam, drop-append-seam}
-use Rattle.record.specs.Codec.{Reading, four, text}
+use Rattle.codec.specs.Codec.{Reading, four, text}
 use Rattle.ordered_store.specs.Slot.{held}
 use Rattle.ordered_store.proofs.PlaceLaws.{Layout, Here}
-use Rattle.image.specs.Places.{textEnd}
+use Rattle.codec.specs.Places.{textEnd}
 use Rattle.rseq_entries.specs.Entries.{Entry, keyOf, entryForm, WellFormed}
 use Rattle.rseq_entries.specs.Places.{entryAt, readingOf, keyAt, Within, slotOf}
 use Rattle.rseq_entries.specs.declared.entries.EntryAt.{EntryAt}

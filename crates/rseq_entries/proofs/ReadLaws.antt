@@ -7,9 +7,9 @@ use mathlib.Core.Option.{none, some}
 use lib.ListN.{length, drop}
 use borrow.Author.Tests.{lt-ltb, le-ltb}
 use Rattle.text.specs.declared.Span.{Span}
-use Rattle.record.specs.Codec.{four, text}
-use Rattle.image.proofs.AnswerLaws.{TextGot}
-use Rattle.image.proofs.PartLaws.{four-none}
+use Rattle.codec.specs.Codec.{four, text}
+use Rattle.codec.proofs.AnswerLaws.{TextGot}
+use Rattle.codec.proofs.ReadLaws.{four-none}
 use Rattle.rseq_entries.specs.Entries.{entryForm}
 use Rattle.rseq_entries.specs.Places.{readingOf}
 use Rattle.rseq_entries.specs.declared.entries.EntryReading.the-variants as entries

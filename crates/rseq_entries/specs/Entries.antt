@@ -6,7 +6,7 @@ use mathlib.Core.List.{List, [], _∷_}
 use lib.ListN.{length}
 use lib.Dec.{ltb}
 use Rattle.dialog_id.specs.Ident.{Ident, ident}
-use Rattle.record.specs.Codec.{Codec, Pair, then, such, mapped, four, text}
+use Rattle.codec.specs.Codec.{Codec, Pair, then, such, mapped, four, text}
 use Rattle.ordered_store.specs.Entries.{Key}
 
 -- Call-ID first, then the local tag, then the remote one

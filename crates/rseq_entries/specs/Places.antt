@@ -3,11 +3,11 @@ use Prim.Native.Nat.{ℕ, _+_}
 use mathlib.Core.List.{List, [], _∷_}
 use mathlib.Core.Option.{Option, none, some}
 use lib.ListN.{length}
-use Rattle.record.specs.Codec.{Reading}
+use Rattle.codec.specs.Codec.{Reading}
 use Rattle.ordered_store.specs.Entries.{Key}
 use Rattle.text.specs.Spans.{partIn, PartWithin}
 use Rattle.ordered_store.specs.Slot.{Slot, held, free, slotUsed}
-use Rattle.image.specs.Places.{textSpan, textEnd}
+use Rattle.codec.specs.Places.{textSpan, textEnd}
 use Rattle.rseq_entries.specs.Entries.{Entry, keyOf, entryForm}
 use Rattle.rseq_entries.specs.declared.entries.EntryAt.{EntryAt}
 use Rattle.rseq_entries.specs.declared.entries.EntryReading.{EntryReading}

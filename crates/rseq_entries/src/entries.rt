@@ -1,5 +1,5 @@
 // One entry of the RSeq store, read at a place: three texts with two length bytes each, then a number that isn't 0.
-use image::Text;
+use codec::Text;
 use text::Span;
 ghost use mathlib.Core.Path.{_≡_};
 ghost use Prim.Native.Nat.{_≤_};
@@ -26,20 +26,20 @@ pub fn read_entry(bytes: &[u8], at: usize) -> EntryReading
     requires { ⌜ at ≤ length (now bytes) ⌝ }
     ensures { λ r. ⌜ r ≡ readingOf at (entryForm .read (drop at (now (bytes .entry)))) ⌝ }
 {
-    let Text::At(call_id) = image::read_text(bytes, at) else {
+    let Text::At(call_id) = codec::read_text(bytes, at) else {
         return EntryReading::Broken;
     };
-    let Text::At(local_tag) = image::read_text(bytes, call_id.start + call_id.length) else {
+    let Text::At(local_tag) = codec::read_text(bytes, call_id.start + call_id.length) else {
         return EntryReading::Broken;
     };
-    let Text::At(remote_tag) = image::read_text(bytes, local_tag.start + local_tag.length) else {
+    let Text::At(remote_tag) = codec::read_text(bytes, local_tag.start + local_tag.length) else {
         return EntryReading::Broken;
     };
     let place = remote_tag.start + remote_tag.length;
     if bytes.len() - place < 4 {
         return EntryReading::Broken;
     }
-    let number = image::read_four(bytes, place);
+    let number = codec::read_four(bytes, place);
     if number == 0 {
         return EntryReading::Broken;
     }

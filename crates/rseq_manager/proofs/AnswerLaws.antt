@@ -19,8 +19,8 @@ use Rattle.edit.specs.Edit.{over, putAt, spliced}
 use Rattle.output.specs.Output.{fitted, leaves}
 use Rattle.output.specs.declared.Written.{Written}
 use Rattle.output.specs.declared.Written.the-variants as written
-use Rattle.record.specs.Codec.{four}
-use Rattle.record.proofs.CodecLaws.{Bytes}
+use Rattle.codec.specs.Codec.{four}
+use Rattle.codec.proofs.CodecLaws.{Bytes}
 use Rattle.ordered_store.specs.Answers.{writtenIn, usedWritten}
 use Rattle.ordered_store.specs.Entries.{decodeEntries}
 use Rattle.ordered_store.specs.Places.{countOf}

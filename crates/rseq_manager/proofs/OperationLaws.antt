@@ -17,8 +17,8 @@ use Rattle.limits.specs.declared.Refusal.the-variants.{BadStore, NotFound, NoRo
 use Rattle.edit.specs.Edit.{over, putAt, spliced, tailMoved}
 use Rattle.edit.proofs.EditLaws.{replace-law}
 use Rattle.output.specs.Output.{fitted}
-use Rattle.record.specs.Codec.{text, four}
-use Rattle.record.proofs.CodecLaws.{Bytes, bytes-take, GoodAll}
+use Rattle.codec.specs.Codec.{text, four}
+use Rattle.codec.proofs.CodecLaws.{Bytes, bytes-take, GoodAll}
 use Rattle.ordered_store.specs.Entries.{Key, encodeEntries, decodeEntries, ascending, entryOf, setEntry, withoutEntry}
 use Rattle.ordered_store.specs.Run.{Left}
 use Rattle.ordered_store.proofs.BytesLaws.{decoded}

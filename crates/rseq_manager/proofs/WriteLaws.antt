@@ -11,7 +11,7 @@ use Rattle.limits.specs.declared.Refusal.the-variants.{NoRoom}
 use Rattle.edit.specs.Edit.{putAt, spliced, tailMoved}
 use Rattle.edit.proofs.EditLaws.{Wrote, wrote-then, wrote-three, replace-law}
 use Rattle.output.specs.Output.{fitted, leaves}
-use Rattle.record.specs.Codec.{text, four}
+use Rattle.codec.specs.Codec.{text, four}
 use Rattle.dialog_id.specs.Ident.{Ident}
 use Rattle.rseq_entries.specs.Entries.{entryForm}
 use Rattle.rseq_manager.specs.RSeq.{numbered}

@@ -1,6 +1,6 @@
 // RSeqManager: the RSeq number of each dialog, in a lent store of which so many bytes are used.
 use crate::writing::insert;
-use crate::writing::write_number;
+use codec::write_four;
 use dialog_id::check_lengths;
 use limits::Check;
 use limits::Refusal;
@@ -53,7 +53,7 @@ pub fn next_rseq(
     match find(call_id, local_tag, remote_tag, bytes, used) {
         Slot::Held(_, number, end) => {
             let m = raised(number);
-            write_number(bytes, end - 4, m);
+            write_four(bytes, end - 4, m);
             Numbered::Is(m, used)
         }
         Slot::Free(at) => insert(

@@ -6,7 +6,6 @@ ghost use Prim.Native.Nat.{_+_, _≤_, _<_};
 ghost use lib.ListN.{length, take};
 ghost use Rattle.edit.specs.Edit.{putAt, spliced};
 ghost use Rattle.output.specs.Output.{fitted, leaves};
-ghost use Rattle.record.specs.Codec.{four};
 ghost use Rattle.dialog_id.specs.Ident.{ident};
 ghost use Rattle.rseq_entries.specs.Entries.{entryForm};
 ghost use Rattle.rseq_manager.specs.RSeq.{numbered};
@@ -49,20 +48,8 @@ fn write_entry(
     requires { ⌜ at + length (entryForm .write (numbered (ident (now «call_id») (now «local_tag») (now «remote_tag»)) number)) ≤ length (now bytes) ⌝ }
     ensures { λ _. ⌜ now (bytes .exit) ≡ putAt at (entryForm .write (numbered (ident (now («call_id» .entry)) (now («local_tag» .entry)) (now («remote_tag» .entry))) number)) (now (bytes .entry)) ⌝ }
 {
-    let a = image_writer::write_text(bytes, at, call_id);
-    let b = image_writer::write_text(bytes, a, local_tag);
-    let c = image_writer::write_text(bytes, b, remote_tag);
-    write_number(bytes, c, number);
-}
-
-// The four bytes of a number, the highest first, at a place.
-pub fn write_number(bytes: &mut [u8], at: usize, n: u32)
-    requires { ⌜ at + 4 ≤ length (now bytes) ⌝ }
-    ensures { λ _. ⌜ now (bytes .exit) ≡ putAt at (four .write n) (now (bytes .entry)) ⌝ }
-{
-    let a = (n / 16777216) as u8;
-    let b = (n / 65536 % 256) as u8;
-    let c = (n / 256 % 256) as u8;
-    let d = (n % 256) as u8;
-    edit::put(bytes, at, &[a, b, c, d]);
+    let a = codec::write_text(bytes, at, call_id);
+    let b = codec::write_text(bytes, a, local_tag);
+    let c = codec::write_text(bytes, b, remote_tag);
+    codec::write_four(bytes, c, number);
 }

@@ -1,18 +1,13 @@
--- What RFC 4028 asks of the intervals, as facts about the definitions; and what the check of seconds says to its callers. Assumes nothing.
-use Prim.Native.Nat.{ℕ, _≤_, _*_, _/_}
+-- What RFC 4028 asks of the intervals, as facts about the definitions. Assumes nothing.
+use Prim.Native.Nat.{ℕ, _≤_, _+_, _*_, _/_}
 use native.Mathlib.Omega.{arith}
-use mathlib.Core.Path.{_≡_, refl}
+use mathlib.Core.Path.{_≡_, refl, sym}
 use mathlib.Core.Bool.{Bool, true, false}
 use mathlib.Core.Option.{Option, none, some}
-use lib.Dec.{ltb}
-use borrow.Author.Tests.{ltb-false}
-use Rattle.limits.specs.Limits.{LimitSet}
-use Rattle.limits.specs.Outcome.{given, causeIf, orElse, refuseBy}
-use Rattle.limits.specs.declared.Refusal.{Refusal}
-use Rattle.limits.specs.declared.Refusal.the-variants.{SessionExpiresTooSmall, SessionExpiresTooLarge}
-use Rattle.session_timer_manager.specs.Answers.{secondsFrom}
-use Rattle.session_timer_manager.specs.declared.CheckedSeconds.the-variants as checked
-use Rattle.session_timer_manager.specs.Intervals.{jointMinimum, reduced, negotiatedFrom, negotiated, nonRefresherExpiry, refreshTime, secondsCause, checkedSeconds}
+use lib.Dec.{leb, ltb}
+use borrow.Author.Tests.{ltb-false, le-leb, lt-leb, leb-true, leb-false}
+use Rattle.limits.specs.Outcome.{given}
+use Rattle.session_timer_manager.specs.Intervals.{jointMinimum, reduced, negotiatedFrom, negotiated, nonRefresherExpiry, refreshTime}
 
 -- section 9: a reduced interval is no shorter than the minimum and no longer than the requested one
 reduced-within : (minimum requested : ℕ) (preference : Option ℕ) → minimum ≤ requested → (minimum ≤ reduced minimum requested preference) × (reduced minimum requested preference ≤ requested)
@@ -38,32 +33,14 @@ agreed-within requested local remote preference agreed e = taken-within (jointMi
 pub refresh-in-time : (interval : ℕ) → (refreshTime interval ≤ nonRefresherExpiry interval) × (interval * 2 / 3 ≤ nonRefresherExpiry interval)
 refresh-in-time interval = (omega arith, omega arith)
 
--- ---- the check of seconds
+-- ---- two thirds without a division: i an interval, e what has elapsed
 
-module _ (limits : LimitSet) (expires : ℕ) where
-  -- where there is no cause, the seconds are within both limits
-  pub seconds-within : secondsCause limits expires ≡ none → (limits .minExpires ≤ expires) × (expires ≤ limits .maxExpires)
-  seconds-within e = by (ltb expires (limits .minExpires)) refl (ltb (limits .maxExpires) expires) refl e
-    where
-      by : (t : Bool) → ltb expires (limits .minExpires) ≡ t → (u : Bool) → ltb (limits .maxExpires) expires ≡ u
-          → orElse (causeIf t (SessionExpiresTooSmall (limits .minExpires))) (causeIf u SessionExpiresTooLarge) ≡ none → (limits .minExpires ≤ expires) × (expires ≤ limits .maxExpires)
-      by true p u q e = absurd (let z : _≡_ {A = ℕ} 0 1 = cc in omega arith)
-      by false p true q e = absurd (let z : _≡_ {A = ℕ} 0 1 = cc in omega arith)
-      by false p false q e = (ltb-false _ _ p, ltb-false _ _ q)
+pub thirds-passed : (i e : ℕ) → i ≤ e → leb (i * 2 / 3) e ≡ true
+thirds-passed i e h = le-leb (i * 2 / 3) e (omega (arith, h))
 
-  -- accepted seconds are those that were asked about, and have no cause
-  pub seconds-accepted : {n : ℕ} → secondsFrom (checkedSeconds limits expires) ≡ checked.Accepted n → (secondsCause limits expires ≡ none) × (n ≡ expires)
-  unfolding checkedSeconds
-  seconds-accepted {n} e = by (secondsCause limits expires) e
-    where
-      by : (o : Option Refusal) → secondsFrom (refuseBy o (given expires)) ≡ checked.Accepted n → (o ≡ none) × (n ≡ expires)
-      by none e = (refl, cc)
-      by (some cause) e = absurd (let z : _≡_ {A = ℕ} 0 1 = cc in omega arith)
-
-  pub seconds-refused : {cause : Refusal} → secondsFrom (checkedSeconds limits expires) ≡ checked.Refused cause → secondsCause limits expires ≡ some cause
-  unfolding checkedSeconds
-  seconds-refused {cause} e = by (secondsCause limits expires) e
-    where
-      by : (o : Option Refusal) → secondsFrom (refuseBy o (given expires)) ≡ checked.Refused cause → o ≡ some cause
-      by none e = absurd (let z : _≡_ {A = ℕ} 0 1 = cc in omega arith)
-      by (some own) e = cc
+pub thirds-before : (i e : ℕ) → leb (i * 2) (e * 3 + 2) ≡ leb (i * 2 / 3) e
+thirds-before i e = by (leb (i * 2) (e * 3 + 2)) refl
+  where
+    by : (t : Bool) → leb (i * 2) (e * 3 + 2) ≡ t → t ≡ leb (i * 2 / 3) e
+    by true p = sym (le-leb (i * 2 / 3) e (omega (arith, leb-true (i * 2) (e * 3 + 2) p)))
+    by false p = sym (lt-leb (i * 2 / 3) e (omega (arith, leb-false (i * 2) (e * 3 + 2) p)))

@@ -11,8 +11,6 @@ use Rattle.session_timer_manager.specs.declared.OptionalSeconds.{Optiona
 use Rattle.session_timer_manager.specs.declared.OptionalSeconds.the-variants as expires
 use Rattle.session_timer_manager.specs.declared.Interval.{Interval}
 use Rattle.session_timer_manager.specs.declared.Interval.the-variants as interval
-use Rattle.session_timer_manager.specs.declared.CheckedSeconds.{CheckedSeconds}
-use Rattle.session_timer_manager.specs.declared.CheckedSeconds.the-variants as checked
 use Rattle.session_timer_manager.specs.declared.RefresherRole.{RefresherRole}
 use Rattle.session_timer_manager.specs.declared.RefresherRole.the-variants as role
 
@@ -34,10 +32,6 @@ textIf present text = cond present (some text) none
 abbrev pub intervalFrom : Outcome ℕ → Interval
 intervalFrom (refused cause) = interval.Refused cause
 intervalFrom (given n) = interval.Nanos n
-
-abbrev pub secondsFrom : Outcome ℕ → CheckedSeconds
-secondsFrom (refused cause) = checked.Refused cause
-secondsFrom (given n) = checked.Accepted n
 
 abbrev pub roleFrom : Outcome Bool → RefresherRole
 roleFrom (refused cause) = role.Refused cause

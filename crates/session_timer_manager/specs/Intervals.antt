@@ -11,16 +11,15 @@
 --   a given minimum stands for the 90 s even where it is smaller;
 --   the negotiation has no 90 s: where the peer gives no minimum, the local one alone counts;
 --   the negotiation refuses what is below the larger of both sides' minima, and with that one;
---   `Dialog::needs_refresh` waits for two thirds of the interval, not for the half;
---   an interval that is set, or that creation reads, is at most 86,400 s: the RFC has no such limit.
+--   `Dialog::needs_refresh` waits for two thirds of the interval, not for the half.
+-- The check of an interval that is set, or that creation reads, is in session_seconds/specs/Seconds.antt.
 use Prim.Native.Nat.{ℕ, _-_, _*_, _/_, min, max}
 use mathlib.Core.Bool.{Bool, false}
 use mathlib.Core.Option.{Option, none, some}
 use lib.Dec.{leb, ltb}
 use Rattle.limits.specs.Limits.{LimitSet}
-use Rattle.limits.specs.Outcome.{Outcome, given, causeIf, orElse, refuseBy, refuseIf}
-use Rattle.limits.specs.declared.Refusal.{Refusal}
-use Rattle.limits.specs.declared.Refusal.the-variants.{SessionExpiresTooSmall, SessionExpiresTooLarge}
+use Rattle.limits.specs.Outcome.{Outcome, given, refuseIf}
+use Rattle.limits.specs.declared.Refusal.the-variants.{SessionExpiresTooSmall}
 
 -- seconds as nanoseconds
 abbrev pub seconds : ℕ → ℕ
@@ -73,14 +72,3 @@ refreshTime interval = interval / 2
 abbrev pub refreshDue : Option ℕ → ℕ → Bool
 refreshDue none elapsed = false
 refreshDue (some expires) elapsed = leb (seconds expires * 2 / 3) elapsed
-
--- ---- lib.rs's own validate_session_expires, a step of creation and of set_session_expires
-
--- 13 with the least, then 14; in seconds. The Rust cuts them to 32 bits first, here every number over the most is refused (document 01)
-abbrev pub secondsCause : LimitSet → ℕ → Option Refusal
-secondsCause limits expires =
-    orElse (causeIf (ltb expires (limits .minExpires)) (SessionExpiresTooSmall (limits .minExpires)))
-    (causeIf (ltb (limits .maxExpires) expires) SessionExpiresTooLarge)
-
-unfoldable pub checkedSeconds : LimitSet → ℕ → Outcome ℕ
-checkedSeconds limits expires = refuseBy (secondsCause limits expires) (given expires)

@@ -1,10 +1,10 @@
-// The free functions of session_timer_manager.rs, and of lib.rs `needs_refresh` and the check of an interval, on numbers.
+// The free functions of session_timer_manager.rs, and of lib.rs `needs_refresh`, on numbers.
 // Times are whole nanoseconds where nothing is said of seconds.
 ghost use mathlib.Core.Path.{_≡_};
 ghost use Prim.Native.Nat.{min, max};
 ghost use Rattle.limits.specs.Limits.{rustLimits};
-ghost use Rattle.session_timer_manager.specs.Answers.{timeOf, secondsOf, textIf, intervalFrom, secondsFrom, roleFrom};
-ghost use Rattle.session_timer_manager.specs.Intervals.{minimumOrDefault, validated, jointMinimum, negotiated, nonRefresherExpiry, refreshTime, refreshDue, checkedSeconds};
+ghost use Rattle.session_timer_manager.specs.Answers.{timeOf, secondsOf, textIf, intervalFrom, roleFrom};
+ghost use Rattle.session_timer_manager.specs.Intervals.{minimumOrDefault, validated, jointMinimum, negotiated, nonRefresherExpiry, refreshTime, refreshDue};
 ghost use Rattle.session_timer_manager.specs.Refresher.{weRefresh, refresherRole};
 use limits::Limits;
 use limits::Refusal;
@@ -29,12 +29,6 @@ pub enum OptionalSeconds {
 // The interval that holds, or why there is none.
 pub enum Interval {
     Nanos(u64),
-    Refused(Refusal),
-}
-
-// An interval that is within the limits, or why it is not.
-pub enum CheckedSeconds {
-    Accepted(u32),
     Refused(Refusal),
 }
 
@@ -109,23 +103,12 @@ pub fn needs_refresh(expires: OptionalSeconds, elapsed: u64) -> bool
     let OptionalSeconds::Of(seconds) = expires else {
         return false;
     };
-    let due = (seconds as u64) * NANOS_PER_SECOND * 2 / 3;
-    due <= elapsed
-}
-
-// lib.rs's own `validate_session_expires`, a step of creation and of `set_session_expires`: the seconds, or a refusal
-// where they are under 90 or over 86,400.
-pub fn check_expires_seconds(expires: u64) -> CheckedSeconds
-    ensures { λ r. ⌜ r ≡ secondsFrom (checkedSeconds rustLimits expires) ⌝ }
-{
-    let least = Limits::MIN_SESSION_EXPIRES as u64;
-    if expires < least {
-        return CheckedSeconds::Refused(Refusal::SessionExpiresTooSmall(least));
+    let interval = (seconds as u64) * NANOS_PER_SECOND;
+    if interval <= elapsed {
+        return true;
     }
-    if (Limits::MAX_SESSION_EXPIRES as u64) < expires {
-        return CheckedSeconds::Refused(Refusal::SessionExpiresTooLarge);
-    }
-    CheckedSeconds::Accepted(expires as u32)
+    // Nothing is divided: two thirds, rounded down, are at most n exactly if twice the interval is at most 3 n + 2.
+    interval * 2 <= elapsed * 3 + 2
 }
 
 // The given minimum, or else 90 s.

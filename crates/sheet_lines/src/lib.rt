@@ -16,7 +16,7 @@ use prack_headers::NumberAnswer;
 use prack_headers::Reliable;
 use rack::RAckAnswer;
 use route_set::Count;
-use session_timer_manager::CheckedSeconds;
+use session_seconds::CheckedSeconds;
 use session_timer_manager::Interval;
 use session_timer_manager::RefresherRole;
 use text::Lookup;

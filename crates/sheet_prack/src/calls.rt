@@ -159,8 +159,8 @@ fn show_waiting(out: &[u8]) {
     show_decimal((out.len() / 6) as u64);
     let mut at = 0;
     while out.len() - at >= 6 {
-        tell(b" [", image::read_four(out, at) as u64);
-        tell(b" ", image::read_two(out, at + 4) as u64);
+        tell(b" [", codec::read_four(out, at) as u64);
+        tell(b" ", codec::read_two(out, at + 4) as u64);
         show(b"]");
         at += 6;
     }

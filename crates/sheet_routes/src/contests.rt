@@ -1,7 +1,7 @@
 // Who sets the interval: what a callee can force, for offers on both sides of every bound. Times are seconds.
 use interval_contest::ContestAnswer;
 use interval_contest::Forced;
-use session_timer_manager::CheckedSeconds;
+use session_seconds::CheckedSeconds;
 use sheet_lines::end_line;
 use sheet_lines::show;
 use sheet_lines::show_checked;

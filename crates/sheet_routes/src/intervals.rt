@@ -140,7 +140,7 @@ fn checked(place: &[u8], interval: u64) {
     show(b"  set ");
     show_seconds(interval);
     show(b": ");
-    show_checked(session_timer_manager::check_expires_seconds(interval));
+    show_checked(session_seconds::check_expires_seconds(interval));
     end_line();
 }
 

@@ -12,3 +12,4 @@ pub mod stores;
 pub mod timers;
 pub mod uris;
 pub mod values;
+pub mod verdicts;

@@ -8,7 +8,7 @@ use Rattle.text.specs.declared.Span.{Span}
 use Rattle.image.specs.Places.{idSpan, idEnd, idsPlaces}
 use Rattle.image.specs.declared.sections.IdsAt.{IdsAt}
 use Rattle.record.specs.Record.{Ids}
-use Rattle.distinct.specs.Keys.{idBytes}
+use Rattle.record_walk.specs.Walk.{idBytes}
 use Rattle.store.specs.Identifiers.{TextTo}
 
 -- an empty text has no bytes

@@ -6,14 +6,13 @@ use mathlib.Core.List.{List, [], _∷_, _++_, append-assoc, append-nil}
 use mathlib.Core.Option.{Option, none, some, Option·some-injective}
 use lib.ListN.{length, drop, set, length-append, length-drop, drop-of-length-le}
 use lib.Seq.{take-nil}
-use Rattle.record.specs.Codec.{Reading, writeAll}
+use Rattle.codec.specs.Codec.{Reading, writeAll}
 use Rattle.record.specs.Record.{Record, image}
 use Rattle.record.specs.Store.{encodeAll, recordBefore, recordsIn, placesFrom}
-use Rattle.record.proofs.CodecLaws.{Bytes}
+use Rattle.codec.proofs.CodecLaws.{Bytes, bytes-drop}
 use Rattle.record.proofs.WellFormedLaws.{image-back}
 use Rattle.image.specs.declared.RecordAt.{RecordAt}
 use Rattle.image.proofs.AnswerLaws.{RecordGot}
-use Rattle.record.proofs.CodecLaws.{bytes-drop}
 use Rattle.store.specs.Reading.{storeFrom, wholeRecords, Tabled}
 use Rattle.store.specs.declared.StoreReading.the-variants as answer
 use Rattle.store.proofs.TableLaws.{bytes-more, Holds, holds-more, holds-full, holds-all}

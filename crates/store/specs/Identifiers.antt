@@ -5,11 +5,11 @@ use mathlib.Core.List.{List}
 use mathlib.Core.Option.{some}
 use lib.ListN.{length, drop}
 use Rattle.text.specs.declared.Span.{Span}
-use Rattle.record.specs.Codec.{Reading}
+use Rattle.codec.specs.Codec.{Reading}
 use Rattle.record.specs.Record.{Record, image}
 use Rattle.image.specs.Places.{idSpan, idsPlaces, idsOf}
 use Rattle.image.specs.declared.sections.IdsAt.{IdsAt}
-use Rattle.distinct.specs.Keys.{idBytes}
+use Rattle.record_walk.specs.Walk.{idBytes}
 
 -- these are the places of the identifier of the record that is read at a place
 abbrev pub IdsRead : List ℕ → ℕ → IdsAt → Type 0

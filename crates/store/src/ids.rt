@@ -1,10 +1,10 @@
 // Where the identifier of a record lies, of bytes that are known to be whole records: by the lengths alone, nothing is checked again.
-use distinct::past;
-use distinct::two;
 use image::IdsAt;
+use record_walk::past;
+use record_walk::two;
 use text::Span;
 ghost use Prim.Native.Nat.{_≤_};
-ghost use Rattle.distinct.specs.Keys.{At};
+ghost use Rattle.record_walk.specs.Walk.{At};
 ghost use Rattle.store.specs.Identifiers.{IdsRead, TextTo};
 
 // The parts of the identifier of the record at a place.

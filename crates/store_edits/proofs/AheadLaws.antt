@@ -6,9 +6,9 @@ use mathlib.Core.List.{List, [], _∷_, _++_, append-assoc, append-nil}
 use mathlib.Core.Option.{some}
 use lib.ListN.{length, take, drop, length-append, length-drop, take-append-drop}
 use lib.Seq.{length-take-le, drop-append-seam, drop-drop}
-use Rattle.record.specs.Codec.{writeAll}
+use Rattle.codec.specs.Codec.{writeAll}
 use Rattle.record.specs.Record.{Record, WellFormed, image}
-use Rattle.record.proofs.CodecLaws.{Bytes, bytes-take}
+use Rattle.codec.proofs.CodecLaws.{Bytes, bytes-take}
 use Rattle.record.proofs.StoreLaws.{EachFormed, decoded}
 use Rattle.record.proofs.WellFormedLaws.{image-round}
 use Rattle.image.specs.Places.{recordPlaces}

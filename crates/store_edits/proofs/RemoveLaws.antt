@@ -10,31 +10,32 @@ use lib.Seq.{length-take-le}
 use lib.Dec.{ltb}
 use borrow.Author.Tests.{ltb-true, ltb-false}
 use Rattle.limits.specs.Limits.{LimitSet}
-use Rattle.limits.specs.Outcome.{Outcome, refused, given, refuseIf, andThen, orRefuse}
+use Rattle.limits.specs.Outcome.{Outcome, refused, given, refuseIf, orRefuse}
 use Rattle.limits.specs.declared.Refusal.{Refusal}
 use Rattle.limits.specs.declared.Refusal.the-variants.{BadStore, NotFound}
 use Rattle.output.specs.declared.Written.the-variants as written
 use Rattle.edit.specs.Edit.{over, spliced}
-use Rattle.distinct.proofs.Sames.{both}
-use Rattle.record.specs.Codec.{writeAll}
+use Rattle.text.proofs.Sames.{both}
+use Rattle.codec.specs.Codec.{writeAll}
 use Rattle.record.specs.Record.{Record, image}
 use Rattle.record.specs.Store.{sameId, lacks, distinct, decodeAll}
-use Rattle.record.proofs.CodecLaws.{Bytes, bytes-take}
+use Rattle.codec.proofs.CodecLaws.{Bytes, bytes-take}
 use Rattle.record.proofs.StoreLaws.{EachFormed, decoded}
 use Rattle.store.specs.Counting.{recordsHeld, countAnswer}
 use Rattle.store.specs.declared.Held.{Held}
 use Rattle.store.specs.declared.Held.the-variants as held
 use Rattle.dialog_id.specs.Ident.{Ident, ident, sameIdent, identCause}
-use Rattle.book.specs.Calls.{Call, read, remove, Value, noValue, imageAt}
-use Rattle.book.specs.Book.{Book, contentsOf, recordsImage, recordsSize, identOf, isOf, find, keep, others, only, Taken, firstPlace, placeOf, reply, argumentCause, judge}
+use Rattle.book.specs.Calls.{Call, read, Value, noValue, imageAt}
+use Rattle.book.specs.Book.{Book, contentsOf, recordsImage, recordsSize, identOf, isOf, find, keep, others, only, Taken, firstPlace, placeOf, reply, argumentCause}
 use Rattle.book.specs.Store.{Left, run}
 use Rattle.book.proofs.SentenceLaws.{kept-size}
 use Rattle.book.proofs.SpliceLaws.{Stands, images-append, removed-bytes}
 use Rattle.book.proofs.IdentLaws.{ident-is}
+use Rattle.book.proofs.JudgeLaws.{remove-causes, remove-unheld, remove-held}
 use Rattle.book.proofs.WayLaws.{keptWith, way-arguments, way-over, way-unread, way-judged, way-taken}
 use Rattle.dialog_manager.specs.Lookups.{getting}
 use Rattle.dialog_manager.proofs.LookupLaws.{Kept, kept, arguments-refuse, store-refuses, replies, get-cause}
-use Rattle.book.specs.Returned.{writtenIn}
+use Rattle.dialog_manager.specs.Answers.{writtenIn}
 use Rattle.store_edits.specs.Edits.{removing}
 
 -- ---- the store as it was read
@@ -152,18 +153,6 @@ spliced-length at n new t h = omega (arith, h, length-append (take at t) (new ++
 abbrev taken : Ident → Taken
 taken i = record { change = only (others i); value = noValue }
 
-judged-none : (L : LimitSet) (m : ℕ) (i : Ident) (b : Book) → find i b ≡ none → judge L (remove m i) b ≡ refused NotFound
-unfolding judge
-judged-none L m i b e = ap (λ (o : Option Record). andThen (orRefuse NotFound o) (λ r. given (taken i))) e
-
-judged-some : (L : LimitSet) (m : ℕ) (i : Ident) (b : Book) (r : Record) → find i b ≡ some r → judge L (remove m i) b ≡ given (taken i)
-unfolding judge
-judged-some L m i b r e = ap (λ (o : Option Record). andThen (orRefuse NotFound o) (λ r. given (taken i))) e
-
-cause-same : (L : LimitSet) (m : ℕ) (i : Ident) → argumentCause L (remove m i) ≡ identCause L i
-unfolding argumentCause
-cause-same L m i = refl
-
 reply-is : (c l r : List ℕ) (b : Book) → reply (getting c l r) b ≡ orRefuse NotFound (placeOf (isOf (ident c l r)) firstPlace b)
 unfolding reply
 reply-is c l r b = refl
@@ -192,16 +181,16 @@ module _ (L : LimitSet) (m : ℕ) (c l r : List ℕ) (s : List ℕ) (used : ℕ)
       on k p none f =
           let z : NotFound ≡ cause = same NotFound (replies L m (getting c l r) s used hb (get-cause L c l r ∙ p) k (refused NotFound) (sym (reply-is c l r (k .contents .records) ∙ ap (orRefuse NotFound) f))) in
           subst (λ (y : Refusal). run L gone s used ≡ keptWith L gone s used y) z
-          (way-judged L gone s used (cause-same L m (ident c l r) ∙ p) (k .within) (k .contents) (k .read) NotFound (judged-none L m (ident c l r) (k .contents .records) (absent (ident c l r) firstPlace (k .contents .records) f)))
+          (way-judged L gone s used (remove-causes L m (ident c l r) ∙ p) (k .within) (k .contents) (k .read) NotFound (remove-unheld L m (ident c l r) (k .contents .records) (absent (ident c l r) firstPlace (k .contents .records) f)))
       on k p (some v) f =
           let z : given v ≡ refused cause = replies L m (getting c l r) s used hb (get-cause L c l r ∙ p) k (given v) (sym (reply-is c l r (k .contents .records) ∙ ap (orRefuse NotFound) f)) ∙ sym e in
           absurd (let y : _≡_ {A = ℕ} 0 1 = cc in omega arith)
 
       by : (o : Option Refusal) → identCause L (ident c l r) ≡ o → (a : Held) → countAnswer (recordsHeld s used) ≡ a → run L gone s used ≡ keptWith L gone s used cause
-      by (some x) p a w = way-arguments L gone s used cause (cause-same L m (ident c l r) ∙ p ∙ ap some (same x (arguments-refuse L m (getting c l r) s used hb (get-cause L c l r ∙ p))))
+      by (some x) p a w = way-arguments L gone s used cause (remove-causes L m (ident c l r) ∙ p ∙ ap some (same x (arguments-refuse L m (getting c l r) s used hb (get-cause L c l r ∙ p))))
       by none p (held.Refused x) w =
           let z : BadStore ≡ cause = same BadStore (store-refuses L m (getting c l r) s used hb (get-cause L c l r ∙ p) w) in
-          subst (λ (y : Refusal). run L gone s used ≡ keptWith L gone s used y) z (unheld L gone s used (cause-same L m (ident c l r) ∙ p) w)
+          subst (λ (y : Refusal). run L gone s used ≡ keptWith L gone s used y) z (unheld L gone s used (remove-causes L m (ident c l r) ∙ p) w)
       by none p (held.Records x) w = let k = kept s used w in on k p (placeOf (isOf (ident c l r)) firstPlace (k .contents .records)) refl
 
   module _ (at n : ℕ) (e : given (imageAt at n) ≡ looked) where
@@ -215,7 +204,7 @@ module _ (L : LimitSet) (m : ℕ) (c l r : List ℕ) (s : List ℕ) (used : ℕ)
         subst (λ (j : Ident). find j (d .there .back) ≡ none) (d .there .ident-is) (behind (d .there .front) (d .was) (d .there .back) (ap distinct (sym (d .there .split)) ∙ g .one-each)) in
         let small : recordsSize (keep (others i) b) ≤ recordsSize b = kept-size (others i) b in
         let q : run L gone s used ≡ record { bytes = over (recordsImage (keep (others i) b)) s; used = recordsSize (keep (others i) b); answer = given noValue } =
-        way-taken L gone s used (cause-same L m i ∙ p) (k .within) (k .contents) (k .read) (taken i) (judged-some L m i b (d .was) (d .found)) (omega (arith, small, g .long, k .within)) in
+        way-taken L gone s used (remove-causes L m i ∙ p) (k .within) (k .contents) (k .read) (taken i) (remove-held L m i b (d .was) (d .found)) (omega (arith, small, g .long, k .within)) in
         let x : recordsImage (keep (others i) b) ≡ spliced (recordsSize (d .there .front)) (length (image .write (d .was))) [] (recordsImage b) = removed-bytes i (d .was) b (d .there) none-behind in
         let at-is : at ≡ recordsSize (d .there .front) = omega (arith, d .place-is) in
         let y : spliced at n [] (take used s) ≡ recordsImage (keep (others i) b) =

@@ -6,13 +6,13 @@ use mathlib.Core.Bool.{Bool, true, false, cond}
 use mathlib.Core.List.{List, _++_}
 use lib.ListN.{length, getD, length-append}
 use Rattle.record.specs.Record.{State, early, confirmed, terminated, StateByte, stateNumber, stateByteNumber, fieldsOf}
-use Rattle.record.proofs.CodecLaws.{Bytes}
+use Rattle.codec.proofs.CodecLaws.{Bytes}
 use Rattle.image.specs.Places.{recordPlaces}
 use Rattle.image.specs.declared.sections.IdsAt.{IdsAt}
 use Rattle.image_edit.proofs.ImageCuts.{ids-end}
-use Rattle.distinct.specs.Keys.{At, idBytes}
-use Rattle.distinct.proofs.Parts.{lies-length, lies-getD}
-use Rattle.distinct.proofs.Images.{ids, after, third-end, after-at}
+use Rattle.record_walk.specs.Walk.{At, idBytes}
+use Rattle.record_walk.proofs.Parts.{lies-length, lies-getD}
+use Rattle.record_walk.proofs.Images.{ids, after, third-end, after-at}
 use Rattle.store.specs.Identifiers.{IdsRead}
 use Rattle.book.specs.Book.{isTerminated}
 use Rattle.store_edits.specs.Edits.{StayingAt}

@@ -4,7 +4,6 @@ use native.Mathlib.Omega.{arith}
 use mathlib.Core.Path.{_≡_, refl, sym, ap, ap₂, subst, _∙_}
 use mathlib.Core.Bool.{Bool, true, false, cond, not}
 use mathlib.Core.List.{List, [], _∷_, _++_, append-assoc, append-nil}
-use mathlib.Core.Option.{none}
 use lib.ListN.{length, take, drop, length-append, length-drop}
 use lib.Seq.{take-append-seam, drop-append-add, drop-drop}
 use Rattle.limits.specs.Limits.{LimitSet}
@@ -13,19 +12,19 @@ use Rattle.limits.specs.declared.Refusal.{Refusal}
 use Rattle.limits.specs.declared.Refusal.the-variants.{BadStore}
 use Rattle.edit.specs.Edit.{over, putAt}
 use Rattle.output.proofs.OutputLaws.{put-next}
-use Rattle.record.specs.Codec.{writeAll}
+use Rattle.codec.specs.Codec.{writeAll}
 use Rattle.record.specs.Record.{Record, image}
-use Rattle.record.proofs.CodecLaws.{Bytes}
+use Rattle.codec.proofs.CodecLaws.{Bytes}
 use Rattle.image.specs.Places.{recordPlaces}
-use Rattle.distinct.specs.Keys.{At}
-use Rattle.distinct.specs.Ends.{endAt}
+use Rattle.record_walk.specs.Walk.{At, endAt}
 use Rattle.store.specs.Counting.{recordsHeld, countAnswer}
 use Rattle.store.specs.declared.Held.the-variants as held
 use Rattle.book.specs.Calls.{noValue}
 use Rattle.record.specs.Store.{decodeAll}
-use Rattle.book.specs.Book.{Book, recordsImage, isTerminated, keep, living, only, Taken, argumentCause, judge}
+use Rattle.book.specs.Book.{Book, recordsImage, isTerminated, keep, living, only, Taken}
 use Rattle.book.specs.Store.{run}
 use Rattle.book.proofs.SentenceLaws.{kept-size}
+use Rattle.book.proofs.JudgeLaws.{sweep-clear, sweep-judged}
 use Rattle.book.proofs.WayLaws.{keptWith, way-taken}
 use Rattle.dialog_manager.specs.Search.{Stored}
 use Rattle.dialog_manager.proofs.LookupLaws.{Kept}
@@ -149,24 +148,16 @@ module _ (s : List ℕ) (used : ℕ) (bytes : List ℕ) (at to : ℕ) (g : Closi
 
 -- ---- the whole call
 
-no-cause : (L : LimitSet) (n : ℕ) → argumentCause L (sweeping n) ≡ none
-unfolding argumentCause
-no-cause L n = refl
-
 abbrev taken : Taken
 taken = record { change = only living; value = noValue }
 
-judged : (L : LimitSet) (n : ℕ) (b : Book) → judge L (sweeping n) b ≡ given taken
-unfolding judge
-judged L n b = refl
-
 pub unswept : (L : LimitSet) (n : ℕ) (s : List ℕ) (used : ℕ) {cause : Refusal} → countAnswer (recordsHeld s used) ≡ held.Refused cause
     → run L (sweeping n) s used ≡ keptWith L (sweeping n) s used BadStore
-unswept L n s used e = unheld L (sweeping n) s used (no-cause L n) e
+unswept L n s used e = unheld L (sweeping n) s used (sweep-clear L n) e
 
 pub swept : (L : LimitSet) (n : ℕ) (s : List ℕ) (used : ℕ) → Bytes s → Kept s used
     → run L (sweeping n) s used ≡ record { bytes = over (livingIn (decodeAll (take used s))) s; used = length (livingIn (decodeAll (take used s))); answer = given noValue }
 swept L n s used hb k =
     let g = images s used hb k in
-    way-taken L (sweeping n) s used (no-cause L n) (k .within) (k .contents) (k .read) taken (judged L n (k .contents .records)) (omega (arith, kept-size living (k .contents .records), g .long, k .within))
+    way-taken L (sweeping n) s used (sweep-clear L n) (k .within) (k .contents) (k .read) taken (sweep-judged L n (k .contents .records)) (omega (arith, kept-size living (k .contents .records), g .long, k .within))
     ∙ ap (λ (t : List ℕ). record { bytes = over t s; used = length t; answer = given noValue }) (sym (ap livingIn (k .are)))

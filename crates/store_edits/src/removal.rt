@@ -5,7 +5,7 @@ ghost use mathlib.Core.Path.{_≡_};
 ghost use lib.ListN.{length};
 ghost use Rattle.limits.specs.Limits.{rustLimits};
 ghost use Rattle.book.specs.Store.{run};
-ghost use Rattle.book.specs.Returned.{writtenIn};
+ghost use Rattle.dialog_manager.specs.Answers.{writtenIn};
 ghost use Rattle.store_edits.specs.Edits.{removing};
 
 // DialogManager::remove: 1, 3, 15. The bytes behind the record move over it.

@@ -1,7 +1,7 @@
 // All Terminated records taken out of a store.
-use distinct::record_end;
 use limits::Refusal;
 use output::Written;
+use record_walk::record_end;
 use store::Held;
 use store::ids_at;
 ghost use mathlib.Core.Path.{_≡_};
@@ -9,10 +9,10 @@ ghost use Prim.Native.Nat.{_≤_};
 ghost use lib.ListN.{length, take};
 ghost use Rattle.limits.specs.Limits.{rustLimits};
 ghost use Rattle.edit.specs.Edit.{over};
-ghost use Rattle.distinct.specs.Keys.{At};
+ghost use Rattle.record_walk.specs.Walk.{At};
 ghost use Rattle.record.specs.Store.{decodeAll};
 ghost use Rattle.book.specs.Store.{run};
-ghost use Rattle.book.specs.Returned.{writtenIn};
+ghost use Rattle.dialog_manager.specs.Answers.{writtenIn};
 ghost use Rattle.dialog_manager.specs.Search.{Stored};
 ghost use Rattle.store_edits.specs.Edits.{sweeping, livingIn, StayingAt};
 

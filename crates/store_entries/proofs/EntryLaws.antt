@@ -17,9 +17,9 @@ use Rattle.edit.specs.Edit.{over, spliced}
 use Rattle.output.specs.Output.{fitted, leaves, writtenFrom}
 use Rattle.output.specs.declared.Written.{Written}
 use Rattle.output.specs.declared.Written.the-variants as written
-use Rattle.record.specs.Codec.{writeAll}
+use Rattle.codec.specs.Codec.{writeAll}
 use Rattle.record.specs.Record.{Record, image}
-use Rattle.record.proofs.CodecLaws.{Bytes, bytes-take}
+use Rattle.codec.proofs.CodecLaws.{Bytes, bytes-take}
 use Rattle.record.proofs.StoreLaws.{decoded}
 use Rattle.image.specs.Places.{recordPlaces}
 use Rattle.image.specs.declared.RecordAt.{RecordAt}
@@ -34,10 +34,11 @@ use Rattle.book.proofs.IdentLaws.{id-cases, same-ident, other-ident}
 use Rattle.book.proofs.BookLaws.{find-here, find-there}
 use Rattle.book.proofs.UpdateLaws.{revises}
 use Rattle.book.proofs.SpliceLaws.{Stands, amend-bytes}
+use Rattle.book.proofs.JudgeLaws.{update-causes, update-unheld, update-held}
 use Rattle.book.proofs.WayLaws.{keptWith, way-arguments, way-over, way-unread, way-judged, way-full, way-taken}
 use Rattle.dialog_manager.specs.Search.{Spot, first}
 use Rattle.dialog_manager.proofs.SearchLaws.{Reads, spot-reads}
-use Rattle.book.specs.Returned.{writtenIn}
+use Rattle.dialog_manager.specs.Answers.{writtenIn}
 use Rattle.store_entries.specs.Entries.{updating, usedAfter, spotIn, spotNamed, standingOf}
 use Rattle.store_entries.specs.declared.Standing.the-variants as standing
 
@@ -155,21 +156,11 @@ module _ (L : LimitSet) (p : Permitted L) (u : Update) (bytes : List ℕ) (used 
   refused-done cause e = left-done (refused cause) noValue e
 
   pub arguments-done : {cause : Refusal} → updateCause L u ≡ some cause → Done (written.Refused cause) bytes
-  unfolding argumentCause
-  arguments-done {cause} e = refused-done cause (way-arguments L the-call bytes used cause e)
+  arguments-done {cause} e = refused-done cause (way-arguments L the-call bytes used cause (update-causes L (length bytes) u ∙ e))
 
   module _ (a : updateCause L u ≡ none) where
     clear : argumentCause L the-call ≡ none
-    unfolding argumentCause
-    clear = a
-
-    judged-none : (b : Book) → findNamed (nameOf u) b ≡ none → judge L the-call b ≡ refused NotFound
-    unfolding judge
-    judged-none b e = ap (λ (o : Option Record). andThen (orRefuse NotFound o) (λ r. andThen (revised L u r) (λ now. given (record { change = alter now; value = toldBy u now })))) e
-
-    judged : (b : Book) (r : Record) → findNamed (nameOf u) b ≡ some r → judge L the-call b ≡ andThen (revised L u r) (λ now. given (record { change = alter now; value = toldBy u now }))
-    unfolding judge
-    judged b r e = ap (λ (o : Option Record). andThen (orRefuse NotFound o) (λ r. andThen (revised L u r) (λ now. given (record { change = alter now; value = toldBy u now })))) e
+    clear = update-causes L (length bytes) u ∙ a
 
     -- no identifier is named: 3, 15
     pub unnamed : nameOf u ≡ none → {cause : Refusal} → spotNamed none bytes used ≡ refused cause → Done (written.Refused cause) bytes
@@ -184,7 +175,7 @@ module _ (L : LimitSet) (p : Permitted L) (u : Update) (bytes : List ℕ) (used 
         by false q none r e = called e (refused-done BadStore (way-unread L the-call bytes used clear (ltb-false (length bytes) used q) (ap contentsOf r)))
         by false q (some b) r e =
             called e (refused-done NotFound (way-judged L the-call bytes used clear (ltb-false (length bytes) used q) (record { records = b }) (ap contentsOf r) NotFound
-            (judged-none b (ap (λ (o : Option Ident). findNamed o b) named))))
+            (update-unheld L (length bytes) u b (ap (λ (o : Option Ident). findNamed o b) named))))
 
     module _ (i : Ident) (named : nameOf u ≡ some i) where
       pub turned : {cause : Refusal} → spotIn i bytes used ≡ refused cause → Done (written.Refused cause) bytes
@@ -197,7 +188,7 @@ module _ (L : LimitSet) (p : Permitted L) (u : Update) (bytes : List ℕ) (used 
           last : (b : Book) → ltb (length bytes) used ≡ false → decodeAll (take used bytes) ≡ some b → (o : Option Spot) → first (isOf i) firstPlace b ≡ o → orRefuse NotFound o ≡ refused cause → Done (written.Refused cause) bytes
           last b t r none q e =
               named-as e (refused-done NotFound (way-judged L the-call bytes used clear (ltb-false (length bytes) used t) (record { records = b }) (ap contentsOf r) NotFound
-              (judged-none b (ap (λ (o : Option Ident). findNamed o b) named ∙ first-none i firstPlace b q))))
+              (update-unheld L (length bytes) u b (ap (λ (o : Option Ident). findNamed o b) named ∙ first-none i firstPlace b q))))
           last b t r (some z) q e = absurd (let y : _≡_ {A = ℕ} 0 1 = cc in omega arith)
 
           by : (t : Bool) → ltb (length bytes) used ≡ t → (o : Option Book) → decodeAll (take used bytes) ≡ o
@@ -238,7 +229,7 @@ module _ (L : LimitSet) (p : Permitted L) (u : Update) (bytes : List ℕ) (used 
         taken now e = by (ltb (length bytes) (recordsSize (amend now (m .records)))) refl
           where
             j : judge L the-call (m .records) ≡ given (record { change = alter now; value = toldBy u now })
-            j = judged (m .records) (x .value) found ∙ ap (λ (o : Outcome Record). andThen o (λ y. given (record { change = alter y; value = toldBy u y }))) e
+            j = update-held L (length bytes) u (m .records) (x .value) found ∙ ap (λ (o : Outcome Record). andThen o (λ y. given (record { change = alter y; value = toldBy u y }))) e
 
             by : (f : Bool) → ltb (length bytes) (recordsSize (amend now (m .records))) ≡ f → updating L u bytes used ≡ leftBy (refuseBy (causeIf f NoRoom) (given (recordsImage (amend now (m .records))))) (toldBy u now)
             by true f = way-full L the-call bytes used clear (m .within) (record { records = m .records }) (ap contentsOf (m .are)) (record { change = alter now; value = toldBy u now }) j (ltb-true (length bytes) (recordsSize (amend now (m .records))) f)
@@ -252,7 +243,7 @@ module _ (L : LimitSet) (p : Permitted L) (u : Update) (bytes : List ℕ) (used 
                 → updating L u bytes used ≡ leftBy (andThen o (λ v. fitted (length bytes) (spliced (x .place) (length (image .write (x .value))) (image .write v) (take used bytes)))) (told o)
             by (refused cause) e =
                 way-judged L the-call bytes used clear (m .within) (record { records = m .records }) (ap contentsOf (m .are)) cause
-                (judged (m .records) (x .value) found ∙ ap (λ (o : Outcome Record). andThen o (λ y. given (record { change = alter y; value = toldBy u y }))) e)
+                (update-held L (length bytes) u (m .records) (x .value) found ∙ ap (λ (o : Outcome Record). andThen o (λ y. given (record { change = alter y; value = toldBy u y }))) e)
             by (given now) e = subst (λ (l : List ℕ). updating L u bytes used ≡ leftBy (fitted (length bytes) l) (toldBy u now)) (sym (amended now e)) (taken now e)
 
       -- what is left where a record was found

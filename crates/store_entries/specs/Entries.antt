@@ -17,10 +17,11 @@ use Rattle.image_edit.specs.Changes.{readAt}
 use Rattle.dialog_changes.specs.declared.Raised.{Raised}
 use Rattle.dialog_changes.specs.declared.Raised.the-variants as raised
 use Rattle.dialog_id.specs.Ident.{Ident, ident}
-use Rattle.book.specs.Calls.{Update, request, response, terminate, localNumber, interval, update}
+use Rattle.book.specs.Calls.{Update, request, response, terminate, localNumber, interval, update, Answer}
 use Rattle.record.specs.Store.{decodeAll}
 use Rattle.book.specs.Book.{isOf, firstPlace}
 use Rattle.book.specs.Store.{Left, run}
+use Rattle.book.specs.Returned.{numberAfter}
 use Rattle.dialog_manager.specs.Search.{Spot, first}
 use Rattle.store_entries.specs.declared.Standing.{Standing}
 use Rattle.store_entries.specs.declared.Standing.the-variants as standing
@@ -43,6 +44,14 @@ raising L callId localTag remoteTag bytes used = updating L (localNumber (ident 
 
 abbrev pub requesting : LimitSet → List ℕ → List ℕ → List ℕ → ℕ → Left
 requesting L method block bytes used = updating L (request method block) bytes used
+
+-- the next local number and the used length, or the cause
+abbrev pub raisedBy : ℕ → Answer → Raised
+raisedBy n (refused cause) = raised.Refused cause
+raisedBy n (given v) = raised.To (numberAfter (given v) 0) n
+
+abbrev pub raisedIn : Left → Raised
+raisedIn l = raisedBy (l .used) (l .answer)
 
 -- the used length after the call
 abbrev pub usedAfter : Written → ℕ → ℕ

@@ -1,7 +1,7 @@
 // What the calls that change one held record have in common: what they leave and answer, as definitions with their laws (specs/ and proofs/), and
 // where the record of an identifier stands in a lent store.
 use dialog_manager::Found;
-use dialog_manager::search;
+use dialog_manager::search_id;
 use image::RecordAt;
 use limits::Refusal;
 use store::Held;
@@ -29,7 +29,7 @@ pub fn locate(
     let Held::Records(_) = store::count(bytes, used) else {
         return Standing::Refused(Refusal::BadStore);
     };
-    let Found::At(at, r) = search(&bytes[..used], true, call_id, local_tag, remote_tag) else {
+    let Found::At(at, r) = search_id(&bytes[..used], call_id, local_tag, remote_tag) else {
         return Standing::Refused(Refusal::NotFound);
     };
     Standing::At(at, r)

@@ -14,17 +14,16 @@ use Rattle.limits.specs.declared.Refusal.the-variants.{BadStore, NoRoom}
 use Rattle.text.specs.declared.Span.{Span}
 use Rattle.edit.specs.Edit.{over, putAt}
 use Rattle.output.proofs.OutputLaws.{put-next}
-use Rattle.record.specs.Codec.{Reading, text, writeAll}
+use Rattle.codec.specs.Codec.{Reading, text, writeAll}
 use Rattle.record.specs.Record.{Record, image}
-use Rattle.record.proofs.CodecLaws.{Bytes, bytes-drop}
+use Rattle.codec.proofs.CodecLaws.{Bytes, bytes-drop}
 use Rattle.record.proofs.StoreLaws.{EachFormed, decoded}
 use Rattle.record.proofs.WellFormedLaws.{image-round}
 use Rattle.image.specs.Places.{recordPlaces, idsOf}
 use Rattle.image.specs.declared.sections.IdsAt.{IdsAt}
-use Rattle.image_writer.proofs.FieldLaws.{text-size}
+use Rattle.codec.proofs.SizeLaws.{text-size}
 use Rattle.image_writer.proofs.LieLaws.{Lie, record-lies}
-use Rattle.distinct.specs.Keys.{At}
-use Rattle.distinct.specs.Ends.{endAt}
+use Rattle.record_walk.specs.Walk.{At, endAt}
 use Rattle.store.specs.Counting.{recordsHeld, countAnswer}
 use Rattle.store.specs.Identifiers.{IdsRead}
 use Rattle.store.specs.declared.Held.the-variants as held

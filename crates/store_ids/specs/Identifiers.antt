@@ -1,10 +1,10 @@
--- Steps of the code: the parts of what `all_ids` writes. What it answers is `idsWritten` (book/specs/Returned.antt) of `run`. Document 01, "Turned back": 3, and
+-- Steps of the code: the parts of what `all_ids` writes. What it answers is `idsWritten` (dialog_manager/specs/Answers.antt) of `run`. Document 01, "Turned back": 3, and
 -- 18 where the result is larger than its lent bytes; "The book of demand 3": a reading changes nothing. What is written is `reply` of `allIds`
 -- (book/specs/Book.antt): three texts with two length bytes each, in store order, an empty one as 0 0.
 use Prim.Native.Nat.{ℕ, _+_, _<_}
 use mathlib.Core.List.{List, [], _++_}
 use mathlib.Core.Option.{Option, none, some}
-use Rattle.record.specs.Codec.{text}
+use Rattle.codec.specs.Codec.{text}
 use Rattle.image.specs.declared.sections.IdsAt.{IdsAt}
 use Rattle.text.specs.Spans.{partIn}
 use Rattle.book.specs.Book.{Book, identifiersOf}

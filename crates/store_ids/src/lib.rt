@@ -1,8 +1,8 @@
 // DialogManager::all_ids: the identifiers of all records of a lent store, written to lent output.
-use distinct::record_end;
 use image::IdsAt;
 use limits::Refusal;
 use output::Written;
+use record_walk::record_end;
 use store::Held;
 use store::ids_at;
 use text::Span;
@@ -11,12 +11,12 @@ ghost use Prim.Native.Nat.{_+_, _≤_, _<_};
 ghost use lib.ListN.{length};
 ghost use Rattle.limits.specs.Limits.{rustLimits};
 ghost use Rattle.edit.specs.Edit.{over, putAt};
-ghost use Rattle.record.specs.Codec.{text};
+ghost use Rattle.codec.specs.Codec.{text};
 ghost use Rattle.text.specs.Spans.{partIn};
 ghost use Rattle.book.specs.Calls.{read, allIds};
 ghost use Rattle.record.specs.Store.{decodeAll};
 ghost use Rattle.book.specs.Store.{run, outputAfter};
-ghost use Rattle.book.specs.Returned.{idsWritten};
+ghost use Rattle.dialog_manager.specs.Answers.{idsWritten};
 ghost use Rattle.dialog_manager.specs.Search.{Stored, IdsWithin};
 ghost use Rattle.store_ids.specs.Identifiers.{idsIn, IdsShort, lengthAt, textsAt};
 
@@ -99,5 +99,5 @@ fn write_part(bytes: &[u8], part: Span, out: &mut [u8], to: usize) -> usize
     ensures { λ _. ⌜ now (out .exit) ≡ putAt to (text .write (partIn (now (bytes .entry)) part)) (now (out .entry)) ⌝ }
 {
     let at = part.start;
-    image_writer::write_text(out, to, &bytes[at..at + part.length])
+    codec::write_text(out, to, &bytes[at..at + part.length])
 }

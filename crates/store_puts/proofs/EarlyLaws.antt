@@ -11,18 +11,17 @@ use lib.Dec.{eqb}
 use Rattle.text.specs.Text.{equal}
 use Rattle.text.specs.Spans.{partIn}
 use Rattle.record.specs.Record.{State, early, confirmed, terminated, Record, bitOf, stateNumber, stateOf, StateByte, stateByteNumber, stateByteOf}
-use Rattle.record.proofs.CodecLaws.{Bytes}
+use Rattle.codec.proofs.CodecLaws.{Bytes}
 use Rattle.image.specs.Places.{recordPlaces}
 use Rattle.image.specs.declared.RecordAt.{RecordAt}
 use Rattle.image.specs.declared.sections.IdsAt.{IdsAt}
-use Rattle.distinct.specs.Keys.{At}
-use Rattle.distinct.specs.Ends.{endAt}
+use Rattle.record_walk.specs.Walk.{At, endAt}
 use Rattle.store.specs.Identifiers.{IdsRead}
 use Rattle.dialog_id.specs.Ident.{Ident, ident}
 use Rattle.record.specs.Store.{decodeAll}
 use Rattle.book.specs.Book.{Book, isOf, others, keep, isEarly, isEarlyOf, earlyOf}
 use Rattle.dialog_manager.specs.Search.{IdsWithin, Stored}
-use Rattle.dialog_manager.proofs.SearchLaws.{Turn, its-end, ids-within, compared}
+use Rattle.dialog_manager.proofs.SearchLaws.{Turn, its-end, ids-within, compared, call-compared}
 use Rattle.store_puts.specs.Puts.{earlyOthers, stateAt, earlyAt}
 use Rattle.store_edits.proofs.AheadLaws.{Ahead, all-ahead, Front, front, none-ahead}
 use Rattle.store_edits.proofs.StateLaws.{byte, place, state-here, state-is}
@@ -172,7 +171,7 @@ module _ (c l r : List ℕ) (s : List ℕ) (at n : ℕ) (g : Counting (ident c l
       end-is = its-end s at hb (omega (arith, h)) here
 
       weighed : earlyAt s (places .ids) c l r ≡ counts (ident c l r) (f .value)
-      weighed = rw (state-told s at hb here, compared s at places turn hb true c l r, compared s at places turn hb false c l r)
+      weighed = rw (state-told s at hb here, compared s at places turn hb c l r, call-compared s at places turn hb c)
 
       at-places : Counted c l r s at n (places .ids)
       at-places = record {

@@ -23,14 +23,15 @@ use Rattle.edit.specs.Edit.{over, spliced}
 use Rattle.record.specs.Record.{State, Record, image}
 use Rattle.record.specs.NumbersForm.{stateIn}
 use Rattle.record.specs.declared.numbers.State.{State as CodeState}
-use Rattle.record.proofs.CodecLaws.{Bytes, bytes-all, bytes-take}
+use Rattle.codec.proofs.CodecLaws.{Bytes, bytes-all, bytes-take}
 use Rattle.record.proofs.NumberLaws.{state-same}
 use Rattle.image.specs.Places.{idsOf}
 use Rattle.image.specs.declared.RecordAt.{RecordAt}
 use Rattle.image.proofs.AnswerLaws.{record-got}
 use Rattle.image_writer.proofs.LieLaws.{Lie, record-lies}
 use Rattle.text.specs.Spans.{partIn}
-use Rattle.dialog.specs.OneImage.{onlyOne, oneRecord, imageAnswer}
+use Rattle.dialog_rules.specs.OneImage.{onlyOne, oneRecord}
+use Rattle.dialog.specs.Readings.{imageAnswer}
 use Rattle.dialog.specs.declared.readings.ImageAnswer.the-variants as answer
 use Rattle.dialog.proofs.ImageRouteLaws.{image-read}
 use Rattle.dialog.proofs.MatchLaws as one
@@ -40,16 +41,17 @@ use Rattle.store.specs.declared.Held.the-variants as held
 use Rattle.dialog_id.specs.Ident.{Ident, ident}
 use Rattle.book.specs.Calls.{Value, noValue, imageAt}
 use Rattle.record.specs.Store.{decodeAll}
-use Rattle.book.specs.Book.{Book, contentsOf, causeIn, recordsImage, recordsSize, identOf, isOf, place, set, Taken, firstPlace, placeOf, isFull, isCrowded, argumentCause, judge}
+use Rattle.book.specs.Book.{Book, contentsOf, recordsImage, recordsSize, identOf, isOf, place, set, Taken, firstPlace, placeOf, isFull, isCrowded, argumentCause, judge}
 use Rattle.book.specs.Store.{Left, run}
 use Rattle.book.proofs.SpliceLaws.{place-held, amend-bytes, new-bytes}
+use Rattle.book.proofs.JudgeLaws.{put-unread, put-clear, put-full, put-crowded, put-set}
 use Rattle.book.proofs.WayLaws.{keptWith, way-arguments, way-judged, way-full, way-taken}
 use Rattle.dialog_manager.specs.Lookups.{placeIn}
 use Rattle.dialog_manager.specs.Search.{named, foundIn, IdsWithin, Stands}
 use Rattle.dialog_manager.specs.declared.finding.Found.the-variants as found
 use Rattle.dialog_manager.proofs.LookupLaws.{Kept, stored, none-found, one-found}
 use Rattle.dialog_manager.proofs.SearchLaws.{turn}
-use Rattle.book.specs.Returned.{writtenIn}
+use Rattle.dialog_manager.specs.Answers.{writtenIn}
 use Rattle.store_puts.specs.Puts.{putting, Named, Open, crowdedIn}
 use Rattle.store_edits.proofs.RemoveLaws.{images, unheld, standing, absent, spliced-length}
 
@@ -148,16 +150,10 @@ bad-image img {cause} e = by (onlyOne (image .read img)) e
     by none h = refl
     by (some r) h = absurd (let z : _≡_ {A = ℕ} 0 1 = cc in omega arith)
 
--- an image of one record is no cause
-no-cause : (L : LimitSet) (n : ℕ) (img : List ℕ) {r : Record} → oneRecord img ≡ given r → argumentCause L (putting n img) ≡ none
-unfolding argumentCause
-no-cause L n img e = ap causeIn e
-
 -- 3, of the image
 pub not-one : (L : LimitSet) (n : ℕ) (img s : List ℕ) (used : ℕ) {cause : Refusal} → answer.Refused cause ≡ imageAnswer (oneRecord img)
     → run L (putting n img) s used ≡ keptWith L (putting n img) s used BadStore
-unfolding argumentCause
-not-one L n img s used e = way-arguments L (putting n img) s used BadStore (ap causeIn (bad-image img e))
+not-one L n img s used e = way-arguments L (putting n img) s used BadStore (put-unread L n img (bad-image img e))
 
 -- 3, of the store
 pub store-unread : (L : LimitSet) (n : ℕ) (img s : List ℕ) (used : ℕ) {cause : Refusal} → countAnswer (recordsHeld s used) ≡ held.Refused cause
@@ -166,23 +162,17 @@ store-unread L n img s used {cause} e = by (oneRecord img) refl
   where
     by : (v : Outcome Record) → oneRecord img ≡ v → run L (putting n img) s used ≡ keptWith L (putting n img) s used BadStore
     by (refused x) q = not-one L n img s used (sym (ap imageAnswer q))
-    by (given r) q = unheld L (putting n img) s used (no-cause L n img q) e
+    by (given r) q = unheld L (putting n img) s used (put-clear L n img r q) e
 
 module _ (L : LimitSet) (n : ℕ) (img s : List ℕ) (used : ℕ) (k : Kept s used) where
   module _ (r : Record) (one : oneRecord img ≡ given r) where
-    -- a cause that is read over the records
-    judged-as : (cause : Refusal) → judge L (putting n img) (k .contents .records) ≡ refused cause → run L (putting n img) s used ≡ keptWith L (putting n img) s used cause
-    judged-as cause j = way-judged L (putting n img) s used (no-cause L n img one) (k .within) (k .contents) (k .read) cause j
-
     -- 16
     pub too-many : isFull L (k .contents .records) ≡ true → run L (putting n img) s used ≡ keptWith L (putting n img) s used TooManyDialogs
-    unfolding judge
-    too-many e = judged-as TooManyDialogs (rw (one, e))
+    too-many e = way-judged L (putting n img) s used (put-clear L n img r one) (k .within) (k .contents) (k .read) TooManyDialogs (put-full L n img r one (k .contents .records) e)
 
     -- 17
     pub too-many-early : isFull L (k .contents .records) ≡ false → isCrowded L r (k .contents .records) ≡ true → run L (putting n img) s used ≡ keptWith L (putting n img) s used TooManyEarlyDialogs
-    unfolding judge
-    too-many-early f e = judged-as TooManyEarlyDialogs (rw (one, f, e))
+    too-many-early f e = way-judged L (putting n img) s used (put-clear L n img r one) (k .within) (k .contents) (k .read) TooManyEarlyDialogs (put-crowded L n img r one (k .contents .records) f e)
 
 -- what a put leaves, by the bytes that it makes
 pub record Sets (now : Left) (s t : List ℕ) : Type 0 where
@@ -195,9 +185,11 @@ module _ (L : LimitSet) (n : ℕ) (img s : List ℕ) (used : ℕ) (hb : Bytes s)
   abbrev taken : Taken
   taken = record { change = set r; value = noValue }
 
+  clear : argumentCause L (putting n img) ≡ none
+  clear = put-clear L n img r one
+
   judged : judge L (putting n img) (k .contents .records) ≡ given taken
-  unfolding judge
-  judged = rw (one, free, few)
+  judged = put-set L n img r one (k .contents .records) free few
 
   -- 18, or the images of the records with this one in its place
   sets : Sets (run L (putting n img) s used) s (recordsImage (place r (k .contents .records)))
@@ -205,10 +197,10 @@ module _ (L : LimitSet) (n : ℕ) (img s : List ℕ) (used : ℕ) (hb : Bytes s)
     where
       by : (t : Bool) → ltb (length s) (recordsSize (place r (k .contents .records))) ≡ t → Sets (run L (putting n img) s used) s (recordsImage (place r (k .contents .records)))
       by true e =
-          let q = way-full L (putting n img) s used (no-cause L n img one) (k .within) (k .contents) (k .read) taken judged (ltb-true (length s) (recordsSize (place r (k .contents .records))) e) in
+          let q = way-full L (putting n img) s used clear (k .within) (k .contents) (k .read) taken judged (ltb-true (length s) (recordsSize (place r (k .contents .records))) e) in
           record { answer = rw e (sym (ap writtenIn q)); bytes = rw e (sym (ap (λ (l : Left). l .bytes) q)) }
       by false e =
-          let q = way-taken L (putting n img) s used (no-cause L n img one) (k .within) (k .contents) (k .read) taken judged (ltb-false (length s) (recordsSize (place r (k .contents .records))) e) in
+          let q = way-taken L (putting n img) s used clear (k .within) (k .contents) (k .read) taken judged (ltb-false (length s) (recordsSize (place r (k .contents .records))) e) in
           record { answer = rw e (sym (ap writtenIn q)); bytes = rw e (sym (ap (λ (l : Left). l .bytes) q)) }
 
   -- over the old image
@@ -310,7 +302,7 @@ module _ (L : LimitSet) (n : ℕ) (img s : List ℕ) (used : ℕ) (state : CodeS
   crowded e = too-many-early L n img s used read-so (a .value) (a .one) (o .free) (sym crowded-is ∙ e)
 
   abbrev test : Record → Bool
-  test = named true c l r
+  test = named c l r
 
   module _ (hb : Bytes s) (e : crowdedIn L (stateIn state) (ident c l r) (decodeAll (take used s)) ≡ false) where
     -- the place is asked of the record's own identifier

@@ -13,12 +13,12 @@ use Rattle.record.specs.Record.{State, Record, stateByteOf, image}
 use Rattle.record.specs.NumbersForm.{stateIn}
 use Rattle.record.specs.declared.numbers.State.{State as CodeState}
 use Rattle.image.specs.declared.sections.IdsAt.{IdsAt}
-use Rattle.dialog.specs.OneImage.{oneRecord}
+use Rattle.dialog_rules.specs.OneImage.{oneRecord}
 use Rattle.dialog_id.specs.Ident.{Ident, ident}
 use Rattle.book.specs.Calls.{Call, put}
 use Rattle.record.specs.Store.{decodeAll}
 use Rattle.book.specs.Book.{Book, identOf, others, keep, isEarly, earlyOf, isFull}
-use Rattle.dialog_manager.specs.Search.{namedAt}
+use Rattle.dialog_manager.specs.Search.{namedAt, ofCallIdAt}
 
 -- the call, of a store of n lent bytes
 abbrev pub putting : ℕ → List ℕ → Call
@@ -56,4 +56,4 @@ stateAt s at = stateByteOf (getD s at 0) .state
 
 -- what one record counts, by the texts at the places of its identifier and the state byte past them
 abbrev pub earlyAt : List ℕ → IdsAt → List ℕ → List ℕ → List ℕ → ℕ
-earlyAt s i c l r = cond (isEarly (stateAt s (i .end)) && (namedAt s i false c l r && not (namedAt s i true c l r))) 1 0
+earlyAt s i c l r = cond (isEarly (stateAt s (i .end)) && (ofCallIdAt s i c && not (namedAt s i c l r))) 1 0

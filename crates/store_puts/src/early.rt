@@ -1,9 +1,9 @@
 // The Early records of a Call-ID in the used bytes of a store that was read.
 use dialog_manager::is_part;
-use distinct::record_end;
 use image::IdsAt;
 use limits::Limits;
 use record::State;
+use record_walk::record_end;
 use store::ids_at;
 ghost use mathlib.Core.Path.{_≡_};
 ghost use Prim.Native.Nat.{_<_};

@@ -2,7 +2,7 @@
 use crate::early::is_crowded;
 use dialog::ImageAnswer;
 use dialog_manager::Found;
-use dialog_manager::search;
+use dialog_manager::search_id;
 use image_writer::write_image;
 use limits::Limits;
 use limits::Refusal;
@@ -17,7 +17,7 @@ ghost use Rattle.limits.specs.Limits.{rustLimits};
 ghost use Rattle.edit.specs.Edit.{spliced};
 ghost use Rattle.output.specs.Output.{fitted, leaves, writtenFrom};
 ghost use Rattle.book.specs.Store.{run};
-ghost use Rattle.book.specs.Returned.{writtenIn};
+ghost use Rattle.dialog_manager.specs.Answers.{writtenIn};
 ghost use Rattle.store_puts.specs.Puts.{putting, Named, Open};
 
 // DialogManager::insert of one record image: 3, 16, 17, 18. A replacement keeps its place; a new record is written into the free end of the store.
@@ -72,7 +72,7 @@ fn put_named(
     if is_crowded(state, &bytes[..used], call_id, local_tag, remote_tag) {
         return Written::Refused(Refusal::TooManyEarlyDialogs);
     }
-    let Found::At(at, r) = search(&bytes[..used], true, call_id, local_tag, remote_tag) else {
+    let Found::At(at, r) = search_id(&bytes[..used], call_id, local_tag, remote_tag) else {
         return add(image, bytes, used);
     };
     replace_image(image, bytes, used, at, r.end - at)

@@ -18,11 +18,11 @@ use Rattle.dialog_id.specs.declared.DialogId.{DialogId}
 use Rattle.output.specs.Output.{leaves, writtenFrom}
 use Rattle.output.specs.declared.Written.{Written}
 use Rattle.output.specs.declared.Written.the-variants as written
-use Rattle.record.proofs.CodecLaws.{Bytes}
+use Rattle.codec.proofs.CodecLaws.{Bytes}
 use Rattle.image.specs.declared.RecordAt.{RecordAt}
 use Rattle.text.specs.Spans.{partIn}
-use Rattle.dialog.specs.Updates.{kindOf, requestUpdate}
-use Rattle.dialog.proofs.MatchLaws.{Asked}
+use Rattle.dialog_rules.specs.Updates.{kindOf, requestUpdate}
+use Rattle.dialog_rules.proofs.PlacedLaws.{Asked}
 use Rattle.dialog_updates.specs.AtPlace.{stepped}
 use Rattle.dialog_id.specs.Ident.{Ident, ident}
 use Rattle.book.specs.Calls.{request}

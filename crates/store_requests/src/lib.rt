@@ -1,9 +1,10 @@
 // The request entry: the record that a request names, changed by it.
 use dialog_id::IdPart;
-use dialog_id::request_id;
-use dialog_requests::request_at;
-use limits::Check;
+use dialog_id::request_id_in;
+use dialog_requests::request_by;
 use limits::Refusal;
+use msg::HeaderTable;
+use msg::Headers;
 use output::Written;
 use store::Held;
 use store_entries::Standing;
@@ -15,9 +16,11 @@ ghost use Prim.Native.Nat.{_+_, _≤_};
 ghost use lib.ListN.{length};
 ghost use Rattle.limits.specs.Limits.{rustLimits};
 ghost use Rattle.text.specs.Spans.{partIn};
+ghost use Rattle.msg.specs.Block.{linesOf};
+ghost use Rattle.msg.specs.Table.{tableOf};
 ghost use Rattle.dialog_id.specs.Ident.{ident};
 ghost use Rattle.book.specs.Book.{namedIn};
-ghost use Rattle.book.specs.Returned.{writtenIn};
+ghost use Rattle.dialog_manager.specs.Answers.{writtenIn};
 ghost use Rattle.store_entries.specs.Entries.{usedAfter, requesting, spotIn, spotNamed, standingOf, Ready};
 
 // The request entry: 1, 2, 3, 15, 4, 9; ACK: 11; others: 10, 11, 12; 18. The record that the block names is changed as by Dialog::update_from_request.
@@ -29,21 +32,26 @@ pub fn request(method: &[u8], block: &[u8], bytes: &mut [u8], used: usize) -> Wr
     if text::too_long(method) {
         return Written::Refused(Refusal::TextTooLong);
     }
-    if let Check::Refused(x) = msg::check_block(block) {
-        return Written::Refused(x);
-    }
-    match locate_named(bytes, used, block) {
-        Standing::At(at, r) => request_at(bytes, used, at, r, method, block),
-        Standing::Refused(cause) => Written::Refused(cause),
+    match msg::read_headers(block) {
+        Headers::Of(t) => {
+            let cseq = t.cseq;
+            let contact = t.contact;
+            match locate_named(bytes, used, block, t) {
+                Standing::At(at, r) => request_by(bytes, used, at, r, method, block, cseq, contact),
+                Standing::Refused(cause) => Written::Refused(cause),
+            }
+        }
+        Headers::Refused(x) => Written::Refused(x),
     }
 }
 
 // By the identifier that a block names, if it names one: 3, 15. A request from the peer has From as remote tag.
-fn locate_named(bytes: &[u8], used: usize, block: &[u8]) -> Standing
+fn locate_named(bytes: &[u8], used: usize, block: &[u8], t: HeaderTable) -> Standing
+    requires { ⌜ t ≡ tableOf (linesOf (now block)) ⌝ }
     ensures { λ r. ⌜ r ≡ standingOf (spotNamed (namedIn (now (block .entry))) (now (bytes .entry)) used) ⌝ }
     ensures { λ r. ⌜ Ready (now (bytes .entry)) used r ⌝ }
 {
-    let IdPart::At(i) = request_id(block) else {
+    let IdPart::At(i) = request_id_in(block, t) else {
         return nowhere(bytes, used);
     };
     let call_id = i.call_id;

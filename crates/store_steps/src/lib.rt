@@ -15,7 +15,7 @@ ghost use Rattle.record.specs.Rules.{localStep};
 ghost use Rattle.image.specs.Places.{recordFrom};
 ghost use Rattle.image.specs.declared.RecordReading.the-variants.{Whole};
 ghost use Rattle.image_edit.specs.Changes.{readAt};
-ghost use Rattle.dialog.specs.Updates.{terminateUpdate, localUpdate, intervalUpdate};
+ghost use Rattle.dialog_rules.specs.Updates.{terminateUpdate, localUpdate, intervalUpdate};
 ghost use Rattle.dialog_updates.specs.AtPlace.{stepped};
 ghost use Rattle.store_entries.specs.Entries.{raisedWith};
 

@@ -17,11 +17,11 @@ use Rattle.output.specs.declared.Written.the-variants as written
 use Rattle.record.specs.NumbersForm.{meaning}
 use Rattle.record.specs.Record.{Numbers}
 use Rattle.record.specs.Rules.{localStep}
-use Rattle.record.proofs.CodecLaws.{Bytes}
+use Rattle.codec.proofs.CodecLaws.{Bytes}
 use Rattle.record.proofs.NumberLaws.{meaning-same}
 use Rattle.image.specs.declared.RecordAt.{RecordAt}
-use Rattle.dialog.specs.Updates.{localUpdate}
-use Rattle.dialog.proofs.RefusalLaws.{no-causes}
+use Rattle.dialog_rules.specs.Updates.{localUpdate}
+use Rattle.dialog_rules.proofs.RefusalLaws.{no-causes}
 use Rattle.dialog_changes.specs.declared.Raised.{Raised}
 use Rattle.dialog_changes.specs.declared.Raised.the-variants as raised
 use Rattle.dialog_updates.specs.AtPlace.{stepped}
@@ -29,8 +29,8 @@ use Rattle.dialog_id.specs.Ident.{Ident, identCause}
 use Rattle.book.specs.Calls.{Update, response, terminate, localNumber, interval, number, Answer}
 use Rattle.book.specs.Book.{nameOf, updateCause, revised}
 use Rattle.book.specs.Store.{Left}
-use Rattle.book.specs.Returned.{writtenBy, raisedBy, raisedIn}
-use Rattle.store_entries.specs.Entries.{updating, usedRaised, spotIn, standingOf, raisedWith}
+use Rattle.dialog_manager.specs.Answers.{writtenBy}
+use Rattle.store_entries.specs.Entries.{updating, raisedBy, raisedIn, usedRaised, spotIn, standingOf, raisedWith}
 use Rattle.store_entries.specs.declared.Standing.{Standing}
 use Rattle.store_entries.specs.declared.Standing.the-variants as standing
 use Rattle.store_entries.proofs.EntryLaws.{permitted, Done, leftBy, arguments-done, turned, step-left, step-done, not-standing}

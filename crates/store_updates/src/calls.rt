@@ -12,8 +12,8 @@ use store_steps::terminate_at;
 ghost use mathlib.Core.Path.{_≡_};
 ghost use Rattle.limits.specs.Limits.{rustLimits};
 ghost use Rattle.dialog_id.specs.Ident.{ident};
-ghost use Rattle.book.specs.Returned.{writtenIn, raisedIn};
-ghost use Rattle.store_entries.specs.Entries.{usedAfter, usedRaised, terminating, responding, setting, raising, standingOf, Ready};
+ghost use Rattle.dialog_manager.specs.Answers.{writtenIn};
+ghost use Rattle.store_entries.specs.Entries.{raisedIn, usedAfter, usedRaised, terminating, responding, setting, raising, standingOf, Ready};
 ghost use Rattle.store_updates.specs.Finding.{causeIn, foundIn};
 
 // Dialog::terminate, by identifier: 1, 3, 15.

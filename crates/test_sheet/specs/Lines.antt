@@ -1,5 +1,6 @@
 -- Document 01, "Lines from the test sheet": the twelve lines marked P, in its order, each as a statement about the definitions that
--- the contracts cite. The names of the fields count the lines; a comment quotes each.
+-- the contracts cite; that of the display name as document 02, request 3, has it. The names of the fields count the lines; a comment
+-- quotes each.
 use Prim.Native.Nat.{ℕ, _-_, _*_}
 use mathlib.Core.Path.{_≡_}
 use mathlib.Core.Bool.{true, false}
@@ -21,10 +22,6 @@ use Rattle.record.specs.Rules.{Kind, other, withRemote, requestStep}
 abbrev pub quotedTag : List ℕ
 quotedTag = 34 ∷ 97 ∷ 59 ∷ 116 ∷ 97 ∷ 103 ∷ 61 ∷ 120 ∷ 34 ∷ 32 ∷ 60 ∷ 115 ∷ 105 ∷ 112 ∷ 58 ∷ 114 ∷ 64 ∷ 104 ∷ 62 ∷ 59 ∷ 116 ∷ 97 ∷ 103 ∷ 61 ∷ 121 ∷ []
 
--- `x" <sip:r@h>`
-abbrev pub tagRead : List ℕ
-tagRead = 120 ∷ 34 ∷ 32 ∷ 60 ∷ 115 ∷ 105 ∷ 112 ∷ 58 ∷ 114 ∷ 64 ∷ 104 ∷ 62 ∷ []
-
 -- `CSeq:-0` CRLF
 abbrev pub minusZero : List ℕ
 minusZero = 67 ∷ 83 ∷ 101 ∷ 113 ∷ 58 ∷ 45 ∷ 48 ∷ 13 ∷ 10 ∷ []
@@ -44,8 +41,8 @@ pub record TestSheet : Type 0 where
   pub line6 : readNumber 32 (43 ∷ 53 ∷ []) ≡ some 5
   -- "`-0`: 4"
   pub line7 : extractCseqNumber rustLimits minusZero ≡ refused MissingHeader
-  -- "`"a;tag=x" <sip:r@h>;tag=y` has tag `x" <sip:r@h>`"
-  pub line8 : tagOf quotedTag ≡ some (record { place = 7; text = tagRead })
+  -- `"a;tag=x" <sip:r@h>;tag=y`: "The sheet's display-name line now has tag `y`" (document 02, request 3; 01 has `x" <sip:r@h>`)
+  pub line8 : tagOf quotedTag ≡ some (record { place = 24; text = 121 ∷ [] })
   -- "90 s: refresh at 60 s, not 1 ns before"
   pub line9 : (refreshDue (some 90) (seconds 60) ≡ true) × (refreshDue (some 90) (seconds 60 - 1) ≡ false)
   -- "300 s: non-refresher expiry 268 s"

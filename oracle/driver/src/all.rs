@@ -1,4 +1,4 @@
-//! The whole run: what the five parts compare, and then mixed lists until the calls are as many as were asked for.
+//! The whole run: what the six parts compare, and then mixed lists until the calls are as many as were asked for.
 
 use crate::dialogs;
 use crate::mixed;
@@ -12,13 +12,15 @@ use crate::store;
 use crate::store::dialogs::Dialogs;
 use crate::store::kind::Kind;
 use crate::store::run::{faults_named, Fault, Run};
+use crate::verdicts::{self, call::Verdicts};
 
-/// The feeds of all operations without a store, and the runs of the three kinds of stores.
+/// The feeds of all operations without a store, and the runs of the three kinds of stores and of the run of verdicts.
 pub struct Everything {
     pub feeds: Vec<Feed<'static>>,
     pub records: Run<Dialogs>,
     pub rseqs: Run<RSeqs>,
     pub pracks: Run<Pracks>,
+    pub verdicts: Run<Verdicts>,
 }
 
 /// Of so many calls in all, each operation without a store has one in this many by chance, and each kind of store one list in
@@ -45,12 +47,15 @@ pub fn compare_all(calls: u64, seed: u64, planted: &str) -> Everything {
     let rseqs = rseq::compare_all(lists, seed, &both(rseq::FAULTS, mixed::RSEQ_FAULTS, planted));
     progress::part("lists of calls on a PRACK store");
     let pracks = prack::compare_all(lists, seed, &both(prack::FAULTS, mixed::PRACK_FAULTS, planted));
+    progress::part("lists of calls on a run of verdicts");
+    let verdicts = verdicts::compare_all(lists, seed, &faults_named(verdicts::FAULTS, planted));
     progress::part("mixed lists on all three stores");
     let mut everything = Everything {
         feeds,
         records,
         rseqs,
         pracks,
+        verdicts,
     };
     let mut random = Random::new(seed, "mixed");
     mixed::each_plain(&mut everything, &mut random);

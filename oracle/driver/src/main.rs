@@ -7,6 +7,7 @@
 //!     driver store [--calls N] [--seed S]      the same for N lists of calls on a store of records
 //!     driver rseq [--calls N] [--seed S]       the same for N lists of calls on an RSeq store
 //!     driver prack [--calls N] [--seed S]      the same for N lists of calls on a PRACK store
+//!     driver verdicts [--calls N] [--seed S]   the same for N lists of calls on a run of verdicts, against the run's own count
 //!     driver planted [--calls N] [--seed S]    plants faults, fails if any goes unreported or if a C function has none
 //!     driver differences                       runs the inputs of docs/DIFFERENCES.md on both sides, fails if an answer is another
 //!     driver record                            writes the list of recorded answers that the program replay runs
@@ -23,6 +24,7 @@ mod contest;
 mod dialogs;
 mod differences;
 mod messages;
+mod misreadings;
 mod mixed;
 mod operations;
 mod places;
@@ -35,13 +37,15 @@ mod rseq;
 mod rules;
 mod run;
 mod store;
+mod tags;
 mod texts;
 mod uris;
+mod verdicts;
 
 use std::process::ExitCode;
 
 const USAGE: &str =
-    "use: driver all|leaves|dialogs|store|rseq|prack|planted [--calls N] [--seed S], driver differences|bench|record";
+    "use: driver all|leaves|dialogs|store|rseq|prack|verdicts|planted [--calls N] [--seed S], driver differences|bench|record";
 
 /// How many calls (or lists of calls) where --calls doesn't say it, and how many in all for `all`.
 const CALLS: usize = 20_000;
@@ -74,6 +78,7 @@ fn main() -> ExitCode {
         "store" => report::store(calls, options.seed),
         "rseq" => report::rseq(calls, options.seed),
         "prack" => report::prack(calls, options.seed),
+        "verdicts" => report::verdicts(calls, options.seed),
         "planted" => report::planted(calls, options.seed),
         "differences" => differences::run(),
         "record" => record::run(),

@@ -18,20 +18,6 @@ pub fn first_value(bytes: &[u8], name: &[u8]) -> Option<Range<usize>> {
     lines(bytes, name).into_iter().next().map(|line| line.value)
 }
 
-/// The tag in the value at `at`: the rest of the first `;` segment that, trimmed, begins with `tag=`.
-pub fn tag(bytes: &[u8], at: Range<usize>) -> Option<Range<usize>> {
-    let mut start = at.start;
-    for segment in bytes[at].split(|byte| *byte == b';') {
-        let range = trim(bytes, start..start + segment.len());
-        let text = &bytes[range.clone()];
-        if text.len() >= 4 && text[..4].eq_ignore_ascii_case(b"tag=") {
-            return Some(range.start + 4..range.end);
-        }
-        start += segment.len() + 1;
-    }
-    None
-}
-
 /// The URI's text in the value at `at`: between the first `<` and the next `>`, without `<` up to `;`; trimmed, and
 /// readable.
 pub fn uri(bytes: &[u8], at: Range<usize>) -> Option<Range<usize>> {
@@ -87,7 +73,7 @@ pub fn held(bytes: &[u8], place: Option<Range<usize>>, text: Option<&str>) -> Op
 }
 
 /// A part without the spaces and tabs at its ends.
-fn trim(bytes: &[u8], part: Range<usize>) -> Range<usize> {
+pub fn trim(bytes: &[u8], part: Range<usize>) -> Range<usize> {
     let is_text = |place: &usize| !matches!(bytes[*place], b' ' | b'\t');
     let start = part.clone().find(is_text).unwrap_or(part.end);
     let end = part.clone().rfind(is_text).map_or(start, |last| last + 1);

@@ -1,4 +1,4 @@
-//! The tables and verdicts of `all`, of its parts (`leaves`, `dialogs`, `store`, `rseq`, `prack`), and of `planted`.
+//! The tables and verdicts of `all`, of its parts (`leaves`, `dialogs`, `store`, `rseq`, `prack`, `verdicts`), and of `planted`.
 
 use crate::all::{self, Everything};
 use crate::bounds;
@@ -8,21 +8,23 @@ use crate::mixed;
 use crate::operations;
 use crate::prack;
 use crate::rseq;
-use crate::run::{row_name, Entry, Feed, Operation, Tally, LEAST_CALLS, LEAST_IN_ROW, LEAST_LONGEST};
+use crate::run::{self, row_name, Entry, Feed, Operation, Tally, LEAST_CALLS, LEAST_IN_ROW, LEAST_LONGEST};
 use crate::store;
 use crate::store::kind::Kind;
 use crate::store::run::{each_fault, faults_named, Fault, Run};
+use crate::verdicts;
 use std::collections::BTreeSet;
 
 /// Compares everything, so many calls in all, and says whether all agree and every minimum is met. The environment variable
 /// PLANTED names a fault that is to be put in.
 pub fn all(calls: u64, seed: u64) -> bool {
     let names = [
-        names_of(&operations::all()),
-        names_of(&dialogs::all()),
+        names_of(&operations::all(), operations::FAULTS),
+        names_of(&dialogs::all(), dialogs::FAULTS),
         faults_of(store::FAULTS),
         faults_of(rseq::FAULTS),
         faults_of(prack::FAULTS),
+        faults_of(verdicts::FAULTS),
         faults_of(mixed::RECORD_FAULTS),
         faults_of(mixed::RSEQ_FAULTS),
         faults_of(mixed::PRACK_FAULTS),
@@ -38,7 +40,7 @@ pub fn all(calls: u64, seed: u64) -> bool {
 /// The same for the operations on blocks, values, texts and numbers alone, each with so many random calls.
 pub fn leaves(calls: usize, seed: u64) -> bool {
     let shown = contest::brute_force(seed);
-    let same = verdict(&names_of(&operations::all()), |planted, table| {
+    let same = verdict(&names_of(&operations::all(), operations::FAULTS), |planted, table| {
         table.add_feeds(operations::compare_all(calls, seed, |name| name == planted));
     });
     shown && same
@@ -46,7 +48,7 @@ pub fn leaves(calls: usize, seed: u64) -> bool {
 
 /// The same for the operations on one record.
 pub fn dialogs(calls: usize, seed: u64) -> bool {
-    verdict(&names_of(&dialogs::all()), |planted, table| {
+    verdict(&names_of(&dialogs::all(), dialogs::FAULTS), |planted, table| {
         table.add_feeds(dialogs::compare_all(calls, seed, |name| name == planted));
     })
 }
@@ -75,6 +77,18 @@ pub fn prack(lists: usize, seed: u64) -> bool {
     })
 }
 
+/// The same for lists of calls on a run of verdicts, against the run's own count.
+pub fn verdicts(lists: usize, seed: u64) -> bool {
+    println!("{lists} random lists of calls, three in four from an empty run, and the directed ones\n");
+    verdict(&faults_of(verdicts::FAULTS), |planted, table| {
+        table.add_run(verdicts::compare_all(
+            lists,
+            seed,
+            &faults_named(verdicts::FAULTS, planted),
+        ));
+    })
+}
+
 /// Fills the table, with the one of these faults put in that PLANTED names, and prints its end.
 fn verdict(names: &[&str], fill: impl FnOnce(&str, &mut Table)) -> bool {
     let Some(planted) = planted_name(names) else {
@@ -85,9 +99,10 @@ fn verdict(names: &[&str], fill: impl FnOnce(&str, &mut Table)) -> bool {
     table.print()
 }
 
-/// The operations' names.
-fn names_of(operations: &[&Operation]) -> Vec<&'static str> {
-    operations.iter().map(|operation| operation.name).collect()
+/// The names of the operations, which are those of their own faults, and of their other faults.
+fn names_of(operations: &[&Operation], faults: &[run::Fault]) -> Vec<&'static str> {
+    let own = operations.iter().map(|operation| operation.name);
+    own.chain(faults.iter().map(|fault| fault.name)).collect()
 }
 
 /// The faults' names.
@@ -116,6 +131,7 @@ impl Table {
         self.add_run(everything.records);
         self.add_run(everything.rseqs);
         self.add_run(everything.pracks);
+        self.add_run(everything.verdicts);
     }
 
     /// Takes the counts of operations without a store.
@@ -243,8 +259,8 @@ fn missed_minimums(operation: Entry, tally: &Tally) -> Vec<String> {
 /// In `planted` a list of calls stands for so many calls.
 const CALLS_PER_LIST: usize = 20;
 
-/// Plants each fault and says whether the run reports every one of them, and whether every C function has one. The faults of
-/// operations on one record, and those of each kind of store, are put in at once: each changes only what is compared of its own
+/// Plants each fault and says whether the run reports every one of them, and whether every C function has one. The own faults of
+/// operations without a store, and those of each kind of store, are put in at once: each changes only what is compared of its own
 /// calls.
 pub fn planted(calls: usize, seed: u64) -> bool {
     println!(
@@ -252,11 +268,18 @@ pub fn planted(calls: usize, seed: u64) -> bool {
         "operation", "compared", "differing"
     );
     let mut faults = planted_feeds(operations::compare_all(calls, seed, |_| true));
+    faults.extend(planted_others(&operations::all(), operations::FAULTS, calls, seed));
     faults.extend(planted_feeds(dialogs::compare_all(calls, seed, |_| true)));
+    faults.extend(planted_others(&dialogs::all(), dialogs::FAULTS, calls, seed));
     let lists = calls / CALLS_PER_LIST;
     faults.extend(planted_run(store::compare_all(lists, seed, &each_fault(store::FAULTS))));
     faults.extend(planted_run(rseq::compare_all(lists, seed, &each_fault(rseq::FAULTS))));
     faults.extend(planted_run(prack::compare_all(lists, seed, &each_fault(prack::FAULTS))));
+    faults.extend(planted_run(verdicts::compare_all(
+        lists,
+        seed,
+        &each_fault(verdicts::FAULTS),
+    )));
     let mixed = mixed::planted(lists, seed);
     faults.extend(planted_run(mixed.records));
     faults.extend(planted_run(mixed.rseqs));
@@ -291,6 +314,22 @@ fn planted_feeds(feeds: Vec<Feed<'static>>) -> Vec<Planted> {
     let print =
         |(operation, tally): (&Operation, Tally)| print_fault(operation.name, operation.name, operation.fault, &tally);
     feeds.into_iter().map(Feed::finish).map(print).collect()
+}
+
+/// Plants the faults that operations without a store have beside their own, and prints what became of them.
+fn planted_others(
+    operations: &[&'static Operation],
+    faults: &'static [run::Fault],
+    calls: usize,
+    seed: u64,
+) -> Vec<Planted> {
+    let plant = |fault: &'static run::Fault| {
+        let of_name = operations.iter().find(|operation| operation.name == fault.operation);
+        let operation = of_name.expect("the fault's operation");
+        let (_, tally) = run::compare_one(operation, calls, seed, Some(fault.distort)).finish();
+        print_fault(fault.operation, fault.name, fault.what, &tally)
+    };
+    faults.iter().map(plant).collect()
 }
 
 /// Prints what became of the faults of a kind of store.

@@ -26,7 +26,19 @@ pub struct Operation {
     pub inputs: fn(&mut Feed),
     /// A planted fault: what it is, and how it changes the port's answer.
     pub fault: &'static str,
-    pub distort: fn(&Input, &mut Answer),
+    pub distort: Distort,
+}
+
+/// What a planted fault does to the port's answer.
+pub type Distort = fn(&Input, &mut Answer);
+
+/// A planted fault of an operation, beside its own.
+pub struct Fault {
+    /// What PLANTED calls it.
+    pub name: &'static str,
+    pub operation: &'static str,
+    pub what: &'static str,
+    pub distort: Distort,
 }
 
 /// What the tables say of an operation: its name, what it is held against, the rows that it must meet.
@@ -106,24 +118,33 @@ pub struct Feed<'a> {
     /// How many random calls to feed.
     pub calls: usize,
     operation: &'a Operation,
-    planted: bool,
+    planted: Option<Distort>,
     turn: usize,
     tally: Tally,
 }
 
-/// Compares each operation with calls of its own. `planted` says which have their fault put in.
+/// Compares each operation with calls of its own. `planted` says which have their fault put in, or one of `faults`.
 pub fn compare_each(
     operations: Vec<&'static Operation>,
+    faults: &[Fault],
     calls: usize,
     seed: u64,
     planted: impl Fn(&str) -> bool,
 ) -> Vec<Feed<'static>> {
     let fed = |operation: &'static Operation| {
-        let mut feed = Feed::new(operation, calls, seed, planted(operation.name));
-        (operation.inputs)(&mut feed);
-        feed
+        let own = planted(operation.name).then_some(operation.distort);
+        let mut others = faults.iter().filter(|fault| fault.operation == operation.name);
+        let other = others.find(|fault| planted(fault.name)).map(|fault| fault.distort);
+        compare_one(operation, calls, seed, own.or(other))
     };
     operations.into_iter().map(fed).collect()
+}
+
+/// Compares an operation with calls of its own, with this fault put in.
+pub fn compare_one(operation: &'static Operation, calls: usize, seed: u64, planted: Option<Distort>) -> Feed<'static> {
+    let mut feed = Feed::new(operation, calls, seed, planted);
+    (operation.inputs)(&mut feed);
+    feed
 }
 
 /// The feed of an operation.
@@ -134,7 +155,7 @@ pub fn feed_of<'a, 'b>(feeds: &'a mut [Feed<'b>], name: &str) -> &'a mut Feed<'b
 
 impl<'a> Feed<'a> {
     /// A feed that has compared nothing yet.
-    pub fn new(operation: &'a Operation, calls: usize, seed: u64, planted: bool) -> Feed<'a> {
+    pub fn new(operation: &'a Operation, calls: usize, seed: u64, planted: Option<Distort>) -> Feed<'a> {
         Feed {
             random: Random::new(seed, operation.name),
             calls,
@@ -164,9 +185,9 @@ impl<'a> Feed<'a> {
         let mut answered = expected.clone();
         expected.number = (operation.expect)(input, &mut expected).err().unwrap_or(0);
         answered.number = (operation.ask)(input, &mut answered);
-        let own = self.planted.then(|| {
+        let own = self.planted.map(|distort| {
             let own = answered.clone();
-            (operation.distort)(input, &mut answered);
+            distort(input, &mut answered);
             own
         });
         let longest = longest_of(operation.name);

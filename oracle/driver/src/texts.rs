@@ -161,6 +161,30 @@ pub fn recased(random: &mut Random, text: &str) -> Vec<u8> {
     bytes
 }
 
+/// What stands before the text of a tag in From and To values that hold no semicolon, and in some that hold one in quotes or in
+/// angle brackets. In the last two what holds it stays open.
+const FRONTS: [&str; 5] = ["<sip:a@b>;tag=", "\"n\" <sip:a>; TAG=", "tag=", ";\ttag=", "x;y;Tag="];
+pub const HELD_FRONTS: [&str; 10] = [
+    "\"n;tag=q\" <sip:a>;tag=",
+    "<sip:a;lr>;tag=",
+    "\"\\\";tag=q\" <sip:a>; TAG=",
+    "\"a\\\\;\";tag=",
+    "\"<;\";tag=",
+    "<\"a;b>;tag=",
+    "<<a;b>;tag=",
+    "\"n;tag=q\" <sip:a;tag=r>;x;tag=",
+    "\"n\\;tag=",
+    "<sip:a;tag=",
+];
+
+/// The front of a From or To value, up to the text of its tag; one in eight holds a semicolon.
+pub fn front_of_tag(random: &mut Random) -> &'static str {
+    match random.one_in(8) {
+        true => random.pick(&HELD_FRONTS),
+        false => random.pick(&FRONTS),
+    }
+}
+
 /// Numbers around the bounds of the fields, as digits; some fit no width.
 const NUMBERS: [&str; 22] = [
     "0",

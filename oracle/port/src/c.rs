@@ -1,8 +1,10 @@
-//! The C declarations of the Rattle functions, as in include/sip_dialog.h (tests/face.sh holds both against the sources). A byte run is a
-//! pointer and a length.
+//! The C declarations of the Rattle functions, in the order of include/sip_dialog.h. A byte run is a pointer and a
+//! length.
+//! Made by `tools/face write` from crates/sip_dialog/src, not by hand.
 
+#[rustfmt::skip]
 extern "C" {
-    // msg: the header block, status classes
+    // Header blocks and status codes
     pub fn sip_dialog_check_block(block: *const u8, block_len: usize) -> u8;
     pub fn sip_dialog_header(
         block: *const u8,
@@ -32,7 +34,7 @@ extern "C" {
     pub fn sip_dialog_is_global_failure(code: u16) -> bool;
     pub fn sip_dialog_is_error(code: u16) -> bool;
 
-    // uri
+    // URIs
     pub fn sip_dialog_sip_uri(
         text: *const u8,
         text_len: usize,
@@ -53,7 +55,7 @@ extern "C" {
         length: *mut usize,
     ) -> u8;
 
-    // headers: identifiers
+    // Identifiers
     pub fn sip_dialog_extract_tag(value: *const u8, value_len: usize, place: *mut usize, length: *mut usize) -> u8;
     pub fn sip_dialog_dialog_id_new(
         call_id: *const u8,
@@ -94,7 +96,7 @@ extern "C" {
         remote_tag_length: *mut usize,
     ) -> u8;
 
-    // headers: values
+    // Header values and routes
     pub fn sip_dialog_next_header_value(
         value: *const u8,
         value_len: usize,
@@ -121,11 +123,6 @@ extern "C" {
         place: *mut usize,
         length: *mut usize,
     ) -> u8;
-    pub fn sip_dialog_cseq_number(block: *const u8, block_len: usize, number: *mut u32) -> u8;
-    pub fn sip_dialog_cseq_method(block: *const u8, block_len: usize, method: *mut u8) -> u8;
-    pub fn sip_dialog_rseq(block: *const u8, block_len: usize, number: *mut u32) -> u8;
-    pub fn sip_dialog_is_reliable_provisional(status: u16, block: *const u8, block_len: usize, reliable: *mut u8)
-        -> u8;
     pub fn sip_dialog_parse_session_expires(
         value: *const u8,
         value_len: usize,
@@ -140,6 +137,12 @@ extern "C" {
         seconds: *mut u32,
         refresher: *mut u8,
     ) -> u8;
+
+    // CSeq, RSeq, RAck and methods
+    pub fn sip_dialog_cseq_number(block: *const u8, block_len: usize, number: *mut u32) -> u8;
+    pub fn sip_dialog_cseq_method(block: *const u8, block_len: usize, method: *mut u8) -> u8;
+    pub fn sip_dialog_rseq(block: *const u8, block_len: usize, number: *mut u32) -> u8;
+    pub fn sip_dialog_is_reliable_provisional(status: u16, block: *const u8, block_len: usize, reliable: *mut u8) -> u8;
     pub fn sip_dialog_method_number(text: *const u8, text_len: usize, found: *mut u8, method: *mut u8) -> u8;
     pub fn sip_dialog_method_text(method: u8, out: *mut u8, out_len: usize, written: *mut usize) -> u8;
     pub fn sip_dialog_parse_rack(
@@ -158,7 +161,7 @@ extern "C" {
         written: *mut usize,
     ) -> u8;
 
-    // session_timer_manager
+    // Session intervals: nanoseconds where nothing is said of seconds. A value whose has_.. is false isn't looked at.
     pub fn sip_dialog_validate_session_expires(interval: u64, has_minimum: bool, minimum: u64, least: *mut u64) -> u8;
     pub fn sip_dialog_negotiate_session_expires(
         requested: u64,
@@ -180,100 +183,6 @@ extern "C" {
         is_uac: bool,
         we_refresh: *mut u8,
     ) -> u8;
-
-    // metrics
-    pub fn sip_dialog_record_created(created: u64) -> u64;
-    pub fn sip_dialog_record_terminated(terminated: u64) -> u64;
-
-    // interval_contest
-    pub fn sip_dialog_interval_contest(
-        requested: u64,
-        min_se: u64,
-        has_first: *mut u8,
-        first_least: *mut u64,
-        first_most: *mut u64,
-        has_retry: *mut u8,
-        retry_least: *mut u64,
-        retry_most: *mut u64,
-        only_requested: *mut u8,
-        least: *mut u64,
-    ) -> u8;
-
-    // dialog: creation
-    pub fn sip_dialog_new_uac(
-        method: *const u8,
-        method_len: usize,
-        request: *const u8,
-        request_len: usize,
-        status: u16,
-        response: *const u8,
-        response_len: usize,
-        local_uri: *const u8,
-        local_uri_len: usize,
-        remote_uri: *const u8,
-        remote_uri_len: usize,
-        out: *mut u8,
-        out_len: usize,
-        written: *mut usize,
-        least: *mut u64,
-    ) -> u8;
-    pub fn sip_dialog_new_uas(
-        method: *const u8,
-        method_len: usize,
-        request: *const u8,
-        request_len: usize,
-        status: u16,
-        response: *const u8,
-        response_len: usize,
-        local_uri: *const u8,
-        local_uri_len: usize,
-        remote_uri: *const u8,
-        remote_uri_len: usize,
-        out: *mut u8,
-        out_len: usize,
-        written: *mut usize,
-        least: *mut u64,
-    ) -> u8;
-
-    // dialog: changes of one record image, lent with its room
-    pub fn sip_dialog_image_update_from_request(
-        method: *const u8,
-        method_len: usize,
-        block: *const u8,
-        block_len: usize,
-        image: *mut u8,
-        image_len: usize,
-        used: *mut usize,
-    ) -> u8;
-    pub fn sip_dialog_image_update_from_response(
-        status: u16,
-        block: *const u8,
-        block_len: usize,
-        image: *mut u8,
-        image_len: usize,
-        used: *mut usize,
-    ) -> u8;
-    pub fn sip_dialog_image_confirm(image: *mut u8, image_len: usize, used: *mut usize) -> u8;
-    pub fn sip_dialog_image_terminate(image: *mut u8, image_len: usize, used: *mut usize) -> u8;
-    pub fn sip_dialog_image_next_local_cseq(image: *mut u8, image_len: usize, used: *mut usize, number: *mut u32)
-        -> u8;
-    pub fn sip_dialog_image_set_session_expires(
-        image: *mut u8,
-        image_len: usize,
-        used: *mut usize,
-        seconds: u64,
-        least: *mut u64,
-    ) -> u8;
-
-    // dialog: readings of one record image
-    pub fn sip_dialog_image_matches_request(
-        block: *const u8,
-        block_len: usize,
-        image: *const u8,
-        image_len: usize,
-        matches: *mut u8,
-    ) -> u8;
-    pub fn sip_dialog_image_needs_refresh(image: *const u8, image_len: usize, elapsed: u64, due: *mut u8) -> u8;
     pub fn sip_dialog_image_id(
         image: *const u8,
         image_len: usize,
@@ -321,8 +230,75 @@ extern "C" {
         place: *mut usize,
         length: *mut usize,
     ) -> u8;
-
-    // dialog: a store of records, lent with its room
+    pub fn sip_dialog_image_matches_request(
+        block: *const u8,
+        block_len: usize,
+        image: *const u8,
+        image_len: usize,
+        matches: *mut u8,
+    ) -> u8;
+    pub fn sip_dialog_image_needs_refresh(image: *const u8, image_len: usize, elapsed: u64, due: *mut u8) -> u8;
+    pub fn sip_dialog_new_uac(
+        method: *const u8,
+        method_len: usize,
+        request: *const u8,
+        request_len: usize,
+        status: u16,
+        response: *const u8,
+        response_len: usize,
+        local_uri: *const u8,
+        local_uri_len: usize,
+        remote_uri: *const u8,
+        remote_uri_len: usize,
+        out: *mut u8,
+        out_len: usize,
+        written: *mut usize,
+        least: *mut u64,
+    ) -> u8;
+    pub fn sip_dialog_new_uas(
+        method: *const u8,
+        method_len: usize,
+        request: *const u8,
+        request_len: usize,
+        status: u16,
+        response: *const u8,
+        response_len: usize,
+        local_uri: *const u8,
+        local_uri_len: usize,
+        remote_uri: *const u8,
+        remote_uri_len: usize,
+        out: *mut u8,
+        out_len: usize,
+        written: *mut usize,
+        least: *mut u64,
+    ) -> u8;
+    pub fn sip_dialog_image_confirm(image: *mut u8, image_len: usize, used: *mut usize) -> u8;
+    pub fn sip_dialog_image_terminate(image: *mut u8, image_len: usize, used: *mut usize) -> u8;
+    pub fn sip_dialog_image_next_local_cseq(image: *mut u8, image_len: usize, used: *mut usize, number: *mut u32) -> u8;
+    pub fn sip_dialog_image_set_session_expires(
+        image: *mut u8,
+        image_len: usize,
+        used: *mut usize,
+        seconds: u64,
+        least: *mut u64,
+    ) -> u8;
+    pub fn sip_dialog_image_update_from_request(
+        method: *const u8,
+        method_len: usize,
+        block: *const u8,
+        block_len: usize,
+        image: *mut u8,
+        image_len: usize,
+        used: *mut usize,
+    ) -> u8;
+    pub fn sip_dialog_image_update_from_response(
+        status: u16,
+        block: *const u8,
+        block_len: usize,
+        image: *mut u8,
+        image_len: usize,
+        used: *mut usize,
+    ) -> u8;
     pub fn sip_dialog_put(
         image: *const u8,
         image_len: usize,
@@ -403,8 +379,6 @@ extern "C" {
         terminated: *mut u64,
     ) -> u8;
     pub fn sip_dialog_sweep(store: *mut u8, store_len: usize, used: *mut usize) -> u8;
-
-    // dialog: readings of a store
     pub fn sip_dialog_get(
         call_id: *const u8,
         call_id_len: usize,
@@ -452,8 +426,6 @@ extern "C" {
         out_len: usize,
         written: *mut usize,
     ) -> u8;
-
-    // RSeq numbers
     pub fn sip_dialog_rseq_next(
         call_id: *const u8,
         call_id_len: usize,
@@ -492,8 +464,6 @@ extern "C" {
     ) -> u8;
     pub fn sip_dialog_rseq_len(store: *const u8, store_len: usize, used: usize, count: *mut usize) -> u8;
     pub fn sip_dialog_rseq_is_empty(store: *const u8, store_len: usize, used: usize, empty: *mut u8) -> u8;
-
-    // PRACK lists
     pub fn sip_dialog_prack_register(
         id: *const u8,
         id_len: usize,
@@ -553,5 +523,30 @@ extern "C" {
         store: *mut u8,
         store_len: usize,
         used: *mut usize,
+    ) -> u8;
+
+    // Counts of dialogs
+    pub fn sip_dialog_record_created(created: u64) -> u64;
+    pub fn sip_dialog_record_terminated(terminated: u64) -> u64;
+    pub fn sip_dialog_interval_contest(
+        requested: u64,
+        min_se: u64,
+        has_first: *mut u8,
+        first_least: *mut u64,
+        first_most: *mut u64,
+        has_retry: *mut u8,
+        retry_least: *mut u64,
+        retry_most: *mut u64,
+        only_requested: *mut u8,
+        least: *mut u64,
+    ) -> u8;
+    pub fn sip_dialog_add_verdict(time: u64, number: u8, run: *mut u8, run_len: usize, used: *mut usize) -> u8;
+    pub fn sip_dialog_worst_minute(
+        run: *const u8,
+        run_len: usize,
+        used: usize,
+        refusals: *mut usize,
+        found: *mut u8,
+        start: *mut u64,
     ) -> u8;
 }

@@ -6,6 +6,7 @@ mod c;
 pub mod prack;
 pub mod rseq;
 pub mod store;
+pub mod verdicts;
 
 /// A found part: the flag, and place and length in the caller's bytes.
 #[derive(Debug, Clone, Copy)]

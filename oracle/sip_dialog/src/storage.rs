@@ -57,6 +57,11 @@ pub fn set_remote_cseq(dialog: &mut crate::Dialog, number: u32) {
     dialog.remote_cseq = number;
 }
 
+/// Puts another identifier into a dialog: that of a response whose tags the Rust reads otherwise.
+pub fn set_id(dialog: &mut crate::Dialog, id: crate::DialogId) {
+    dialog.id = id;
+}
+
 /// Holds a dialog in a manager past its limits, without counting it: for stores handed in that are over them, and to undo
 /// an insert.
 pub fn hold(manager: &crate::DialogManager, dialog: crate::Dialog) {

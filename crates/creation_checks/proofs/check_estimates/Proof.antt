@@ -3,7 +3,7 @@ use borrow.Author.Needs.{needs}
 use mathlib.Core.Path.{sym, _∙_}
 use Rattle.limits.specs.Limits.{rustLimits}
 use Rattle.limits.specs.Outcome.{orElse}
-use Rattle.dialog.specs.Creation.{estimateCause}
+use Rattle.dialog_rules.specs.Creation.{estimateCause}
 use Rattle.creation_checks.proofs.CheckLaws.{stopped-first, passed-first}
 use Rattle.creation_checks.proofs.check_estimates.Statement.{statement}
 use Rattle.creation_checks.proofs.check_estimates.Tie as tie

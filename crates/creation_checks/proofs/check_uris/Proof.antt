@@ -1,7 +1,7 @@
 -- `creation_checks::check_uris` meets its contract: the local URI, then the remote one. Assumes nothing.
 use borrow.Author.Needs.{needs}
 use mathlib.Core.Path.{sym, _∙_}
-use Rattle.dialog.specs.Creation.{uriCause}
+use Rattle.dialog_rules.specs.Creation.{uriCause}
 use Rattle.creation_checks.proofs.CheckLaws.{stopped-first, passed-first}
 use Rattle.creation_checks.proofs.check_uris.Statement.{statement}
 use Rattle.creation_checks.proofs.check_uris.Tie as tie

@@ -3,7 +3,7 @@ use mathlib.Core.Path.{sym, ap, _∙_}
 use borrow.Author.Needs.{needs}
 use Rattle.limits.specs.Limits.{rustLimits}
 use Rattle.limits.specs.Outcome.{checkOf}
-use Rattle.session_timer_manager.proofs.Laws.{seconds-accepted, seconds-refused}
+use Rattle.session_seconds.proofs.Laws.{seconds-accepted, seconds-refused}
 use Rattle.creation_readings.proofs.check_interval.Statement.{statement}
 use Rattle.creation_readings.proofs.check_interval.Tie as tie
 

@@ -4,7 +4,7 @@ use mathlib.Core.Path.{sym, _∙_}
 use Rattle.limits.specs.Limits.{rustLimits}
 use Rattle.headers.specs.SessionExpires.{expiresNamed}
 use Rattle.record.specs.NumbersForm.{stateIn}
-use Rattle.dialog.specs.Creation.{sequenceIn}
+use Rattle.dialog_rules.specs.Creation.{sequenceIn}
 use Rattle.creation_readings.specs.Steps.{sideFor}
 use Rattle.creation_readings.proofs.ReadingLaws.{refused-number, refused-interval, given-numbers}
 use Rattle.creation_readings.proofs.read_numbers.Statement.{statement}

@@ -4,7 +4,7 @@ use mathlib.Core.Path.{_≡_, sym, ap, _∙_}
 use Rattle.limits.specs.Outcome.{given}
 use Rattle.record.specs.Record.{Numbers}
 use Rattle.record.specs.Rules.{localStep}
-use Rattle.dialog.specs.Updates.{localUpdate}
+use Rattle.dialog_rules.specs.Updates.{localUpdate}
 use Rattle.dialog_changes.proofs.ImageUpdateLaws.{One, one-used, used-refused, meaning-read, Ended, unread-ended, changed-ended, raised-refused, raised-not, raised-to}
 use Rattle.dialog_changes.proofs.next_local_cseq.Statement.{statement}
 use Rattle.dialog_changes.proofs.next_local_cseq.Tie as tie

@@ -4,7 +4,7 @@ use borrow.Author.Needs.{needs}
 use mathlib.Core.Path.{_≡_, refl, sym, ap, _∙_}
 use lib.Seq.{length-take-le}
 use Rattle.dialog_changes.proofs.ImageUpdateLaws.{over-used, within-used}
-use Rattle.dialog.specs.OneImage.{imageAnswer}
+use Rattle.dialog.specs.Readings.{imageAnswer}
 use Rattle.dialog_changes.proofs.read_used.Statement.{statement}
 use Rattle.dialog_changes.proofs.read_used.Tie as tie
 use Rattle.dialog_changes.proofs.read_used.Reads as reads

@@ -9,7 +9,7 @@ use Rattle.limits.specs.Limits.{rustLimits}
 use Rattle.limits.specs.Outcome.{Outcome, orElse}
 use Rattle.limits.proofs.Laws.{passed, stopped}
 use Rattle.output.specs.Output.{leaves, writtenFrom}
-use Rattle.dialog.specs.Creation.{Creation, textsCause, formCause, uriCause}
+use Rattle.dialog_rules.specs.Creation.{Creation, textsCause, formCause, uriCause}
 use Rattle.creation_checks.specs.Given.{creationOf}
 use Rattle.creation_readings.specs.Steps.{sideFor}
 use Rattle.dialog_creation.proofs.MadeLaws.{refusal}

@@ -3,7 +3,7 @@ use native.Mathlib.Omega.{arith}
 use mathlib.Core.Path.{_≡_, refl, sym, ap, _∙_}
 use lib.ListN.{length, take}
 use Rattle.limits.specs.Limits.{rustLimits}
-use Rattle.dialog.specs.Updates.{kindOf, requestUpdate}
+use Rattle.dialog_rules.specs.Updates.{kindOf, requestUpdate}
 use Rattle.dialog_changes.proofs.ImageUpdateLaws.{One, one-used, used-refused}
 use Rattle.dialog_updates.specs.AtPlace.{stepped}
 use Rattle.dialog_updates.specs.Messages.{requested}

@@ -4,7 +4,7 @@ use mathlib.Core.Bool.{Bool, cond}
 use Rattle.headers.specs.SessionExpires.{expiresNamed}
 use Rattle.record.specs.NumbersForm.{meaning}
 use Rattle.record.specs.Rules.{confirmStep}
-use Rattle.dialog.specs.Updates.{intervalFrom}
+use Rattle.dialog_rules.specs.Updates.{intervalFrom}
 use native.Mathlib.Omega.{arith}
 use borrow.Author.Needs.{needs}
 use Rattle.dialog_responses.proofs.answer.Statement.{statement}

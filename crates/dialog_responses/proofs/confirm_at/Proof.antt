@@ -14,7 +14,7 @@ use Rattle.route_set.specs.Routes.{routesOf}
 use Rattle.route_section.specs.Section.{Small}
 use Rattle.route_section.specs.declared.Section.{Section}
 use Rattle.routes_edit.specs.Rerouted.{renewedBy}
-use Rattle.dialog.specs.Updates.{retargeted, routesOr}
+use Rattle.dialog_rules.specs.Updates.{retargeted, routesOr}
 use Rattle.dialog_updates.proofs.PlaceLaws.{changed-as, result-as}
 use Rattle.dialog_responses.proofs.ResponseLaws.{no-routes, empty-routes, some-routes}
 use native.Mathlib.Omega.{arith}

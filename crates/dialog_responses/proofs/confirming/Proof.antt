@@ -2,7 +2,7 @@
 use mathlib.Core.Path.{_≡_, sym, ap, _∙_}
 use Rattle.record.specs.NumbersForm.{stateIn}
 use Rattle.record.specs.declared.numbers.State.{State}
-use Rattle.dialog.specs.Updates.{confirms}
+use Rattle.dialog_rules.specs.Updates.{confirms}
 use native.Mathlib.Omega.{arith}
 use borrow.Author.Needs.{needs}
 use Rattle.dialog_responses.proofs.confirming.Statement.{statement}

@@ -12,7 +12,7 @@ use Rattle.record.specs.Record.{Numbers, Record}
 use Rattle.image_edit.specs.Changes.{changed}
 use Rattle.image_edit.proofs.ImageCuts.{Held, held-used}
 use Rattle.route_set.specs.Routes.{routesOf}
-use Rattle.dialog.specs.Updates.{retargeted, confirms, routesOr, answered, responseUpdate}
+use Rattle.dialog_rules.specs.Updates.{retargeted, confirms, routesOr, answered, responseUpdate}
 use Rattle.dialog_updates.specs.AtPlace.{stepped}
 use Rattle.dialog_updates.proofs.PlaceLaws.{numbers-read, stepped-given, result-as}
 use Rattle.dialog_responses.proofs.ResponseLaws.{confirming-step, other-step}

@@ -5,7 +5,7 @@ use lib.ListN.{length, take}
 use Rattle.limits.specs.Limits.{rustLimits}
 use Rattle.limits.specs.Outcome.{Outcome, given}
 use Rattle.record.specs.Record.{Record}
-use Rattle.dialog.specs.Updates.{responseUpdate}
+use Rattle.dialog_rules.specs.Updates.{responseUpdate}
 use Rattle.dialog_changes.proofs.ImageUpdateLaws.{One, one-used, used-refused}
 use Rattle.dialog_updates.specs.AtPlace.{stepped}
 use Rattle.dialog_updates.specs.Messages.{responded}

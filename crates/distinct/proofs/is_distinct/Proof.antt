@@ -1,7 +1,6 @@
 -- `distinct::is_distinct` meets its contract: the sort of the places says whether a key stands twice. Assumes nothing.
 use borrow.Author.Needs.{needs}
-use Rattle.record.proofs.CodecLaws.{Bytes}
-use Rattle.record.proofs.CodecLaws.{bytes-all}
+use Rattle.codec.proofs.CodecLaws.{Bytes, bytes-all}
 use Rattle.distinct.proofs.Counts.{places-each, sort-answers}
 use Rattle.distinct.proofs.is_distinct.Statement.{statement}
 use Rattle.distinct.proofs.is_distinct.Tie as tie

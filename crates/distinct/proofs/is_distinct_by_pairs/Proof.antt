@@ -4,10 +4,9 @@ use native.Mathlib.Omega.{arith}
 use mathlib.Core.Path.{_≡_, sym, ap, subst, _∙_}
 use lib.ListN.{length}
 use borrow.Author.Tests.{not-true, not-false}
-use Rattle.record.proofs.CodecLaws.{Bytes}
-use Rattle.distinct.specs.Ends.{endAt}
+use Rattle.codec.proofs.CodecLaws.{Bytes, bytes-all}
+use Rattle.record_walk.specs.Walk.{endAt}
 use Rattle.distinct.specs.Pairs.{WholeFrom, aloneFrom}
-use Rattle.record.proofs.CodecLaws.{bytes-all}
 use Rattle.distinct.proofs.Alones.{Step, step, step-whole, Left, left-start, left-end, left-met, left-next}
 use Rattle.distinct.proofs.is_distinct_by_pairs.Statement.{statement}
 use Rattle.distinct.proofs.is_distinct_by_pairs.Tie as tie

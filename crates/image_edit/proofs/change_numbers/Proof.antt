@@ -9,7 +9,7 @@ use Prim.Native.Nat.{ℕ, _+_, _-_, _≤_}
 use lib.ListN.{length, take}
 use lib.Seq.{length-take-le}
 use Rattle.edit.specs.Edit.{putAt}
-use Rattle.record.specs.Codec.{two}
+use Rattle.codec.specs.Codec.{two}
 use Rattle.record.specs.NumbersForm.{meaning}
 use Rattle.record.specs.Record.{stateByteNumber}
 use Rattle.image_writer.specs.Parts.{numbersBytes}
@@ -20,11 +20,11 @@ use Rattle.image_edit.proofs.change_numbers.Statement.{statement}
 use Rattle.image_edit.proofs.change_numbers.Tie as tie
 use Rattle.image_edit.proofs.change_numbers.Reads as reads
 use Rattle.image_edit.proofs.change_numbers.Lts as lts
-use Rattle.image_edit.proofs.either.Reads as either-reads
+use Rattle.image.proofs.either.Reads as either-reads
 use Rattle.image_edit.proofs.new_map.Reads as new-map-reads
 use Rattle.image_edit.proofs.replace_numbers.Reads as replace-numbers-reads
-use Rattle.image_writer.proofs.write_byte.Reads as write-byte-reads
-use Rattle.image_writer.proofs.write_two.Reads as write-two-reads
+use Rattle.codec.proofs.write_byte.Reads as write-byte-reads
+use Rattle.codec.proofs.write_two.Reads as write-two-reads
 use Rattle.image_writer.proofs.state_byte.Reads as state-byte-reads
 
 -- the used bytes, and the record among them

@@ -8,14 +8,14 @@ use lib.ListN.{length}
 use Rattle.image_writer.proofs.FieldLaws.{front-size, front-written, wrote-five}
 use Rattle.image_writer.specs.Parts.{frontFrom, mapOfFront, idsBytes, urisBytes, numbersBytes, stateByteIn}
 use Rattle.record.specs.NumbersForm.{meaning}
-use Rattle.record.specs.Codec.{two}
+use Rattle.codec.specs.Codec.{two}
 use Rattle.edit.proofs.EditLaws.{wrote-as}
 use Rattle.image_writer.proofs.write_parts.Statement.{statement}
 use Rattle.image_writer.proofs.write_parts.Tie as tie
 use Rattle.image_writer.proofs.write_parts.Reads as reads
 use Rattle.image_writer.proofs.write_parts.Lts as lts
-use Rattle.image_writer.proofs.fields.write_byte.Reads as write-byte-reads
-use Rattle.image_writer.proofs.fields.write_two.Reads as write-two-reads
+use Rattle.codec.proofs.write_byte.Reads as write-byte-reads
+use Rattle.codec.proofs.write_two.Reads as write-two-reads
 use Rattle.image_writer.proofs.sections.front_map.Reads as front-map-reads
 use Rattle.image_writer.proofs.sections.state_byte.Reads as state-byte-reads
 use Rattle.image_writer.proofs.sections.write_ids.Reads as write-ids-reads

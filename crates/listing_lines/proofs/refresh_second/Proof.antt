@@ -1,4 +1,4 @@
--- `listing_lines::refresh_second` meets its contract: the half of a number that is there. Assumes nothing.
+-- `listing_lines::refresh_second` meets its contract: half of a number that is there, to the even one. Assumes nothing.
 use native.Mathlib.Omega.{arith}
 use borrow.Author.Needs.{needs}
 use mathlib.Core.Path.{_≡_, refl, sym, ap, _∙_}
@@ -13,6 +13,9 @@ enum-known-seconds c = search needs
 enum-told : tie.Need-enum-told
 enum-told c = search needs
 
+add-t7 : tie.Need-add-t7
+add-t7 c = search needs
+
 returns : tie.Need-returns
 returns c = rw (c .before .seconds .given .1) refl
 
@@ -20,4 +23,4 @@ returns-2 : tie.Need-returns-2
 returns-2 c = search needs
 
 pub refresh-second-spec : {M : Type 1} → statement M
-refresh-second-spec = tie.close (tie.spec enum-known-seconds enum-told returns returns-2)
+refresh-second-spec = tie.close (tie.spec enum-known-seconds add-t7 enum-told returns returns-2)

@@ -3,7 +3,7 @@ use native.Mathlib.Omega.{arith}
 use borrow.Author.Needs.{needs}
 use mathlib.Core.Path.{sym, _∙_}
 use lib.ListN.{length}
-use Rattle.record.proofs.CodecLaws.{bytes-all}
+use Rattle.codec.proofs.CodecLaws.{bytes-all}
 use Rattle.listing_text.proofs.RoomLaws.{never-full}
 use Rattle.listing_output.proofs.list_any.Statement.{statement}
 use Rattle.listing_output.proofs.list_any.Tie as tie

@@ -54,11 +54,11 @@ returns c =
     let l = c .before .before .before .before .before .loop in
     ap foundOf (sym (l .inv .1 ∙ first-done _ _ (l .at) (left-stop _ (l .at) (omega arith) (sym (c .before .before .read-line .ensures) ∙ c .enum-told .given .1))))
 
-slice-aggregate-same-text : tie.Need-slice-aggregate-same-text Inv-loop μ-loop
-slice-aggregate-same-text c = sym (length-take-le _ _ (simp (length-take, length-drop) (omega (arith, inside (c .before)))))
+slice-aggregate-is-named : tie.Need-slice-aggregate-is-named Inv-loop μ-loop
+slice-aggregate-is-named c = sym (length-take-le _ _ (simp (length-take, length-drop) (omega (arith, inside (c .before)))))
 
-same-text-requires : tie.Need-same-text-requires Inv-loop μ-loop
-same-text-requires c κs = search needs
+is-named-requires : tie.Need-is-named-requires Inv-loop μ-loop
+is-named-requires c κs = search needs
 
 add-trim-span : tie.Need-add-trim-span Inv-loop μ-loop
 add-trim-span c = omega (arith, inside (c .before .before .before))
@@ -104,7 +104,7 @@ add-t26 c = omega (arith, inside (c .before .before .before .before .before .bef
 returns-2 : tie.Need-returns-2 Inv-loop μ-loop
 returns-2 c =
     let k = c .before .before .before .before .before .before in
-    first-hit (k .before .before .before .before .before .before .before .before .before .args .block .now) (k .before .before .before .before .before .before .before .before .before .args .name .now) (k .before .before .before .before .before .before .loop .at) _ _ (c .before .trim-span .result) (c .before .trim-span .ensures .0) (line-is k) (sym (c .before .before .before .before .same-text .ensures) ∙ c .before .before .before .if1 .taken) ∙ ap foundOf (sym (k .before .before .before .before .before .before .loop .inv .1))
+    first-hit (k .before .before .before .before .before .before .before .before .before .args .block .now) (k .before .before .before .before .before .before .before .before .before .args .name .now) (k .before .before .before .before .before .before .loop .at) _ _ (c .before .trim-span .result) (c .before .trim-span .ensures .0) (line-is k) (sym (c .before .before .before .before .is-named .ensures) ∙ c .before .before .before .if1 .taken) ∙ ap foundOf (sym (k .before .before .before .before .before .before .loop .inv .1))
 
 add-at : tie.Need-add-at Inv-loop μ-loop
 add-at c = omega (arith, inside (c .before .before .before))
@@ -121,7 +121,7 @@ loop-less c = omega (arith, inside (c .before .before .before))
 loop-again : tie.Need-loop-again Inv-loop μ-loop
 loop-again c =
     let l = c .before .before .before .before .before .before .before .before .before .loop in
-    (omega (arith, inside (c .before .before .before)), l .inv .1 ∙ first-next _ _ (l .at) _ _ (line-is (c .before .before .before)) (sym (c .before .same-text .ensures) ∙ c .if1 .left))
+    (omega (arith, inside (c .before .before .before)), l .inv .1 ∙ first-next _ _ (l .at) _ _ (line-is (c .before .before .before)) (sym (c .before .is-named .ensures) ∙ c .if1 .left))
 
 returns-3 : tie.Need-returns-3 Inv-loop μ-loop
 returns-3 c =
@@ -142,8 +142,8 @@ find-from-spec =
     enum-known-n
     enum-told
     returns
-    slice-aggregate-same-text
-    same-text-requires
+    slice-aggregate-is-named
+    is-named-requires
     add-trim-span
     add-trim-span-2
     add-trim-span-3

@@ -4,7 +4,7 @@ use native.Mathlib.Nat.{sub-zero}
 use mathlib.Core.Path.{_≡_, sym, _∙_}
 use lib.ListN.{drop}
 use borrow.Author.Tests.{not-true, not-false, le-leb, lt-leb}
-use Rattle.record.specs.Codec.{readAll}
+use Rattle.codec.specs.Codec.{readAll}
 use Rattle.prack_body.specs.Layout.{pendingForm}
 use Rattle.prack_body.specs.Places.{isRead}
 use Rattle.prack_body.proofs.ReadLaws.{entry-at, entry-method, entry-flag, turn, stop, done}

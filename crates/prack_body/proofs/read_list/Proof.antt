@@ -2,7 +2,7 @@
 use Prim.Native.Nat.{_+_}
 use mathlib.Core.Path.{sym, _∙_}
 use borrow.Author.Tests.{not-true, not-false}
-use Rattle.record.proofs.CodecLaws.{bytes-all, bytes-drop}
+use Rattle.codec.proofs.CodecLaws.{bytes-all, bytes-drop}
 use Rattle.prack_body.proofs.ReadLaws.{list-none, list-absent, list-other, list-short, list-many, list-cut, list-unfit, list-whole}
 use native.Mathlib.Omega.{arith}
 use borrow.Author.Needs.{needs}

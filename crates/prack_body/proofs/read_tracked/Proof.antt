@@ -2,8 +2,8 @@
 use mathlib.Core.Path.{sym, _∙_}
 use lib.ListN.{drop}
 use Rattle.text.specs.declared.Span.{Span}
-use Rattle.record.specs.Codec.{text}
-use Rattle.image.proofs.AnswerLaws.{TextGot, text-got, text-not}
+use Rattle.codec.specs.Codec.{text}
+use Rattle.codec.proofs.AnswerLaws.{TextGot, text-got, text-not}
 use Rattle.prack_body.proofs.ReadLaws.{held-text, held-time, held-broken, held-whole}
 use native.Mathlib.Omega.{arith}
 use borrow.Author.Needs.{needs}

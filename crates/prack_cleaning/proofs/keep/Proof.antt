@@ -4,7 +4,7 @@ use Prim.Native.Nat.{ℕ, _+_, _-_, _≤_}
 use mathlib.Core.List.{List, _++_}
 use mathlib.Core.Logic.{⊎-elim}
 use lib.ListN.{length, drop}
-use Rattle.record.specs.Codec.{writeAll}
+use Rattle.codec.specs.Codec.{writeAll}
 use Rattle.prack_body.specs.Lists.{Pending}
 use Rattle.prack_body.specs.Layout.{pendingForm, AllFormed}
 use Rattle.prack_staying.specs.Test.{testOf}
@@ -23,11 +23,11 @@ abbrev μ-loop : tie.MeasureT-loop
 loop-holds : tie.Need-loop-holds Inv-loop μ-loop
 loop-holds c = let a = c .before .args in (omega arith, (omega arith, (refl, λ ps rest g n e. start (testOf (a .which)) (a .body .now) rest ps g e)))
 
-mul-passes : tie.Need-mul-passes Inv-loop μ-loop
-mul-passes c = search needs
+mul-at : tie.Need-mul-at Inv-loop μ-loop
+mul-at c = search needs
 
-add-passes : tie.Need-add-passes Inv-loop μ-loop
-add-passes c = search needs
+add-at : tie.Need-add-at Inv-loop μ-loop
+add-at c = search needs
 
 passes-requires : tie.Need-passes-requires Inv-loop μ-loop
 passes-requires c κs = search needs
@@ -37,12 +37,6 @@ mul-move-left c = search needs
 
 add-move-left : tie.Need-add-move-left Inv-loop μ-loop
 add-move-left c = search needs
-
-mul-move-left-2 : tie.Need-mul-move-left-2 Inv-loop μ-loop
-mul-move-left-2 c = search needs
-
-add-move-left-2 : tie.Need-add-move-left-2 Inv-loop μ-loop
-add-move-left-2 c = search needs
 
 move-left-requires : tie.Need-move-left-requires Inv-loop μ-loop
 move-left-requires c κs = search needs
@@ -102,13 +96,11 @@ keep-spec =
     Inv-loop
     μ-loop
     loop-holds
-    mul-passes
-    add-passes
+    mul-at
+    add-at
     passes-requires
     mul-move-left
     add-move-left
-    mul-move-left-2
-    add-move-left-2
     move-left-requires
     add-kept
     add-i

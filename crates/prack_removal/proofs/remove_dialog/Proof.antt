@@ -7,7 +7,7 @@ use mathlib.Core.Option.{none}
 use Rattle.limits.specs.Limits.{rustLimits}
 use Rattle.limits.specs.Outcome.{given}
 use Rattle.text.specs.Answers.{tooLong}
-use Rattle.record.proofs.CodecLaws.{Bytes, bytes-all}
+use Rattle.codec.proofs.CodecLaws.{Bytes, bytes-all}
 use Rattle.ordered_store.specs.Entries.{withoutEntry}
 use Rattle.prack_body.specs.declared.TrackedAt.{TrackedAt}
 use Rattle.prack_entries.specs.Entries.{keyOfText, keyOf}

@@ -6,7 +6,7 @@ use mathlib.Core.List.{List}
 use mathlib.Core.Option.{none, some}
 use Rattle.limits.specs.Limits.{rustLimits}
 use Rattle.limits.specs.Outcome.{given}
-use Rattle.record.proofs.CodecLaws.{Bytes, bytes-all}
+use Rattle.codec.proofs.CodecLaws.{Bytes, bytes-all}
 use Rattle.prack_body.specs.Lists.{entriesOf, firstOf, isAcknowledged}
 use Rattle.prack_list.specs.Steps.{positionIn}
 use Rattle.prack_body.specs.declared.TrackedAt.{TrackedAt}

@@ -13,7 +13,7 @@ use Rattle.limits.specs.Outcome.{given}
 use Rattle.text.specs.Answers.{tooLong}
 use Rattle.methods.specs.Methods.{isMethod}
 use Rattle.output.specs.Output.{fitted}
-use Rattle.record.proofs.CodecLaws.{Bytes, bytes-all}
+use Rattle.codec.proofs.CodecLaws.{Bytes, bytes-all}
 use Rattle.ordered_store.specs.Entries.{setEntry}
 use Rattle.prack_body.specs.Lists.{Pending, Tracked, registered, pendingOf}
 use Rattle.prack_body.specs.Body.{Holds}

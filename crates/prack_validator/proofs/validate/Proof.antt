@@ -13,7 +13,7 @@ use Rattle.limits.proofs.Laws.{passed, stopped}
 use Rattle.text.specs.Answers.{tooLong}
 use Rattle.msg.specs.Block.{blockCause}
 use Rattle.output.specs.Output.{fitted}
-use Rattle.record.proofs.CodecLaws.{Bytes, bytes-all}
+use Rattle.codec.proofs.CodecLaws.{Bytes, bytes-all}
 use Rattle.rack.specs.declared.RAck.{RAck}
 use Rattle.ordered_store.specs.Entries.{setEntry}
 use Rattle.prack_body.specs.Lists.{Tracked}

@@ -5,7 +5,7 @@ use mathlib.Core.List.{List, [], _∷_, _++_}
 use Prim.Native.Nat.{ℕ, _+_, _-_, _≤_}
 use lib.ListN.{length, take, drop}
 use Rattle.edit.specs.Edit.{putAt}
-use Rattle.record.specs.Codec.{two, text}
+use Rattle.codec.specs.Codec.{two, text}
 use Rattle.record.specs.Record.{stateByteNumber}
 use Rattle.record.specs.NumbersForm.{meaning}
 use Rattle.image_edit.specs.Maps.{mapFrom}

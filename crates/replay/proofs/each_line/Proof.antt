@@ -8,7 +8,7 @@ use Rattle.replay.proofs.each_line.Tie as tie
 
 abbrev Inv-loop : tie.InvT-loop
 Inv-loop list rows tallies₀ store₀ old₀ bytes₀ size₀ at₀ number₀ tallies store old bytes size at number =
-    (length store ≡ 720896) × ((length old ≡ 720896) × ((length bytes ≡ 720896) × (number ≤ at + 83)))
+    (length store ≡ 786432) × ((length old ≡ 786432) × ((length bytes ≡ 786432) × (number ≤ at + 85)))
 
 abbrev μ-loop : tie.MeasureT-loop
 μ-loop list rows tallies₀ store₀ old₀ bytes₀ size₀ at₀ number₀ tallies store old bytes size at number =

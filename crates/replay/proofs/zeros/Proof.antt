@@ -6,7 +6,7 @@ use Rattle.replay.proofs.zeros.Statement.{statement}
 use Rattle.replay.proofs.zeros.Tie as tie
 
 returns : tie.Need-returns
-returns c = sym (length-replicate {A = ℕ} 720896 0)
+returns c = sym (length-replicate {A = ℕ} 786432 0)
 
 pub zeros-spec : {M : Type 1} → statement M
 zeros-spec = tie.close (tie.spec returns)

@@ -11,7 +11,7 @@ use Rattle.limits.specs.Limits.{rustLimits}
 use Rattle.limits.specs.Outcome.{Outcome}
 use Rattle.text.specs.Text.{Piece}
 use Rattle.edit.specs.Edit.{over, putAt, spliced}
-use Rattle.record.specs.Codec.{two}
+use Rattle.codec.specs.Codec.{two}
 use Rattle.record.specs.NumbersForm.{meaning}
 use Rattle.record.specs.Record.{stateByteNumber}
 use Rattle.record.specs.Changes.{withNumbers, withRoutes}

@@ -1,6 +1,6 @@
 -- `rseq_manager::current_rseq` meets its contract. Assumes nothing.
 use mathlib.Core.Path.{sym, _∙_}
-use Rattle.record.proofs.CodecLaws.{bytes-all}
+use Rattle.codec.proofs.CodecLaws.{bytes-all}
 use Rattle.dialog_id.specs.Ident.{ident}
 use Rattle.rseq_manager.proofs.AnswerLaws.{current-refused, current-broken, current-is, current-none}
 use borrow.Author.Needs.{needs}

@@ -1,7 +1,7 @@
 -- `rseq_manager::len` meets its contract. Assumes nothing.
 use mathlib.Core.Path.{sym, _∙_}
 use lib.Seq.{length-take-le}
-use Rattle.record.proofs.CodecLaws.{bytes-all}
+use Rattle.codec.proofs.CodecLaws.{bytes-all}
 use Rattle.rseq_manager.proofs.AnswerLaws.{len-over, len-broken, len-is}
 use borrow.Author.Needs.{needs}
 use Rattle.rseq_manager.proofs.len.Statement.{statement}

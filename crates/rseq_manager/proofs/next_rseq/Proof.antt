@@ -5,7 +5,7 @@ use mathlib.Core.List.{List}
 use Rattle.limits.specs.Limits.{rustLimits}
 use Rattle.limits.specs.Outcome.{checkOf}
 use Rattle.limits.specs.declared.Check.the-variants as check
-use Rattle.record.proofs.CodecLaws.{Bytes, bytes-all}
+use Rattle.codec.proofs.CodecLaws.{Bytes, bytes-all}
 use Rattle.dialog_id.specs.Ident.{Ident, ident, identCause}
 use Rattle.rseq_entries.specs.Entries.{keyOfIdent}
 use Rattle.rseq_entries.specs.Places.{slotFor}
@@ -66,15 +66,15 @@ enum-known-number c = search needs
 raised-requires : tie.Need-raised-requires
 raised-requires c κs = search needs
 
-sub-write-number : tie.Need-sub-write-number
-sub-write-number c =
+sub-write-four : tie.Need-sub-write-four
+sub-write-four c =
     let d = c .before .before in
     let t = d .before .before .before .before .before .before .before .before in
     let w = holds (keyOfIdent (i t)) (s t) (used t) (slot d) in
     omega (arith, number-within (s t) (used t) (known t) (i t) w)
 
-write-number-requires : tie.Need-write-number-requires
-write-number-requires c κs =
+write-four-requires : tie.Need-write-four-requires
+write-four-requires c κs =
     let d = c .before .before in
     let t = d .before .before .before .before .before .before .before .before in
     let w = holds (keyOfIdent (i t)) (s t) (used t) (slot d) in
@@ -103,7 +103,7 @@ returns-2 : tie.Need-returns-2
 returns-2 c =
     let d = c .before .before .before .before .before in
     let t = d .before .before .before .before .before .before .before .before in
-    next-raised (i t) (s t) (used t) (known t) (t .before .before .before .before .args .n) (clear (d .before .before .before .before .before)) (slot d) (c .before .before .before .before .raised .ensures) (c .before .before .write-number .ensures)
+    next-raised (i t) (s t) (used t) (known t) (t .before .before .before .before .args .n) (clear (d .before .before .before .before .before)) (slot d) (c .before .before .before .before .raised .ensures) (c .before .before .write-four .ensures .1)
 
 same-length-2 : tie.Need-same-length-2
 same-length-2 c = search needs
@@ -133,8 +133,8 @@ next-rseq-spec =
     find-requires
     enum-known-number
     raised-requires
-    sub-write-number
-    write-number-requires
+    sub-write-four
+    write-four-requires
     enum-known-at
     first-number-requires
     insert-requires

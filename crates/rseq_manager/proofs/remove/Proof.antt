@@ -5,7 +5,7 @@ use mathlib.Core.List.{List}
 use Rattle.limits.specs.Limits.{rustLimits}
 use Rattle.limits.specs.Outcome.{checkOf}
 use Rattle.limits.specs.declared.Check.the-variants as check
-use Rattle.record.proofs.CodecLaws.{Bytes, bytes-all}
+use Rattle.codec.proofs.CodecLaws.{Bytes, bytes-all}
 use Rattle.dialog_id.specs.Ident.{Ident, ident, identCause}
 use Rattle.rseq_entries.specs.Entries.{keyOfIdent}
 use Rattle.rseq_entries.specs.Places.{slotFor}

@@ -7,9 +7,8 @@ use mathlib.Core.Option.{none}
 use mathlib.Core.Logic.{⊎-elim}
 use borrow.Author.Needs.{needs}
 use lib.ListN.{length, length-set}
-use Rattle.record.proofs.CodecLaws.{Bytes}
+use Rattle.codec.proofs.CodecLaws.{Bytes, bytes-all}
 use Rattle.image.proofs.AnswerLaws.{record-got, record-not}
-use Rattle.record.proofs.CodecLaws.{bytes-all}
 use Rattle.store.specs.Reading.{storeFrom, wholeRecords}
 use Rattle.store.proofs.WalkLaws.{Going, start, Step, step, broken, stored, full, ended-count, ended-table, broken-table}
 use Rattle.store.proofs.read_records.Statement.{statement}

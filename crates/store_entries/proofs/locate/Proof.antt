@@ -34,11 +34,11 @@ returns c =
     let a = c .before .before .before .before .before .before .before in
     (unread (a .args .bytes .now) (a .args .used) (name a) (sym (c .before .before .count .ensures) ∙ c .enum-told2 .given .1), tt)
 
-slice-aggregate-search : tie.Need-slice-aggregate-search
-slice-aggregate-search c = let a = start (c .before) .args in sym (length-take-le (a .used) (a .bytes .now) (store (c .before) .within))
+slice-aggregate-search-id : tie.Need-slice-aggregate-search-id
+slice-aggregate-search-id c = let a = start (c .before) .args in sym (length-take-le (a .used) (a .bytes .now) (store (c .before) .within))
 
-search-requires : tie.Need-search-requires
-search-requires c κs = let a = start (c .before) .args in stored (a .bytes .now) (a .used) (store (c .before))
+search-id-requires : tie.Need-search-id-requires
+search-id-requires c κs = let a = start (c .before) .args in stored (a .bytes .now) (a .used) (store (c .before))
 
 enum-known-at : tie.Need-enum-known-at
 enum-known-at c = search needs
@@ -50,7 +50,7 @@ returns-2 : tie.Need-returns-2
 returns-2 c =
     let k = c .before .before .before .before in
     let a = start k in
-    (nothing (a .args .bytes .now) (a .args .used) (name a) (store k) (sym (c .enum-told3 .given .1) ∙ c .before .before .search .ensures .0), tt)
+    (nothing (a .args .bytes .now) (a .args .used) (name a) (store k) (sym (c .enum-told3 .given .1) ∙ c .before .before .search-id .ensures .0), tt)
 
 returns-3 : tie.Need-returns-3
 returns-3 c =
@@ -58,8 +58,8 @@ returns-3 c =
     let a = start k in
     let at = c .before .at .given .0 .0 in
     let r = c .before .at .given .0 .1 .0 in (
-      one (a .args .bytes .now) (a .args .used) (name a) (store k) at r (sym (c .before .at .given .1) ∙ c .before .before .before .search .ensures .0),
-      ready (a .args .bytes .now) (a .args .used) (store k) at r (subst (Stands (take (a .args .used) (a .args .bytes .now))) (c .before .at .given .1) (c .before .before .before .search .ensures .1)),
+      one (a .args .bytes .now) (a .args .used) (name a) (store k) at r (sym (c .before .at .given .1) ∙ c .before .before .before .search-id .ensures .0),
+      ready (a .args .bytes .now) (a .args .used) (store k) at r (subst (Stands (take (a .args .used) (a .args .bytes .now))) (c .before .at .given .1) (c .before .before .before .search-id .ensures .1)),
     )
 
 pub locate-spec : {M : Type 1} → statement M
@@ -70,8 +70,8 @@ locate-spec =
     enum-told
     enum-told-2
     returns
-    slice-aggregate-search
-    search-requires
+    slice-aggregate-search-id
+    search-id-requires
     enum-known-at
     enum-told-3
     returns-2

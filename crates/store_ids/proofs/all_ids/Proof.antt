@@ -6,12 +6,12 @@ use lib.ListN.{length, take}
 use lib.Seq.{length-take-le}
 use Rattle.limits.specs.Limits.{rustLimits}
 use Rattle.output.specs.declared.Written.the-variants as written
-use Rattle.record.proofs.CodecLaws.{Bytes, bytes-all}
+use Rattle.codec.proofs.CodecLaws.{Bytes, bytes-all}
 use Rattle.book.specs.Calls.{Answer}
 use Rattle.record.specs.Store.{decodeAll}
 use Rattle.book.specs.Store.{outputAfter}
 use Rattle.dialog_manager.proofs.LookupLaws.{Kept, kept, stored}
-use Rattle.book.specs.Returned.{idsWritten}
+use Rattle.dialog_manager.specs.Answers.{idsWritten}
 use Rattle.store_ids.specs.Identifiers.{idsIn}
 use Rattle.store_ids.proofs.IdentifierLaws.{unread, too-long, fitting}
 use native.Mathlib.Omega.{arith}

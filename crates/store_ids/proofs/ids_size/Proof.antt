@@ -3,15 +3,15 @@ use Prim.Native.Nat.{ℕ, _-_}
 use mathlib.Core.Path.{sym, ap, _∙_}
 use mathlib.Core.List.{List}
 use lib.ListN.{length}
-use Rattle.record.proofs.CodecLaws.{Bytes, bytes-all}
-use Rattle.distinct.specs.Keys.{At}
+use Rattle.codec.proofs.CodecLaws.{Bytes, bytes-all}
+use Rattle.record_walk.specs.Walk.{At}
 use Rattle.store_ids.proofs.IdentifierLaws.{More, done, stands, next, Measured, measure, measured, small}
 use native.Mathlib.Omega.{arith}
 use Rattle.store_ids.proofs.ids_size.Statement.{statement}
 use Rattle.store_ids.proofs.ids_size.Tie as tie
 use Rattle.store_ids.proofs.ids_size.Reads as reads
 use Rattle.store_ids.proofs.ids_size.Lts as lts
-use Rattle.distinct.proofs.record_end.Reads as record-end-reads
+use Rattle.record_walk.proofs.record_end.Reads as record-end-reads
 use Rattle.store.proofs.ids_at.Reads as ids-at-reads
 use Rattle.store_ids.proofs.id_size.Reads as id-size-reads
 

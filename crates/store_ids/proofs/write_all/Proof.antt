@@ -4,15 +4,15 @@ use mathlib.Core.Path.{sym, ap, _∙_}
 use mathlib.Core.List.{List}
 use lib.ListN.{length}
 use Rattle.edit.specs.Edit.{over}
-use Rattle.record.proofs.CodecLaws.{Bytes, bytes-all}
-use Rattle.distinct.specs.Keys.{At}
+use Rattle.codec.proofs.CodecLaws.{Bytes, bytes-all}
+use Rattle.record_walk.specs.Walk.{At}
 use Rattle.store_ids.proofs.IdentifierLaws.{More, done, stands, next, Filled, fill, same-long, free, filled}
 use native.Mathlib.Omega.{arith}
 use Rattle.store_ids.proofs.write_all.Statement.{statement}
 use Rattle.store_ids.proofs.write_all.Tie as tie
 use Rattle.store_ids.proofs.write_all.Reads as reads
 use Rattle.store_ids.proofs.write_all.Lts as lts
-use Rattle.distinct.proofs.record_end.Reads as record-end-reads
+use Rattle.record_walk.proofs.record_end.Reads as record-end-reads
 use Rattle.store.proofs.ids_at.Reads as ids-at-reads
 use Rattle.store_ids.proofs.write_id.Reads as write-id-reads
 

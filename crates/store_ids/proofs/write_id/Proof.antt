@@ -1,6 +1,6 @@
 -- `store_ids::write_id` meets its contract: the three texts one after another. Assumes nothing.
 use Rattle.edit.proofs.EditLaws.{wrote-three}
-use Rattle.record.specs.Codec.{text}
+use Rattle.codec.specs.Codec.{text}
 use Rattle.text.specs.Spans.{partIn}
 use Rattle.store_ids.proofs.IdentifierLaws.{part-size}
 use native.Mathlib.Omega.{arith}

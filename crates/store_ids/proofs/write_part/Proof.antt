@@ -4,13 +4,13 @@ use native.Mathlib.Nat.{add-sub-cancel-left}
 use mathlib.Core.Path.{ap}
 use lib.ListN.{take, drop}
 use Rattle.edit.proofs.EditLaws.{wrote-as}
-use Rattle.record.specs.Codec.{text}
+use Rattle.codec.specs.Codec.{text}
 use borrow.Author.Needs.{needs}
 use Rattle.store_ids.proofs.write_part.Statement.{statement}
 use Rattle.store_ids.proofs.write_part.Tie as tie
 use Rattle.store_ids.proofs.write_part.Reads as reads
 use Rattle.store_ids.proofs.write_part.Lts as lts
-use Rattle.image_writer.proofs.write_text.Reads as write-text-reads
+use Rattle.codec.proofs.write_text.Reads as write-text-reads
 
 add-write-text : tie.Need-add-write-text
 add-write-text c = search needs

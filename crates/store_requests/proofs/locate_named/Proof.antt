@@ -2,7 +2,7 @@
 use native.Mathlib.Omega.{arith}
 use mathlib.Core.Path.{sym, ap, _∙_}
 use mathlib.Core.Option.{Option}
-use Rattle.dialog.proofs.MatchLaws.{Asked, asked, not-asked}
+use Rattle.dialog_rules.proofs.PlacedLaws.{Asked, asked, not-asked}
 use Rattle.dialog_id.specs.Ident.{Ident}
 use Rattle.store_entries.specs.Entries.{spotNamed, standingOf}
 use Rattle.store_requests.proofs.RequestLaws.{named-is, named-none}
@@ -15,10 +15,10 @@ start c = c .before .before .before .before .before .before
 
 -- the identifier of the request
 request-asked : (c : tie.After-known-told) → Asked (start c .args .block .now) (c .before .i .given .0 .0)
-request-asked c = asked (start c .args .block .now) (c .before .i .given .0 .0) (sym (c .before .i .given .1) ∙ c .before .before .before .request-id .ensures)
+request-asked c = asked (start c .args .block .now) (c .before .i .given .0 .0) (sym (c .before .i .given .1) ∙ c .before .before .before .request-id-in .ensures)
 
-request-id-requires : tie.Need-request-id-requires
-request-id-requires c κs = search needs
+request-id-in-requires : tie.Need-request-id-in-requires
+request-id-in-requires c κs = search needs
 
 enum-known-i : tie.Need-enum-known-i
 enum-known-i c = search needs
@@ -32,7 +32,7 @@ nowhere-requires c κs = search needs
 returns : tie.Need-returns
 returns c =
     let a = c .before .before .before .before .before .before in
-    let n = not-asked _ (sym (c .before .enum-told .given .1) ∙ c .before .before .before .request-id .ensures) in
+    let n = not-asked _ (sym (c .before .enum-told .given .1) ∙ c .before .before .before .request-id-in .ensures) in
     (c .nowhere .ensures .0 ∙ ap (λ (o : Option Ident). standingOf (spotNamed o (a .args .bytes .now) (a .args .used))) (sym (named-none (a .args .block .now) n)), c .nowhere .ensures .1)
 
 locate-parts-requires : tie.Need-locate-parts-requires
@@ -53,7 +53,7 @@ pub locate-named-spec : {M : Type 1} → statement M
 locate-named-spec =
     tie.close
     (tie.spec
-    request-id-requires
+    request-id-in-requires
     enum-known-i
     enum-told
     nowhere-requires

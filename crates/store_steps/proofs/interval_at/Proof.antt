@@ -10,7 +10,7 @@ use Rattle.record.specs.Record.{Numbers}
 use Rattle.record.specs.Rules.{intervalStep}
 use Rattle.image_edit.specs.Changes.{changed}
 use Rattle.image_edit.proofs.ImageCuts.{Held, held-used}
-use Rattle.dialog.specs.Updates.{intervalUpdate}
+use Rattle.dialog_rules.specs.Updates.{intervalUpdate}
 use Rattle.dialog_updates.specs.AtPlace.{stepped}
 use Rattle.dialog_updates.proofs.PlaceLaws.{numbers-read, stepped-refused, stepped-given, refused-leaves, result-as}
 use borrow.Author.Needs.{needs}

@@ -9,7 +9,7 @@ use Rattle.record.specs.Record.{Numbers}
 use Rattle.record.specs.Rules.{terminateStep}
 use Rattle.image_edit.specs.Changes.{changed}
 use Rattle.image_edit.proofs.ImageCuts.{Held, held-used}
-use Rattle.dialog.specs.Updates.{terminateUpdate}
+use Rattle.dialog_rules.specs.Updates.{terminateUpdate}
 use Rattle.dialog_updates.specs.AtPlace.{stepped}
 use Rattle.dialog_updates.proofs.PlaceLaws.{numbers-read, stepped-given, result-as}
 use borrow.Author.Needs.{needs}

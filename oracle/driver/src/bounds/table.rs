@@ -12,6 +12,19 @@ const REFRESH: &[&str] = &["image_needs_refresh"];
 const LISTING: &[&str] = &["listing"];
 const CONTEST: &[&str] = &["interval_contest"];
 
+/// All that read the tags of From and To.
+const TAGGED: &[&str] = &[
+    "extract_tag",
+    "from_request",
+    "from_response_uac",
+    "from_response_uas",
+    "new_uac",
+    "new_uas",
+    "image_matches_request",
+    "request",
+    "find_by_request",
+];
+
 /// The changes of an image, and those of them that can make it larger.
 const CHANGES: &[&str] = &[
     "image_update_from_request",
@@ -88,6 +101,9 @@ const RSEQS_BY_ID: &[&str] = &["rseq_next", "rseq_current", "rseq_remove"];
 const FIRSTS: &[&str] = &["0", "1", "2147483647", "2147483648", "2147483653", "4294967295"];
 const HELD: &[&str] = &["1", "2147483647", "2147483648", "4294967294", "4294967295"];
 
+/// Both that take a run of verdicts.
+const VERDICTS: &[&str] = &["add_verdict", "worst_minute"];
+
 /// All that take a PRACK store; those that clean; those by which a text's place matters.
 const PRACKS: &[&str] = &[
     "prack_register",
@@ -133,6 +149,19 @@ const PLACES: &[&str] = &["the only one", "the first", "between others", "the la
 const COUNTS: &[&str] = &["0", "18446744073709551614", "18446744073709551615"];
 
 pub const BOUNDS: &[Bound] = &[
+    (TAGGED, "tags said by", &["the Rust", "the run's own reading"]),
+    (
+        TAGGED,
+        "semicolon held",
+        &[
+            "in quotes",
+            "in quotes with a backslash",
+            "in brackets",
+            "by quotes left open",
+            "by a bracket left open",
+        ],
+    ),
+    (TAGGED, "semicolon held, answer", &["found", "none"]),
     (CREATIONS, "method, bytes", &["0", "8192", "8193"]),
     (CREATIONS, "request, bytes", &["0", "8192", "8193"]),
     (CREATIONS, "response, bytes", &["0", "8192", "8193"]),
@@ -501,4 +530,48 @@ pub const BOUNDS: &[Bound] = &[
     ),
     (&["prack_is_pracked", "prack_remove_pracked"], "response", FIRST_OF_RSEQ),
     (&["prack_remove_pracked"], "dropped", &["0", "1", "2", "all"]),
+    (VERDICTS, "verdicts", &["0", "1", "2", "4095", "4096"]),
+    (VERDICTS, "lent bytes", &["0"]),
+    (
+        VERDICTS,
+        "used bytes",
+        &["as many as lent", "one more than lent", "the largest number"],
+    ),
+    (
+        VERDICTS,
+        "store",
+        &[
+            "a byte changed",
+            "cut off",
+            "a byte behind it",
+            "two entries swapped",
+            "4,097 verdicts",
+        ],
+    ),
+    (
+        &["add_verdict"],
+        "result",
+        &["one byte less than lent", "as large as lent", "one byte more than lent"],
+    ),
+    (
+        &["add_verdict"],
+        "time",
+        &["0", "60000000000", "18446744073709551614", "18446744073709551615"],
+    ),
+    (
+        &["add_verdict"],
+        "time and the last one",
+        &["below the last one", "the last one", "above it"],
+    ),
+    (&["worst_minute"], "starts that have the most", &["one", "several"]),
+    (
+        &["worst_minute"],
+        "the start",
+        &["no refusal at all", "at an accepted verdict", "at a refusal"],
+    ),
+    (
+        &["worst_minute"],
+        "from the start to a refusal",
+        &["0", "59999999999", "60000000000", "60000000001"],
+    ),
 ];

@@ -7,7 +7,7 @@ use crate::blocks::{fill, shuffle};
 use crate::operations::values::{bracketed, full_route_block, route_value, session_value};
 use crate::random::Random;
 use crate::rules::LONGEST;
-use crate::texts::{damage, method_text, near, number_text, recased};
+use crate::texts::{damage, front_of_tag, method_text, near, number_text, recased, HELD_FRONTS};
 use crate::uris::{long_uri, short_uri, uri_text};
 use sip_dialog::DialogId;
 
@@ -241,17 +241,22 @@ pub fn named_request(random: &mut Random, id: Option<&DialogId>) -> Vec<u8> {
     block(random, lines, odd.has(2))
 }
 
-/// Call-ID, From and To of the peer's request; at times the tags are swapped, a line is absent or letters have another case.
+/// Call-ID, From and To of the peer's request; at times the tags are swapped, a line is absent, letters have another case, or a
+/// semicolon is held before the tag.
 fn named_lines(random: &mut Random, lines: &mut Vec<Vec<u8>>, id: &DialogId) {
     let (mut from, mut to) = (id.remote_tag(), id.local_tag());
     if random.one_in(12) {
         (from, to) = (to, from);
     }
     let absent = random.below(36);
+    let front = |random: &mut Random| match random.one_in(12) {
+        true => random.pick(&HELD_FRONTS),
+        false => ";tag=",
+    };
     let parts = [
         ("Call-ID", "", id.call_id()),
-        ("From", ";tag=", from),
-        ("To", ";tag=", to),
+        ("From", front(random), from),
+        ("To", front(random), to),
     ];
     for (index, (name, before, text)) in parts.into_iter().enumerate() {
         let recase = random.one_in(24);
@@ -348,7 +353,17 @@ fn identifier_lines(random: &mut Random, lines: &mut Vec<Vec<u8>>, odd: bool) {
         lines.remove(random.below(lines.len()));
     }
     if odd && random.one_in(2) {
-        let untagged = |random: &mut Random| random.pick(&["<sip:a>", "", "x;tag", "tag", ";tag =x"]).into();
+        const UNTAGGED: [&str; 8] = [
+            "<sip:a>",
+            "",
+            "x;tag",
+            "tag",
+            ";tag =x",
+            "\"n;tag=x\" <sip:a>",
+            "<sip:a;tag=x>",
+            "\"n;tag=x",
+        ];
+        let untagged = |random: &mut Random| random.pick(&UNTAGGED).into();
         let name = random.pick(&["From", "To"]);
         lines.insert(0, line(random, name, &untagged));
     }
@@ -356,12 +371,12 @@ fn identifier_lines(random: &mut Random, lines: &mut Vec<Vec<u8>>, odd: bool) {
 
 /// A value with a tag.
 fn tagged(random: &mut Random) -> Vec<u8> {
-    let before = random.pick(&["<sip:a@b>;tag=", "\"n\" <sip:a>; TAG=", "tag=", ";\ttag=", "x;y;Tag="]);
     let tag = match random.below(24) {
         0 => "t".repeat(near(random, 128)),
+        1 => "\"a;b\"".into(),
         _ => random.pick(&["x", "y", "z7", "", "x y", " x", "x;tag=w"]).into(),
     };
-    [before, &tag].concat().into()
+    [front_of_tag(random), &tag].concat().into()
 }
 
 /// A Session-Expires line or none; odd ones are at the bounds or of any form.

@@ -1,5 +1,6 @@
 //! `new_uac` and `new_uas`. The Rust says only `None` where it refuses; its number comes from its own helpers, asked in
-//! the order of its source.
+//! the order of its source. Where From or To of the response holds a semicolon, it is given other values in their place, and the
+//! record gets the identifier of the run's own reading.
 
 use super::calls::{self, Call};
 use super::image;
@@ -8,12 +9,14 @@ use super::room;
 use crate::answer::{lent_as, Answer, Input, Out, Width};
 use crate::bounds;
 use crate::messages::{request, response};
+use crate::misreadings::EVERY_SEMICOLON;
 use crate::random::Random;
 use crate::rules::{self, LONGEST};
-use crate::run::{Feed, Operation};
+use crate::run::{Fault, Feed, Operation};
+use crate::tags::{self, Message};
 use crate::texts::each_replacement;
 use sip_core::{Method, Request, Response, SipUri};
-use sip_dialog::storage::private;
+use sip_dialog::storage::{self, private};
 use sip_dialog::{Dialog, DialogError, DialogId};
 
 const OUTS: &[Out] = &[("length", Width::U64), ("least", Width::U64)];
@@ -24,7 +27,7 @@ const ROWS: &[u8] = &[0, 1, 2, 4, 5, 6, 7, 8, 9, 10, 13, 14, 18];
 pub const OPERATIONS: &[Operation] = &[
     Operation {
         name: "new_uac",
-        against: "Rust Dialog::new_uac",
+        against: "Rust Dialog::new_uac, tags as in extract_tag",
         texts: TEXTS,
         numbers: NUMBERS,
         outs: OUTS,
@@ -37,7 +40,7 @@ pub const OPERATIONS: &[Operation] = &[
     },
     Operation {
         name: "new_uas",
-        against: "Rust Dialog::new_uas",
+        against: "Rust Dialog::new_uas, tags as in extract_tag",
         texts: TEXTS,
         numbers: NUMBERS,
         outs: OUTS,
@@ -55,6 +58,20 @@ pub const OPERATIONS: &[Operation] = &[
     },
 ];
 
+pub const UAC_FAULT: Fault = Fault {
+    name: "new_uac-cut",
+    operation: "new_uac",
+    what: "every semicolon cuts, as in the Rust",
+    distort: |input, answer| misread(input, answer, port::new_uac),
+};
+
+pub const UAS_FAULT: Fault = Fault {
+    name: "new_uas-cut",
+    operation: "new_uas",
+    what: "every semicolon cuts, as in the Rust",
+    distort: |input, answer| misread(input, answer, port::new_uas),
+};
+
 /// Which of the two makes the record.
 #[derive(Clone, Copy)]
 pub enum Side {
@@ -63,6 +80,14 @@ pub enum Side {
 }
 
 impl Side {
+    /// The response that it reads the identifier from.
+    fn message(self) -> Message {
+        match self {
+            Side::Uac => Message::ResponseUac,
+            Side::Uas => Message::ResponseUas,
+        }
+    }
+
     /// The operation's name.
     pub fn name(self) -> &'static str {
         match self {
@@ -135,9 +160,11 @@ fn made(input: &Input, side: Side) -> Result<Dialog, u8> {
     ];
     limit(side.name(), &texts)?;
     let request_headers = rules::headers(request_block)?;
-    let response_headers = rules::headers(response_block)?;
+    rules::headers(response_block)?;
     let local = uri(local)?;
     let remote = uri(remote)?;
+    let id = identifier(response_block, side);
+    let response_headers = rules::headers(&tags::without_held(response_block))?;
     let status = input.numbers[0] as u16;
     bounds::number(side.name(), "status", status);
     let request = request(method_of(method), request_headers);
@@ -150,7 +177,23 @@ fn made(input: &Input, side: Side) -> Result<Dialog, u8> {
         Side::Uas => Dialog::new_uas(&request, &response, local, remote),
     };
     assert_eq!(dialog.is_some(), number.is_ok(), "the helpers' number isn't the Rust's");
-    number.map(|()| dialog.expect("made"))
+    number.map(|()| {
+        let mut dialog = dialog.expect("made");
+        // The Rust's own, but where the response holds a semicolon.
+        storage::set_id(&mut dialog, id.expect("the made dialog's"));
+        dialog
+    })
+}
+
+/// The identifier of the response.
+fn identifier(block: &[u8], side: Side) -> Option<DialogId> {
+    let parts = tags::identifier(side.name(), block, side.message());
+    tags::meet_answer(side.name(), tags::block_holds(block), parts.is_some());
+    let id = parts.map(|parts| tags::id_of(block, &parts))?;
+    bounds::number(side.name(), "Call-ID, bytes", id.call_id().len());
+    bounds::number(side.name(), "local tag, bytes", id.local_tag().len());
+    bounds::number(side.name(), "remote tag, bytes", id.remote_tag().len());
+    Some(id)
 }
 
 /// Refusal 1 for any of the texts, each given with what it is bounded as.
@@ -181,10 +224,7 @@ fn refusal(request: &Request, response: &Response, local: &SipUri, remote: &SipU
         Side::Uac => (DialogId::from_response_uac(response), response.headers()),
         Side::Uas => (DialogId::from_response_uas(response), request.headers()),
     };
-    let id = id.ok_or(4)?;
-    bounds::number(side.name(), "Call-ID, bytes", id.call_id().len());
-    bounds::number(side.name(), "local tag, bytes", id.local_tag().len());
-    bounds::number(side.name(), "remote tag, bytes", id.remote_tag().len());
+    id.ok_or(4)?;
     if !(100..300).contains(&response.code()) {
         return Err(5);
     }
@@ -280,4 +320,13 @@ fn ask(input: &Input, answer: &mut Answer, create: Create) -> u8 {
     lent_as(length, |length| {
         create(&given, room::lent(&mut answer.bytes), length, least)
     })
+}
+
+/// A planted fault: the port is asked with the tags that every semicolon cuts.
+fn misread(input: &Input, answer: &mut Answer, create: Create) {
+    if rules::headers(input.texts[2]).is_ok() {
+        let response = tags::with_tags_by(&EVERY_SEMICOLON, input.texts[2]);
+        *answer = Answer::before(OUTS, answer.pattern);
+        answer.number = ask(&input.and_text(2, &response), answer, create);
+    }
 }

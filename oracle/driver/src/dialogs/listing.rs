@@ -29,7 +29,7 @@ pub const OPERATIONS: &[Operation] = &[Operation {
         })
     },
     inputs: each_store,
-    fault: "the refresh second is rounded up",
+    fault: "a half of the refresh second goes up",
     distort: |input, answer| {
         if answer.number == 0 {
             let records = image::decode_all(input.texts[0]).expect("listed");
@@ -55,10 +55,15 @@ fn expect(input: &Input, answer: &mut Answer) -> Result<(), u8> {
     if records.len() > 12 {
         bounds::met(LISTING, "records", "over 12");
     }
-    let text = text_of(&records, |seconds| seconds / 2);
+    let text = text_of(&records, half);
     bounds::number(LISTING, "lent output", lent);
     bounds::room(LISTING, text.len(), lent);
     room::leave_text(answer, text.as_bytes())
+}
+
+/// Half of the seconds to the nearest whole second, a half going to the even one (02, request 8).
+fn half(seconds: u32) -> u32 {
+    (f64::from(seconds) / 2.0).round_ties_even() as u32
 }
 
 /// What the tables say of a store that has it.

@@ -13,7 +13,7 @@ pub mod updates;
 
 use crate::bounds;
 use crate::random::Random;
-use crate::run::{compare_each, feed_of, Feed, Operation};
+use crate::run::{compare_each, feed_of, Fault, Feed, Operation};
 use calls::Call;
 use creation::Side;
 
@@ -33,9 +33,13 @@ pub fn all() -> Vec<&'static Operation> {
     files.into_iter().flatten().collect()
 }
 
-/// Compares all of them: each with calls of its own, then in chains. `planted` says which have their fault put in.
+/// The faults of the operations that read tags, beside their own.
+pub const FAULTS: &[Fault] = &[creation::UAC_FAULT, creation::UAS_FAULT, readings::MATCHES_FAULT];
+
+/// Compares all of them: each with calls of its own, then in chains. `planted` says which have their fault put in, and which other
+/// faults are.
 pub fn compare_all(calls: usize, seed: u64, planted: impl Fn(&str) -> bool) -> Vec<Feed<'static>> {
-    let mut feeds = compare_each(all(), calls, seed, planted);
+    let mut feeds = compare_each(all(), FAULTS, calls, seed, planted);
     let mut random = Random::new(seed, "chains");
     for _ in 0..calls {
         chain(&mut random, &mut feeds);

@@ -7,13 +7,14 @@ use super::{each_image, Make};
 use crate::answer::{lent_as, Answer, Input, Out, Width, NOTHING};
 use crate::bounds;
 use crate::messages::request;
+use crate::misreadings::EVERY_SEMICOLON;
 use crate::operations::{ask_places, lent_part, take_part, ID_PARTS, PART, YES};
 use crate::places;
 use crate::random::Random;
 use crate::rules;
-use crate::run::Operation;
+use crate::run::{Fault, Operation};
+use crate::tags::{self, Message, REQUEST_3};
 use sip_core::{Method, SipUri};
-use sip_dialog::DialogId;
 use std::ops::Range;
 use std::time::Duration;
 
@@ -62,7 +63,7 @@ const NUMBER_PARTS: &[Out] = &[
 pub const OPERATIONS: &[Operation] = &[
     Operation {
         name: MATCHES,
-        against: "Rust Dialog::matches_request",
+        against: "Rust Dialog::matches_request, tags as in extract_tag",
         texts: &["image", "block"],
         numbers: &[],
         outs: YES,
@@ -207,6 +208,20 @@ pub const OPERATIONS: &[Operation] = &[
     },
 ];
 
+pub const MATCHES_FAULT: Fault = Fault {
+    name: "image_matches_request-cut",
+    operation: MATCHES,
+    what: "every semicolon cuts, as in the Rust",
+    distort: |input, answer| {
+        if answer.number == 0 {
+            let block = tags::with_tags_by(&EVERY_SEMICOLON, input.texts[1]);
+            lent_as(&mut answer.outs[0], |matches| {
+                port::image_matches_request(&block, input.texts[0], matches)
+            });
+        }
+    },
+};
+
 /// A reading that is given nothing else.
 fn make_plain(_: &mut Random, image: &[u8]) -> Call {
     Call::of_image(image)
@@ -251,28 +266,33 @@ fn record(input: &Input) -> Result<Record, u8> {
     image::decode(input.texts[0]).ok_or(3)
 }
 
-/// The Rust's yes or no.
+/// The Rust's yes or no. Where From or To holds a semicolon: whether the record has the identifier of the run's own reading.
 fn expect_matches(input: &Input, answer: &mut Answer) -> Result<(), u8> {
     let block = input.texts[1];
     bounds::number(MATCHES, "block, bytes", block.len());
     rules::limit(&[block])?;
     let request = request(Method::Invite, rules::headers(block)?);
-    let matches = record(input)?.dialog.matches_request(&request);
+    let dialog = record(input)?.dialog;
+    let parts = tags::identifier(MATCHES, block, Message::Request);
+    let held = tags::block_holds(block);
+    let matches = match held {
+        true => parts.is_some_and(|parts| tags::swapped(&tags::id_of(block, &parts)) == *dialog.id()),
+        false => dialog.matches_request(&request),
+    };
+    tags::meet_answer(MATCHES, held, matches);
     answer.outs[0] = u64::from(matches);
     Ok(())
 }
 
 /// Compares From's tag with the local one.
 fn distort_matches(input: &Input, answer: &mut Answer) {
-    let (Ok(headers), Some(record), 0) = (
-        rules::headers(input.texts[1]),
-        image::decode(input.texts[0]),
-        answer.number,
-    ) else {
+    let block = input.texts[1];
+    let (Some(record), 0) = (image::decode(input.texts[0]), answer.number) else {
         return;
     };
-    let id = DialogId::from_request(&request(Method::Invite, headers));
-    answer.outs[0] = u64::from(id.as_ref() == Some(record.dialog.id()));
+    let parts = tags::parts_by(&REQUEST_3, block, Message::Request);
+    let same = parts.is_some_and(|parts| tags::id_of(block, &parts) == *record.dialog.id());
+    answer.outs[0] = u64::from(same);
 }
 
 /// The Rust's yes or no.

@@ -66,12 +66,12 @@ pub fn parts(random: &mut Random) -> Parts {
 /// The longest text of an image.
 const LONGEST_TEXT: usize = u16::MAX as usize;
 
-/// An identifier part: short, empty, with blanks or semicolons, at times the longest.
+/// An identifier part: short, empty, with blanks, quotes or semicolons, at times the longest.
 fn id_text(random: &mut Random) -> String {
-    let text = if random.one_in(500) {
-        vec![b'x'; LONGEST_TEXT]
-    } else {
-        sequence(random, &["c1", "x", "@", " ", "\t", ";tag=", "~", "Y"], 3)
+    let text = match random.below(500) {
+        0 => vec![b'x'; LONGEST_TEXT],
+        1..50 => sequence(random, &["x", "\"", "\"a;b\"", "<c;d>"], 3),
+        _ => sequence(random, &["c1", "x", "@", " ", "\t", ";tag=", "~", "Y"], 3),
     };
     String::from_utf8(text).expect("ASCII")
 }

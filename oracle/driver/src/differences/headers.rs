@@ -83,11 +83,12 @@ pub const CASES: &[Case] = &[
             row.both(contact(&["Contact:x", "Contact:<sip:h>"]), "nothing");
         },
     ),
-    case("1.15", r#"value `";tag="<sip:h>`: tag `"<sip:h>`"#, |row| {
-        row.both(tag(r#"";tag="<sip:h>"#), r#"`\"<sip:h>`"#);
+    case("1.15", r#"values `<"a>;tag=b` and `<\>;tag=b`: tag `b`"#, |row| {
+        row.both(tag(r#"<"a>;tag=b"#), "`b`");
+        row.both(tag(r"<\>;tag=b"), "`b`");
     }),
-    case("1.16", "value `<sip:h;tag=a>`: tag `a>`", |row| {
-        row.both(tag("<sip:h;tag=a>"), "`a>`");
+    case("1.16", "value `<<a>;tag=b>`: tag `b>`", |row| {
+        row.both(tag("<<a>;tag=b>"), "`b>`");
     }),
     case(
         "1.17",

@@ -13,6 +13,7 @@ mod prack;
 mod record;
 mod row;
 mod stand_ins;
+mod tags;
 
 use document::Entry;
 use row::Row;
@@ -32,13 +33,14 @@ const fn case(row: &'static str, input: &'static str, run: fn(&mut Row)) -> Case
 
 /// All cases, in the order of the rows.
 fn cases() -> Vec<&'static Case> {
-    let files: [&'static [Case]; 6] = [
+    let files: [&'static [Case]; 7] = [
         headers::CASES,
         dialogs::CASES,
         prack::CASES,
         intervals::CASES,
         stand_ins::CASES,
         apart::CASES,
+        tags::CASES,
     ];
     files.into_iter().flatten().collect()
 }

@@ -23,12 +23,13 @@ pub use plain::each as each_plain;
 /// Compares so many mixed lists with all their faults put in, each by itself.
 pub fn planted(lists: usize, seed: u64) -> Everything {
     let operations = operations::all().into_iter().chain(dialogs::all());
-    let feed = |operation: &'static Operation| Feed::new(operation, 0, seed, false);
+    let feed = |operation: &'static Operation| Feed::new(operation, 0, seed, None);
     let mut everything = Everything {
         feeds: operations.map(feed).collect(),
         records: Run::new(&each_fault(RECORD_FAULTS)),
         rseqs: Run::new(&each_fault(RSEQ_FAULTS)),
         pracks: Run::new(&each_fault(PRACK_FAULTS)),
+        verdicts: Run::new(&[]),
     };
     let mut random = Random::new(seed, "mixed");
     each_plain(&mut everything, &mut random);

@@ -1,30 +1,37 @@
 //! Dialog identifiers: the tag of a value, the checks of `DialogId::new`, the three parts in a block.
 
 use super::{ask_places, ID_PARTS};
-use crate::answer::{Answer, Input, Width};
+use crate::answer::{Answer, Input, Out, Width};
 use crate::blocks::{each_block, Blocks};
-use crate::messages::{request, response};
+use crate::misreadings::{CLOSED_BY_QUOTE, ENDED_BY_SEGMENT, ENDLESS_ESCAPE, EVERY_SEMICOLON, NESTED};
 use crate::places;
 use crate::random::Random;
 use crate::rules::{self, LONGEST};
-use crate::run::{Feed, Operation};
-use crate::texts::{damage, each_replacement, each_sequence, each_value, near, sequence, Values};
-use sip_core::{Headers, Method};
+use crate::run::{Fault, Feed, Operation};
+use crate::tags::{self, Message, Reading};
+use crate::texts::{damage, each_replacement, each_sequence, each_value, front_of_tag, near, sequence, Values};
 use sip_dialog::{DialogError, DialogId};
 use smol_str::SmolStr;
 use std::ops::Range;
 
+const TAG: &str = "extract_tag";
+const REQUEST: &str = "from_request";
+const UAC: &str = "from_response_uac";
+const UAS: &str = "from_response_uas";
+
+const TAG_PARTS: &[Out] = &[("place", Width::U64), ("length", Width::U64)];
+
 pub const OPERATIONS: &[Operation] = &[
     Operation {
-        name: "extract_tag",
-        against: "Rust extract_tag",
+        name: TAG,
+        against: "Rust extract_tag; the run's own reading where a semicolon is held",
         texts: &["value"],
         numbers: &[],
-        outs: &[("place", Width::U64), ("length", Width::U64)],
+        outs: TAG_PARTS,
         rows: &[0, 1, 2, 4],
         expect: expect_tag,
         ask: ask_tag,
-        inputs: |feed| each_value(feed, &VALUES, &|feed, value| feed.compare(&Input::text(value))),
+        inputs: each_tag,
         fault: "the tag is trimmed at its front",
         distort: distort_tag,
     },
@@ -45,39 +52,39 @@ pub const OPERATIONS: &[Operation] = &[
         distort: distort_id_new,
     },
     Operation {
-        name: "from_request",
-        against: "Rust DialogId::from_request",
+        name: REQUEST,
+        against: "Rust DialogId::from_request, tags as in extract_tag",
         texts: &["block"],
         numbers: &[],
         outs: ID_PARTS,
         rows: &[0, 1, 2, 4],
-        expect: |input, answer| expect_parts(input, answer, Side::Request),
+        expect: |input, answer| expect_parts(REQUEST, input, answer, Message::Request),
         ask: |input, answer| ask_places(input, answer, port::from_request),
         inputs: |feed| each_block(feed, &BLOCKS, &|feed, block| feed.compare(&Input::text(block))),
         fault: "an empty From tag counts as absent",
         distort: |_, answer| refuse_empty(answer, 3),
     },
     Operation {
-        name: "from_response_uac",
-        against: "Rust DialogId::from_response_uac",
+        name: UAC,
+        against: "Rust DialogId::from_response_uac, tags as in extract_tag",
         texts: &["block"],
         numbers: &[],
         outs: ID_PARTS,
         rows: &[0, 1, 2, 4],
-        expect: |input, answer| expect_parts(input, answer, Side::Uac),
+        expect: |input, answer| expect_parts(UAC, input, answer, Message::ResponseUac),
         ask: |input, answer| ask_places(input, answer, port::from_response_uac),
         inputs: |feed| each_block(feed, &BLOCKS, &|feed, block| feed.compare(&Input::text(block))),
         fault: "an empty Call-ID counts as absent",
         distort: |_, answer| refuse_empty(answer, 1),
     },
     Operation {
-        name: "from_response_uas",
-        against: "Rust DialogId::from_response_uas",
+        name: UAS,
+        against: "Rust DialogId::from_response_uas, tags as in extract_tag",
         texts: &["block"],
         numbers: &[],
         outs: ID_PARTS,
         rows: &[0, 1, 2, 4],
-        expect: |input, answer| expect_parts(input, answer, Side::Uas),
+        expect: |input, answer| expect_parts(UAS, input, answer, Message::ResponseUas),
         ask: |input, answer| ask_places(input, answer, port::from_response_uas),
         inputs: |feed| each_block(feed, &BLOCKS, &|feed, block| feed.compare(&Input::text(block))),
         fault: "From's tag is the local one, as for uac",
@@ -90,20 +97,85 @@ pub const OPERATIONS: &[Operation] = &[
     },
 ];
 
+/// The faults of the tag reader, and that of one which holds no semicolon, in each operation that gives an identifier.
+pub const FAULTS: &[Fault] = &[
+    Fault {
+        name: "extract_tag-escape",
+        operation: TAG,
+        what: "an escape that never ends",
+        distort: |input, answer| misread_tag(&ENDLESS_ESCAPE, input, answer),
+    },
+    Fault {
+        name: "extract_tag-bracket",
+        operation: TAG,
+        what: "a bracket closed by a quote",
+        distort: |input, answer| misread_tag(&CLOSED_BY_QUOTE, input, answer),
+    },
+    Fault {
+        name: "extract_tag-nested",
+        operation: TAG,
+        what: "brackets that nest",
+        distort: |input, answer| misread_tag(&NESTED, input, answer),
+    },
+    Fault {
+        name: "extract_tag-segment",
+        operation: TAG,
+        what: "a quote that ends at the end of a segment",
+        distort: |input, answer| misread_tag(&ENDED_BY_SEGMENT, input, answer),
+    },
+    Fault {
+        name: "from_request-cut",
+        operation: REQUEST,
+        what: "every semicolon cuts, as in the Rust",
+        distort: |input, answer| misread_parts(input, answer, Message::Request),
+    },
+    Fault {
+        name: "from_response_uac-cut",
+        operation: UAC,
+        what: "every semicolon cuts, as in the Rust",
+        distort: |input, answer| misread_parts(input, answer, Message::ResponseUac),
+    },
+    Fault {
+        name: "from_response_uas-cut",
+        operation: UAS,
+        what: "every semicolon cuts, as in the Rust",
+        distort: |input, answer| misread_parts(input, answer, Message::ResponseUas),
+    },
+];
+
 const TAG_PIECES: &[&str] = &[";", "tag=", "TaG=", "tag", "=", " ", "\t", "x", "\"", "<sip:a>", "t"];
 
 const VALUES: Values = Values {
-    templates: &["<sip:a>;x=1; tag=Ab1 ;y"],
+    templates: &["<sip:a>;x=1; tag=Ab1 ;y", "\"a\\\";b\" <c;d>;tag=x"],
     pieces: TAG_PIECES,
     longest: 5,
     write: |random| sequence(random, TAG_PIECES, 14),
-    fillers: b" \t;xt=",
+    fillers: b" \t;xt=\"\\<>",
 };
 
+/// The pieces that hold semicolons, of which every sequence up to `LONGEST_HELD` is fed too.
+const HELD_PIECES: &[&str] = &[";", "tag=", "x", "\"", "\\", "<", ">"];
+const LONGEST_HELD: usize = 6;
+
+/// The values that every operation gets, then those of quotes, backslashes and brackets.
+fn each_tag(feed: &mut Feed) {
+    each_value(feed, &VALUES, &|feed, value| feed.compare(&Input::text(value)));
+    each_sequence(HELD_PIECES, LONGEST_HELD, &mut |value| {
+        feed.compare(&Input::text(value))
+    });
+    for _ in 0..feed.calls {
+        let value = sequence(&mut feed.random, HELD_PIECES, 20);
+        feed.compare(&Input::text(&value));
+    }
+}
+
 const BLOCKS: Blocks = Blocks {
-    templates: &["Call-ID: c\r\nFrom:a;tag=x\r\nTo:b; tag=y\r\n"],
+    templates: &[
+        "Call-ID: c\r\nFrom:a;tag=x\r\nTo:b; tag=y\r\n",
+        "Call-ID:c\r\nFrom:\"\\\";\" <b;c>;tag=x\r\nTo:tag=y\r\n",
+    ],
     name: "From",
-    pieces: &["tag=", ";", " ", "x"],
+    pieces: &["tag=", ";", " ", "x", "\"", "<", ">"],
     longest: 4,
     lines: &[
         "Call-ID:c\r\n",
@@ -114,6 +186,7 @@ const BLOCKS: Blocks = Blocks {
         "To:b;tag=yy;tag=z\r\n",
         "to:tag=\r\n",
         "To:\r\n",
+        "To:<b;tag=u>;tag=w\r\n",
         "Froms:;tag=w\r\n",
         "To:;tag=v\n",
     ],
@@ -124,21 +197,40 @@ const BLOCKS: Blocks = Blocks {
         _ if random.one_in(12) => sequence(random, TAG_PIECES, 8),
         _ => {
             let tail = sequence(random, &["x", "y", " ", ";a", ";tag=z"], 4);
-            let before = random.pick(&["<sip:a@b>;tag=", "\"n\" <sip:a>; TAG=", "tag=", ";\ttag="]);
-            [before.as_bytes(), &tail].concat()
+            [front_of_tag(random).as_bytes(), &tail].concat()
         }
     },
 };
 
-/// The Rust's tag, at its place; none is refusal 4.
+/// The tag at its place; none is refusal 4. It is the Rust's where the value holds no semicolon.
 fn expect_tag(input: &Input, answer: &mut Answer) -> Result<(), u8> {
     let value = rules::value(input.texts[0])?;
-    let tag = sip_dialog::extract_tag(&SmolStr::new(value));
-    let place = places::tag(input.texts[0], 0..value.len());
-    let tag = places::held(input.texts[0], place, tag.as_deref()).ok_or(4)?;
+    let held = tags::meet(TAG, &[value.as_bytes()]);
+    let place = tags::tag(input.texts[0], 0..value.len());
+    if !held {
+        let tag = sip_dialog::extract_tag(&SmolStr::new(value));
+        places::held(input.texts[0], place.clone(), tag.as_deref());
+    }
+    tags::meet_answer(TAG, held, place.is_some());
+    give_tag(answer, place.ok_or(4)?);
+    Ok(())
+}
+
+/// Gives a tag's place and length.
+fn give_tag(answer: &mut Answer, tag: Range<usize>) {
     answer.outs[0] = tag.start as u64;
     answer.outs[1] = tag.len() as u64;
-    Ok(())
+}
+
+/// A planted fault: answers the tag by another reading.
+fn misread_tag(reading: &Reading, input: &Input, answer: &mut Answer) {
+    let value = input.texts[0];
+    if matches!(answer.number, 0 | 4) {
+        let tag = tags::tag_by(reading, value, 0..value.len());
+        answer.number = if tag.is_some() { 0 } else { 4 };
+        answer.keep_all(TAG_PARTS);
+        tag.into_iter().for_each(|tag| give_tag(answer, tag));
+    }
 }
 
 /// The port's tag.
@@ -234,45 +326,31 @@ fn identifier_text(random: &mut Random, limit: usize) -> Vec<u8> {
     text
 }
 
-/// Which of the Rust's three functions is asked.
-#[derive(Clone, Copy)]
-enum Side {
-    Request,
-    Uac,
-    Uas,
+/// The identifier, its parts at their places; none is refusal 4. It is the Rust's where From and To hold no semicolon.
+fn expect_parts(operation: &'static str, input: &Input, answer: &mut Answer, message: Message) -> Result<(), u8> {
+    let block = input.texts[0];
+    rules::headers(block)?;
+    let parts = tags::identifier(operation, block, message);
+    tags::meet_answer(operation, tags::block_holds(block), parts.is_some());
+    give_parts(answer, parts.ok_or(4)?);
+    Ok(())
 }
 
-/// The Rust's identifier, its parts at their places; none is refusal 4.
-fn expect_parts(input: &Input, answer: &mut Answer, side: Side) -> Result<(), u8> {
-    let block = input.texts[0];
-    let headers = rules::headers(block)?;
-    let id = rust_id(headers, side).ok_or(4)?;
-    let tag = |name: &[u8]| places::tag(block, places::first_value(block, name)?);
-    let (local, remote) = match side {
-        Side::Request | Side::Uac => (tag(b"From"), tag(b"To")),
-        Side::Uas => (tag(b"To"), tag(b"From")),
-    };
-    let call_id = places::first_value(block, b"Call-ID");
-    let held =
-        |place: Option<Range<usize>>, text: &str| places::held(block, place, Some(text)).expect("held against a text");
-    let parts = [
-        held(call_id, id.call_id()),
-        held(local, id.local_tag()),
-        held(remote, id.remote_tag()),
-    ];
+/// Gives the places and lengths of an identifier's parts.
+fn give_parts(answer: &mut Answer, parts: [Range<usize>; 3]) {
     for (index, part) in parts.into_iter().enumerate() {
         answer.outs[2 * index] = part.start as u64;
         answer.outs[2 * index + 1] = part.len() as u64;
     }
-    Ok(())
 }
 
-/// The Rust's identifier of a message with these headers.
-fn rust_id(headers: Headers, side: Side) -> Option<DialogId> {
-    match side {
-        Side::Request => DialogId::from_request(&request(Method::Invite, headers)),
-        Side::Uac => DialogId::from_response_uac(&response(200, headers)?),
-        Side::Uas => DialogId::from_response_uas(&response(200, headers)?),
+/// A planted fault: answers the identifier with tags that every semicolon cuts.
+fn misread_parts(input: &Input, answer: &mut Answer, message: Message) {
+    if matches!(answer.number, 0 | 4) {
+        let parts = tags::parts_by(&EVERY_SEMICOLON, input.texts[0], message);
+        answer.number = if parts.is_some() { 0 } else { 4 };
+        answer.keep_all(ID_PARTS);
+        parts.into_iter().for_each(|parts| give_parts(answer, parts));
     }
 }
 

@@ -14,6 +14,8 @@ pub mod values;
 use crate::answer::{Answer, Input, Out, Width};
 use crate::run::{compare_each, Feed, Operation};
 
+pub use identifiers::FAULTS;
+
 /// All operations, in the order of the C declarations.
 pub fn all() -> Vec<&'static Operation> {
     let files: [&'static [Operation]; 9] = [
@@ -30,9 +32,9 @@ pub fn all() -> Vec<&'static Operation> {
     files.into_iter().flatten().collect()
 }
 
-/// Compares all of them. `planted` says which have their fault put in.
+/// Compares all of them. `planted` says which have their fault put in, and which other faults are.
 pub fn compare_all(calls: usize, seed: u64, planted: impl Fn(&str) -> bool) -> Vec<Feed<'static>> {
-    compare_each(all(), calls, seed, planted)
+    compare_each(all(), FAULTS, calls, seed, planted)
 }
 
 /// The out numbers of an operation that may find a part.

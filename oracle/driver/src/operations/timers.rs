@@ -320,13 +320,32 @@ fn distort_negotiate(input: &Input, answer: &mut Answer) {
     }
 }
 
+/// The times around two thirds of so many seconds and around all of them, and those whose triple is around the largest u64.
+fn elapsed_around(seconds: u64) -> [u64; 12] {
+    let interval = seconds * SECOND;
+    let due = interval * 2 / 3;
+    let triple = u64::MAX / 3;
+    [
+        0,
+        due / SECOND * SECOND,
+        due.saturating_sub(1),
+        due,
+        due + 1,
+        interval.saturating_sub(1),
+        interval,
+        triple - 1,
+        triple,
+        triple + 1,
+        u64::MAX - 1,
+        u64::MAX,
+    ]
+}
+
 /// Small and large intervals, each at the times around its two thirds and at the largest, then random ones.
 fn each_elapsed(feed: &mut Feed) {
     let largest = u64::from(u32::MAX);
     for seconds in (0..1500).chain([86_400, 86_401, largest - 1, largest]) {
-        let due = seconds * SECOND * 2 / 3;
-        let whole_second = due / SECOND * SECOND;
-        for elapsed in [0, whole_second, due.saturating_sub(1), due, due + 1, u64::MAX] {
+        for elapsed in elapsed_around(seconds) {
             for has in 0..2 {
                 give_elapsed(feed, has, seconds, elapsed);
             }

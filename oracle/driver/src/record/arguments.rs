@@ -3,6 +3,7 @@
 use crate::prack::call::{Action, Call as PrackCall};
 use crate::rseq::call::Call as RSeqCall;
 use crate::store::call::{Call, Id};
+use crate::verdicts::call::Call as VerdictCall;
 
 /// An argument.
 pub enum Argument<'a> {
@@ -84,5 +85,14 @@ impl Recorded for PrackCall {
             Action::RemoveDialog => {}
         }
         arguments
+    }
+}
+
+impl Recorded for VerdictCall {
+    fn own_arguments(&self) -> Vec<Argument<'_>> {
+        match self {
+            VerdictCall::Add { time, number } => vec![Number(*time), Number(u64::from(*number))],
+            VerdictCall::Worst => Vec::new(),
+        }
     }
 }

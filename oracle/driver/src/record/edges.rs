@@ -226,9 +226,28 @@ fn test_sheet() {
             feed("determine_refresher_role", &[text], &[1, is_uac]);
         }
     }
-    feed("extract_tag", &["\"a;tag=x\" <sip:r@h>;tag=y"], &[]);
+    for value in TAGS {
+        feed("extract_tag", &[value], &[]);
+    }
     feed("route_count", &["Record-Route: \"a<b\" <sip:p@h>, <sip:q@h>\r\n"], &[]);
 }
+
+/// Values with semicolons in quotes or in brackets, or with what only looks like it: change request 3. The first is a line of the
+/// test sheet.
+const TAGS: [&str; 12] = [
+    "\"a;tag=x\" <sip:r@h>;tag=y",
+    "<sip:r@h;lr>;tag=x",
+    "\"<\";tag=a",
+    "<<a>;tag=b>",
+    "<\"a>;tag=b",
+    "\"a;tag=x",
+    "<a;tag=x",
+    "\\\";tag=a",
+    "<\\>;tag=a",
+    "\"\\\";tag=a\";tag=b",
+    "\"\\\\\";tag=a",
+    ";tag=\"a;b\"",
+];
 
 /// Readings of a value.
 const VALUES: [&str; 5] = [
@@ -292,5 +311,5 @@ fn feed(name: &str, texts: &[&str], numbers: &[u64]) {
         input.texts[index] = text.as_bytes();
     }
     input.numbers[..numbers.len()].copy_from_slice(numbers);
-    Feed::new(of_name.expect("an operation of that name"), 0, 1, false).compare(&input);
+    Feed::new(of_name.expect("an operation of that name"), 0, 1, None).compare(&input);
 }

@@ -1,5 +1,5 @@
-//! Whole lists of calls, each call lent what the last one left: at 10,000 records, at 100 Early ones of a Call-ID, and short
-//! random ones of each kind of store.
+//! Whole lists of calls, each call lent what the last one left: at 10,000 records, at 100 Early ones of a Call-ID, at 4,096 verdicts,
+//! and short random ones of each kind of store.
 
 use super::writer::Writer;
 use super::{Key, RECORDER};
@@ -12,6 +12,7 @@ use crate::store::dialogs::Dialogs;
 use crate::store::directed;
 use crate::store::lists::{self, List};
 use crate::store::run::Run;
+use crate::verdicts::{self, call::Verdicts, ENTRY_SIZE};
 use sip_dialog::DialogId;
 use sip_dialog::DialogStateType::{self, Confirmed, Early, Terminated};
 use std::collections::BTreeSet;
@@ -134,7 +135,27 @@ pub fn record(writer: &mut Writer) -> BTreeSet<Key> {
         let (mut run, mut random) = (Run::new(&[]), Random::new(seed, "recorded"));
         prack::lists::list(&mut run, &mut random);
     });
+    full_run(writer, &mut met);
+    short(writer, &mut met, "verdicts", |seed| {
+        let (mut run, mut random) = (Run::new(&[]), Random::new(seed, "recorded"));
+        verdicts::lists::list(&mut run, &mut random);
+    });
     met
+}
+
+/// Records calls on 4,095 verdicts and more that are alike, byte by byte, and on 4,097 of them.
+fn full_run(writer: &mut Writer, met: &mut BTreeSet<Key>) {
+    let store = [11; 4095 * ENTRY_SIZE];
+    let calls = captured(met, || {
+        let (mut run, mut random) = (Run::<Verdicts>::new(&[]), Random::new(1, "4,096 verdicts"));
+        let mut list = List::new(&mut run, &mut random, &store, [0, 0]);
+        for call in verdicts::most_calls(u64::from_be_bytes([11; 8])) {
+            list.compare(&call, store.len() + 20);
+        }
+        verdicts::over_most(&mut run, &mut random, &[11; 4097 * ENTRY_SIZE]);
+    });
+    writer.remark("4,096 verdicts");
+    calls.iter().for_each(|call| writer.on_store(call));
 }
 
 /// Records the lists on stores at and over their limits.

@@ -7,6 +7,7 @@ mod edges;
 mod forms;
 mod full;
 mod line;
+mod rows;
 mod store_call;
 mod writer;
 
@@ -18,13 +19,15 @@ use crate::prack;
 use crate::prack::call::Pracks;
 use crate::rseq;
 use crate::rseq::call::RSeqs;
-use crate::run::{compare_each, Operation, PATTERNS};
+use crate::run::{Operation, PATTERNS};
 use crate::store;
 use crate::store::dialogs::Dialogs;
 use crate::store::kind::Kind;
 use crate::store::memory::Left;
+use crate::verdicts;
+use crate::verdicts::call::Verdicts;
 use arguments::Recorded;
-use forms::form_of;
+use forms::{form_of, sources_of};
 use std::cell::RefCell;
 use std::collections::{BTreeMap, BTreeSet};
 use store_call::StoreCall;
@@ -239,7 +242,7 @@ fn one_line(operation: &Operation, input: &Input, expected: &Answer) -> String {
 /// The name and the arguments in the order of the C declaration.
 fn arguments_of(name: &str, input: &Input, outs: &[u64; 8], lent: &[u8]) -> String {
     let mut text = name.to_string();
-    for word in form_of(name).arguments.split_whitespace() {
+    for word in sources_of(name).split_whitespace() {
         let index: usize = word[1..].parse().unwrap_or_default();
         let argument = match &word[..1] {
             "t" => line::text(input.texts[index]),
@@ -255,7 +258,7 @@ fn arguments_of(name: &str, input: &Input, outs: &[u64; 8], lent: &[u8]) -> Stri
 /// Makes the list and what a right program prints, and writes both.
 pub fn run() -> bool {
     RECORDER.set(Some(Recorder::default()));
-    drop(compare_each(operations::all(), CALLS, SEED, |_| false));
+    drop(operations::compare_all(CALLS, SEED, |_| false));
     with(|recorder| recorder.directed = true);
     edges::each_call();
     with(|recorder| recorder.directed = false);
@@ -263,6 +266,7 @@ pub fn run() -> bool {
     drop(store::compare_all(LISTS, SEED, &[]));
     drop(rseq::compare_all(LISTS, SEED, &[]));
     drop(prack::compare_all(LISTS, SEED, &[]));
+    drop(verdicts::compare_all(LISTS, SEED, &[]));
     let mut writer = Writer::new();
     let recorder = RECORDER.take().expect("the recorder");
     let mut covered: BTreeSet<Key> = recorder.kept.keys().cloned().collect();
@@ -277,7 +281,13 @@ pub fn run() -> bool {
 /// Prints the rows and the sides of bounds that no recorded call has.
 fn report(covered: &BTreeSet<Key>) {
     let mut lacking = 0;
-    let stores = [Dialogs::OPERATIONS, RSeqs::OPERATIONS, Pracks::OPERATIONS].concat();
+    let stores = [
+        Dialogs::OPERATIONS,
+        RSeqs::OPERATIONS,
+        Pracks::OPERATIONS,
+        Verdicts::OPERATIONS,
+    ]
+    .concat();
     let leaves = operations::all()
         .into_iter()
         .chain(dialogs::all())

@@ -1,7 +1,7 @@
 //! The list as it is written, with the memory that the program then has.
 
-use super::forms::FORMS;
 use super::line;
+use super::rows::ROWS;
 use super::store_call::StoreCall;
 use super::{Kept, Recorder};
 use std::collections::{BTreeMap, BTreeSet};
@@ -25,7 +25,7 @@ pub struct Writer {
 impl Writer {
     /// The head: a row for each operation.
     pub fn new() -> Writer {
-        let rows = FORMS.iter().map(|form| format!("{} {}\n", form.name, form.kinds));
+        let rows = ROWS.iter().map(|form| format!("{} {}\n", form.name, form.kinds));
         Writer {
             text: rows.collect::<String>() + "\n" + include_str!("head.txt"),
             calls: BTreeMap::new(),
@@ -36,7 +36,7 @@ impl Writer {
 
     /// All calls that were kept, by operation, the shortest first; none twice.
     pub fn kept(&mut self, recorder: &Recorder) {
-        for form in &FORMS {
+        for form in &ROWS {
             let mut calls: Vec<_> = recorder
                 .kept
                 .values()
@@ -129,7 +129,7 @@ impl Writer {
     /// Writes the two files.
     pub fn finish(self) -> bool {
         let mut lines = String::new();
-        for form in &FORMS {
+        for form in &ROWS {
             let calls = self.calls.get(form.name).copied().unwrap_or_default();
             lines += &format!("{}: {calls} calls\n", form.name);
         }

@@ -8,6 +8,7 @@ use crate::dialogs::image::{self, encode, text_field};
 use crate::dialogs::updates::{raise_local, set_interval, take_request, take_response};
 use crate::messages::request;
 use crate::rules;
+use crate::tags::{self, Message};
 use sip_core::{Headers, Method};
 use sip_dialog::{Dialog, DialogId};
 use std::collections::HashSet;
@@ -78,16 +79,31 @@ impl Book {
         Some([before, encode(&dialog).len()])
     }
 
-    /// The identifier that a call names: that of the dialog which the Rust finds by its request, or the given one.
+    /// The identifier that a call names: that of the dialog which is found by its request, or the given one.
     pub fn named(&self, call: &Call, headers: &Headers) -> Option<DialogId> {
         match call {
             Call::Request { .. } | Call::FindByRequest(_) => {
-                let request = request(Method::Invite, headers.clone());
-                meet_identifier(call.name(), DialogId::from_request(&request));
-                let found = self.rust.manager.find_by_request(&request)?;
-                Some(found.id().clone())
+                let found = self.found(call, headers);
+                tags::meet_answer(call.name(), tags::block_holds(call.block()), found.is_some());
+                Some(found?.id().clone())
             }
             _ => dialog_id(call.id()?),
+        }
+    }
+
+    /// The dialog that the Rust finds by a request. Where From or To holds a semicolon: the one that it gets by the identifier of
+    /// the run's own reading.
+    fn found(&self, call: &Call, headers: &Headers) -> Option<Dialog> {
+        let block = call.block();
+        let parts = tags::identifier(call.name(), block, Message::Request);
+        let id = parts.map(|parts| tags::id_of(block, &parts));
+        meet_identifier(call.name(), id.as_ref());
+        match tags::block_holds(block) {
+            true => self.dialog(&tags::swapped(&id?)),
+            false => self
+                .rust
+                .manager
+                .find_by_request(&request(Method::Invite, headers.clone())),
         }
     }
 
@@ -121,8 +137,8 @@ impl Book {
     }
 }
 
-/// Says which identifier the Rust reads from a request.
-fn meet_identifier(operation: &'static str, id: Option<DialogId>) {
+/// Says which identifier a request has.
+fn meet_identifier(operation: &'static str, id: Option<&DialogId>) {
     let side = match id {
         None => "a part absent",
         Some(id) if id.call_id().is_empty() => "an empty Call-ID",

@@ -22,7 +22,7 @@ pub const OPERATIONS: &[Entry] = &[
     entry(PUT, "Rust DialogManager::insert", &[0, 3, 16, 17, 18]),
     entry(
         REQUEST,
-        "Rust find_by_request, remove, update_from_request, insert",
+        "Rust find_by_request (tags as in extract_tag), remove, update_from_request, insert",
         &[0, 1, 2, 3, 4, 9, 10, 11, 12, 15, 18],
     ),
     entry(
@@ -47,7 +47,7 @@ pub const OPERATIONS: &[Entry] = &[
     ),
     entry(
         FIND_BY_REQUEST,
-        "Rust DialogManager::find_by_request",
+        "Rust DialogManager::find_by_request, tags as in extract_tag",
         &[0, 1, 2, 3, 15],
     ),
     entry(COUNT, "Rust DialogManager::count", &[0, 3]),

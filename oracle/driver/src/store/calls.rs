@@ -15,7 +15,10 @@ impl Pool {
     /// Up to twelve identifiers, at times eighty, of up to three Call-IDs.
     pub fn new(random: &mut Random) -> Pool {
         let call_ids = [0; 3].map(|_| random.pick(&["c1", "c1", "c2@h", "a b", "C1", ""]));
-        let tag = |random: &mut Random| random.pick(&["x", "y", "z7", "X", "x y", ""]);
+        let tag = |random: &mut Random| match random.one_in(16) {
+            true => "\"a;b\"",
+            false => random.pick(&["x", "y", "z7", "X", "x y", ""]),
+        };
         let one = |random: &mut Random| match random.below(16) {
             0 => records::parts(random).id,
             _ => DialogId::unchecked_new(random.pick(&call_ids), tag(random), tag(random)),

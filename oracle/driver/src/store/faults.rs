@@ -10,10 +10,10 @@ use super::memory::{Left, Store};
 use super::run;
 use crate::dialogs::image::{self, encode, text_field, Parts};
 use crate::dialogs::room;
-use crate::messages::request;
-use sip_core::{Headers, Method};
+use crate::misreadings::EVERY_SEMICOLON;
+use crate::tags::{self, Message, REQUEST_3};
+use sip_dialog::Dialog;
 use sip_dialog::DialogStateType::{Early, Terminated};
-use sip_dialog::{Dialog, DialogId};
 
 type Scene<'a> = run::Scene<'a, Dialogs>;
 type Fault = run::Fault<Dialogs>;
@@ -92,6 +92,12 @@ pub const FAULTS: &[Fault] = &[
         operation: REQUEST,
         what: "18 while bytes are free: an exact fit is refused",
         distort: run::refuse_exact_fit,
+    },
+    Fault {
+        name: "request-cut",
+        operation: REQUEST,
+        what: "every semicolon cuts in From and To, as in the Rust",
+        distort: misread_tags,
     },
     Fault {
         name: "response",
@@ -176,6 +182,12 @@ pub const FAULTS: &[Fault] = &[
         operation: FIND_BY_REQUEST,
         what: "the tags aren't swapped",
         distort: find_unswapped,
+    },
+    Fault {
+        name: "find_by_request-cut",
+        operation: FIND_BY_REQUEST,
+        what: "every semicolon cuts in From and To, as in the Rust",
+        distort: misread_tags,
     },
     Fault {
         name: "count",
@@ -332,13 +344,30 @@ fn find_last(scene: &Scene, left: &mut Left) {
 
 /// The tag of From is taken for the local one.
 fn find_unswapped(scene: &Scene, left: &mut Left) {
+    let block = scene.call.block();
     if matches!(left.number, 0 | 15) {
-        let headers = Headers::parse(scene.call.block()).expect("a block");
-        if let Some(id) = DialogId::from_request(&request(Method::Invite, headers)) {
+        if let Some(parts) = tags::parts_by(&REQUEST_3, block, Message::Request) {
             *left = scene.before.clone();
-            ask(&Call::Get(texts_of(&id)), scene.lent, left);
+            ask(&Call::Get(texts_of(&tags::id_of(block, &parts))), scene.lent, left);
         }
     }
+}
+
+/// The port is asked with the tags that every semicolon cuts.
+fn misread_tags(scene: &Scene, left: &mut Left) {
+    if matches!(left.number, 1..=3) {
+        return;
+    }
+    let block = tags::with_tags_by(&EVERY_SEMICOLON, scene.call.block());
+    let call = match scene.call {
+        Call::Request { method, .. } => Call::Request {
+            method: method.clone(),
+            block,
+        },
+        _ => Call::FindByRequest(block),
+    };
+    *left = scene.before.clone();
+    ask(&call, scene.lent, left);
 }
 
 /// The identifiers are written in the order of their texts.

@@ -4,9 +4,10 @@ use borrow.Author.Needs.{needs}
 use mathlib.Core.Path.{_≡_, refl, sym, ap, _∙_}
 use mathlib.Core.Bool.{true, false}
 use mathlib.Core.Option.{none}
-use Rattle.dialog.proofs.MatchLaws.{Asked, asked, not-asked, Held, held, ids-within, bad-block, bad-image, no-part, matched}
+use Rattle.dialog_rules.proofs.PlacedLaws.{Asked, asked, not-asked}
+use Rattle.dialog.proofs.MatchLaws.{Held, held, ids-within, bad-block, bad-image, no-part, matched}
 use Rattle.dialog.specs.declared.matching.Matches.the-variants.{Yes, No}
-use Rattle.record.proofs.CodecLaws.{Bytes, bytes-all}
+use Rattle.codec.proofs.CodecLaws.{Bytes, bytes-all}
 use Rattle.msg.specs.Block.{blockCause}
 use Rattle.limits.proofs.Laws.{passed}
 use Rattle.limits.specs.Limits.{rustLimits}

@@ -5,7 +5,7 @@ use mathlib.Core.Path.{_≡_, refl, sym, ap, _∙_}
 use mathlib.Core.Bool.{true, false}
 use mathlib.Core.Option.{Option}
 use Prim.Native.Nat.{ℕ}
-use Rattle.dialog.proofs.OneImageLaws.{no-image, refresh-is}
+use Rattle.dialog.proofs.ReadingLaws.{no-image, refresh-is}
 use Rattle.dialog.specs.declared.readings.Refresh.the-variants.{Due, NotDue}
 use Rattle.session_timer_manager.specs.Intervals.{refreshDue}
 use Rattle.dialog.proofs.readings.needs_refresh.Statement.{statement}

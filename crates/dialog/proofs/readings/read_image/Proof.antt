@@ -2,7 +2,7 @@
 use native.Mathlib.Omega.{arith}
 use borrow.Author.Needs.{needs}
 use mathlib.Core.Path.{_≡_, refl, sym, ap, _∙_}
-use Rattle.dialog.proofs.OneImageLaws.{not-one, more-after, just-one}
+use Rattle.dialog.proofs.ReadingLaws.{not-one, more-after, just-one}
 use Rattle.dialog.proofs.readings.read_image.Statement.{statement}
 use Rattle.dialog.proofs.readings.read_image.Tie as tie
 use Rattle.dialog.proofs.readings.read_image.Reads as reads

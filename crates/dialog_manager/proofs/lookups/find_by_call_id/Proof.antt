@@ -2,12 +2,12 @@
 use Prim.Native.Nat.{ℕ}
 use mathlib.Core.Path.{_≡_, sym, _∙_}
 use mathlib.Core.Bool.{true, false}
-use mathlib.Core.List.{List, []}
+use mathlib.Core.List.{List}
 use mathlib.Core.Option.{none}
 use lib.ListN.{length}
 use lib.Seq.{length-take-le}
 use Rattle.limits.specs.Limits.{rustLimits}
-use Rattle.record.proofs.CodecLaws.{Bytes, bytes-all}
+use Rattle.codec.proofs.CodecLaws.{Bytes, bytes-all}
 use Rattle.book.specs.Calls.{findByCallId}
 use Rattle.book.specs.Book.{readingCause}
 use Rattle.dialog_manager.specs.Lookups.{answerIn}
@@ -18,7 +18,7 @@ use Rattle.dialog_manager.proofs.lookups.find_by_call_id.Statement.{sta
 use Rattle.dialog_manager.proofs.lookups.find_by_call_id.Tie as tie
 use Rattle.dialog_manager.proofs.lookups.find_by_call_id.Reads as reads
 use Rattle.dialog_manager.proofs.lookups.find_by_call_id.Lts as lts
-use Rattle.dialog_manager.proofs.placing.place_of.Reads as place-of-reads
+use Rattle.dialog_manager.proofs.placing.place_of_call_id.Reads as place-of-call-id-reads
 use Rattle.store.proofs.count.Reads as count-reads
 use Rattle.text.proofs.too_long.Reads as too-long-reads
 
@@ -68,24 +68,18 @@ returns-2 c =
     let k = c .before .before .before .before .before in
     store-refuses rustLimits (length (s k)) (findByCallId (t k)) (s k) (start k .args .used) (known k) (clear (c .before .before .before)) (sym (c .before .before .count .ensures) ∙ c .enum-told2 .given .1)
 
-slice-aggregate-place-of : tie.Need-slice-aggregate-place-of
-slice-aggregate-place-of c = let k = began (c .before) in sym (length-take-le (start k .args .used) (s k) (store (c .before) .within))
+slice-aggregate-place-of-call-id : tie.Need-slice-aggregate-place-of-call-id
+slice-aggregate-place-of-call-id c = let k = began (c .before) in sym (length-take-le (start k .args .used) (s k) (store (c .before) .within))
 
-slice-aggregate-place-of-2 : tie.Need-slice-aggregate-place-of-2
-slice-aggregate-place-of-2 c = search needs
-
-slice-aggregate-place-of-3 : tie.Need-slice-aggregate-place-of-3
-slice-aggregate-place-of-3 c = search needs
-
-place-of-requires : tie.Need-place-of-requires
-place-of-requires c κs = let k = began (c .before .before .before) in stored (s k) (start k .args .used) (store (c .before .before .before))
+place-of-call-id-requires : tie.Need-place-of-call-id-requires
+place-of-call-id-requires c κs = let k = began (c .before) in stored (s k) (start k .args .used) (store (c .before))
 
 returns-3 : tie.Need-returns-3
 returns-3 c =
-    let e = c .before .before .before .before in
+    let e = c .before .before in
     let k = began e in
-    replies rustLimits (length (s k)) (findByCallId (t k)) (s k) (start k .args .used) (known k) (clear (e .before .before .before)) (store e) (answerIn (c .place-of .result))
-    (c .place-of .ensures ∙ call-reply (s k) (start k .args .used) (store e) (t k) [] [])
+    replies rustLimits (length (s k)) (findByCallId (t k)) (s k) (start k .args .used) (known k) (clear (e .before .before .before)) (store e) (answerIn (c .place-of-call-id .result))
+    (c .place-of-call-id .ensures ∙ call-reply (s k) (start k .args .used) (store e) (t k))
 
 pub find-by-call-id-spec : {M : Type 1} → statement M
 find-by-call-id-spec =
@@ -97,8 +91,6 @@ find-by-call-id-spec =
     enum-told
     enum-told-2
     returns-2
-    slice-aggregate-place-of
-    slice-aggregate-place-of-2
-    slice-aggregate-place-of-3
-    place-of-requires
+    slice-aggregate-place-of-call-id
+    place-of-call-id-requires
     returns-3)

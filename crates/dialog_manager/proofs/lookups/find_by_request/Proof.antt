@@ -10,8 +10,8 @@ use Rattle.limits.specs.Outcome.{refused}
 use Rattle.limits.specs.declared.Refusal.the-variants.{NotFound}
 use Rattle.limits.proofs.Laws.{passed, stopped}
 use Rattle.msg.specs.Block.{blockCause}
-use Rattle.record.proofs.CodecLaws.{Bytes, bytes-all}
-use Rattle.dialog.proofs.MatchLaws.{Asked, asked, not-asked}
+use Rattle.codec.proofs.CodecLaws.{Bytes, bytes-all}
+use Rattle.dialog_rules.proofs.PlacedLaws.{Asked, asked, not-asked}
 use Rattle.book.specs.Calls.{findByRequest}
 use Rattle.book.specs.Book.{readingCause}
 use Rattle.dialog_manager.specs.Lookups.{answerIn}

@@ -7,7 +7,7 @@ use lib.ListN.{length}
 use lib.Seq.{length-take-le}
 use Rattle.limits.specs.Limits.{rustLimits}
 use Rattle.limits.proofs.Laws.{passed, stopped}
-use Rattle.record.proofs.CodecLaws.{Bytes, bytes-all}
+use Rattle.codec.proofs.CodecLaws.{Bytes, bytes-all}
 use Rattle.dialog_id.specs.Ident.{ident, identCause}
 use Rattle.book.specs.Calls.{Reading}
 use Rattle.book.specs.Book.{readingCause}

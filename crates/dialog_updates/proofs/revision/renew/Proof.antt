@@ -12,7 +12,7 @@ use Rattle.image_edit.proofs.ImageCuts.{Held, held-used}
 use Rattle.route_set.specs.Routes.{routesOf}
 use Rattle.routes_edit.specs.Rerouted.{renewedBy}
 use Rattle.record_gaps.specs.Revised.{renewed}
-use Rattle.dialog.specs.Updates.{retargeted}
+use Rattle.dialog_rules.specs.Updates.{retargeted}
 use Rattle.dialog_updates.proofs.ContactLaws.{no-contact, contact-within, contact-target, target-kept}
 use Rattle.dialog_updates.proofs.PlaceLaws.{changed-as, result-as}
 use native.Mathlib.Omega.{arith}

@@ -1,9 +1,9 @@
 -- `keys::flags` meets its contract. Assumes nothing.
 use Prim.Native.Nat.{ℕ, _%_}
 use mathlib.Core.Path.{ap, _∙_}
-use Rattle.record.proofs.CodecLaws.{Bytes}
-use Rattle.record.proofs.CodecLaws.{bytes-all}
-use Rattle.distinct.proofs.Images.{map-here, flags-are}
+use Rattle.codec.proofs.CodecLaws.{Bytes, bytes-all}
+use Rattle.record_walk.proofs.Images.{map-here}
+use Rattle.distinct.proofs.KeysAt.{flags-are}
 use Rattle.distinct.proofs.keys.flags.Statement.{statement}
 use Rattle.distinct.proofs.keys.flags.Tie as tie
 

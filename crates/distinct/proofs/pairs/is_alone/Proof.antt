@@ -5,10 +5,9 @@ use mathlib.Core.Path.{_≡_, refl, sym, ap, subst, _∙_}
 use mathlib.Core.Logic.{⊎-elim}
 use lib.ListN.{length}
 use borrow.Author.Needs.{needs}
-use Rattle.record.proofs.CodecLaws.{Bytes}
+use Rattle.codec.proofs.CodecLaws.{Bytes, bytes-all}
 use Rattle.distinct.specs.Pairs.{WholeFrom, aloneFrom}
 use Rattle.ordered_store.specs.declared.Order.the-variants.{Same}
-use Rattle.record.proofs.CodecLaws.{bytes-all}
 use Rattle.distinct.proofs.Alones.{Step, step, step-whole, alone-end, alone-met, alone-next}
 use Rattle.distinct.proofs.pairs.is_alone.Statement.{statement}
 use Rattle.distinct.proofs.pairs.is_alone.Tie as tie

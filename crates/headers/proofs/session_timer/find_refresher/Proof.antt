@@ -5,7 +5,7 @@ use lib.ListN.{length, take, drop}
 use Rattle.text.specs.Text.{is, same, split}
 use Rattle.text.proofs.Words.{left, left-start, segment-fits}
 use Rattle.headers.specs.SessionExpires.{refresherUac, refresherUas, refresherIn}
-use Rattle.headers.proofs.TagLaws.{segment-length}
+use Rattle.headers.proofs.ExpiresLaws.{part-at}
 use Rattle.headers.proofs.ExpiresLaws.{is-uac, is-uas, is-other, parts-done}
 use native.Mathlib.Omega.{arith}
 use borrow.Author.Needs.{needs}
@@ -34,7 +34,7 @@ find-requires : tie.Need-find-requires Inv-loop μ-loop
 find-requires c κs = search needs
 
 slice-aggregate-trim : tie.Need-slice-aggregate-trim Inv-loop μ-loop
-slice-aggregate-trim c = sym (segment-length (c .before .before .before .before .before .before .args .parts .now) (c .before .before .before .before .loop .at) _ (omega arith) (c .before .find .ensures .0))
+slice-aggregate-trim c = sym (part-at (c .before .before .before .before .before .before .args .parts .now) (c .before .before .before .before .loop .at) _ (omega arith) (c .before .find .ensures .0))
 
 trim-requires : tie.Need-trim-requires Inv-loop μ-loop
 trim-requires c κs = search needs

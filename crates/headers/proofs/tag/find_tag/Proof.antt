@@ -1,6 +1,5 @@
 -- `headers::find_tag` meets its contract: at each turn the tag is that of the segments left. Assumes nothing.
-use Rattle.text.proofs.Words.{segment-fits}
-use Rattle.text.specs.Text.{is as byteIs}
+use Rattle.headers.proofs.SegmentLaws.{segment-fits}
 use Prim.Native.Nat.{ℕ, _+_, _-_, _≤_}
 use mathlib.Core.Path.{_≡_, refl, sym, ap, ap₂, _∙_}
 use mathlib.Core.Bool.{true}
@@ -21,7 +20,7 @@ abbrev μ-loop : tie.MeasureT-loop
 μ-loop value at₀ at = length value + 1 - at
 
 -- the trimmed segment that begins with `tag=`
-is : (c : tie.Then1 Inv-loop μ-loop) → isTag (trimmed (take (c .before .before .before .before .before .find .result) (take (length (c .before .before .before .before .before .before .before .before .before .before .args .value .now) - c .before .before .before .before .before .before .before .before .loop .at) (drop (c .before .before .before .before .before .before .before .before .loop .at) (c .before .before .before .before .before .before .before .before .before .before .args .value .now))))) ≡ true
+is : (c : tie.Then1 Inv-loop μ-loop) → isTag (trimmed (take (c .before .before .before .before .before .segment-length .result) (take (length (c .before .before .before .before .before .before .before .before .before .before .args .value .now) - c .before .before .before .before .before .before .before .before .loop .at) (drop (c .before .before .before .before .before .before .before .before .loop .at) (c .before .before .before .before .before .before .before .before .before .before .args .value .now))))) ≡ true
 is c = ap isTag (sym (c .before .before .trim .ensures)) ∙ sym (c .before .is-tag .ensures) ∙ c .if1 .taken
 
 -- its tag lies within the value
@@ -29,7 +28,7 @@ placed : (c : tie.Then1 Inv-loop μ-loop) → c .before .before .before .before 
 placed c =
     omega (
       arith,
-      segment-within (c .before .before .before .before .before .before .before .before .before .before .args .value .now) (c .before .before .before .before .before .before .before .before .loop .at) _ (omega arith) (c .before .before .before .before .before .find .ensures .0),
+      segment-within (c .before .before .before .before .before .before .before .before .before .before .args .value .now) (c .before .before .before .before .before .before .before .before .loop .at) _ (omega arith) (c .before .before .before .before .before .segment-length .ensures .0),
       c .before .before .before .leading .ensures .0,
       long _ (is c),
     )
@@ -46,11 +45,11 @@ part-rest-start c = omega arith
 part-rest-end : tie.Need-part-rest-end Inv-loop μ-loop
 part-rest-end c = omega arith
 
-find-requires : tie.Need-find-requires Inv-loop μ-loop
-find-requires c κs = search needs
+segment-length-requires : tie.Need-segment-length-requires Inv-loop μ-loop
+segment-length-requires c κs = search needs
 
 slice-aggregate-g : tie.Need-slice-aggregate-g Inv-loop μ-loop
-slice-aggregate-g c = sym (segment-length (c .before .before .before .before .before .before .args .value .now) (c .before .before .before .before .loop .at) _ (omega arith) (c .before .find .ensures .0))
+slice-aggregate-g c = sym (segment-length (c .before .before .before .before .before .before .args .value .now) (c .before .before .before .before .loop .at) _ (omega arith) (c .before .segment-length .ensures .0))
 
 leading-requires : tie.Need-leading-requires Inv-loop μ-loop
 leading-requires c κs = search needs
@@ -73,20 +72,20 @@ sub-t17 c = long _ (sym (c .before .is-tag .ensures) ∙ c .if1 .taken)
 returns : tie.Need-returns Inv-loop μ-loop
 returns c =
     ap₂ (λ (p q : ℕ). At (record { start = c .before .before .before .before .before .before .before .before .loop .at + p + 4; length = q - 4 })) (c .before .before .before .leading .ensures .0) (ap length (c .before .before .trim .ensures))
-    ∙ sym (tag-hit (c .before .before .before .before .before .before .before .before .before .before .args .value .now) (c .before .before .before .before .before .before .before .before .loop .at) _ (omega arith) (c .before .before .before .before .before .find .ensures .0) (is c))
+    ∙ sym (tag-hit (c .before .before .before .before .before .before .before .before .before .before .args .value .now) (c .before .before .before .before .before .before .before .before .loop .at) _ (omega arith) (c .before .before .before .before .before .segment-length .ensures .0) (is c))
     ∙ ap partOf (sym (c .before .before .before .before .before .before .before .before .loop .inv))
 
 add-at : tie.Need-add-at Inv-loop μ-loop
-add-at c = omega (arith, segment-fits (byteIs 59) (c .before .before .before .before .before .before .before .before .before .before .args .value .now) (c .before .before .before .before .before .before .before .before .loop .at) _ (omega arith) (c .before .before .before .before .before .find .ensures .0))
+add-at c = omega (arith, segment-fits (c .before .before .before .before .before .before .before .before .before .before .args .value .now) (c .before .before .before .before .before .before .before .before .loop .at) _ (omega arith) (c .before .before .before .before .before .segment-length .ensures .0))
 
 add-at-2 : tie.Need-add-at-2 Inv-loop μ-loop
-add-at-2 c = omega (arith, segment-fits (byteIs 59) (c .before .before .before .before .before .before .before .before .before .before .args .value .now) (c .before .before .before .before .before .before .before .before .loop .at) _ (omega arith) (c .before .before .before .before .before .find .ensures .0))
+add-at-2 c = omega (arith, segment-fits (c .before .before .before .before .before .before .before .before .before .before .args .value .now) (c .before .before .before .before .before .before .before .before .loop .at) _ (omega arith) (c .before .before .before .before .before .segment-length .ensures .0))
 
 loop-less : tie.Need-loop-less Inv-loop μ-loop
 loop-less c = omega arith
 
 loop-again : tie.Need-loop-again Inv-loop μ-loop
-loop-again c = c .before .before .before .before .before .before .before .before .loop .inv ∙ tag-next (c .before .before .before .before .before .before .before .before .before .before .args .value .now) (c .before .before .before .before .before .before .before .before .loop .at) _ (omega arith) (c .before .before .before .before .before .find .ensures .0) (ap isTag (sym (c .before .before .trim .ensures)) ∙ sym (c .before .is-tag .ensures) ∙ c .if1 .left)
+loop-again c = c .before .before .before .before .before .before .before .before .loop .inv ∙ tag-next (c .before .before .before .before .before .before .before .before .before .before .args .value .now) (c .before .before .before .before .before .before .before .before .loop .at) _ (omega arith) (c .before .before .before .before .before .segment-length .ensures .0) (ap isTag (sym (c .before .before .trim .ensures)) ∙ sym (c .before .is-tag .ensures) ∙ c .if1 .left)
 
 returns-2 : tie.Need-returns-2 Inv-loop μ-loop
 returns-2 c = ap partOf (sym (c .before .loop .inv ∙ tag-done (c .before .before .before .args .value .now) (c .before .loop .at) (omega arith)))
@@ -101,7 +100,7 @@ find-tag-spec =
     sub-rest
     part-rest-start
     part-rest-end
-    find-requires
+    segment-length-requires
     slice-aggregate-g
     leading-requires
     trim-requires

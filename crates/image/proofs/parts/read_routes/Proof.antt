@@ -6,7 +6,7 @@ use mathlib.Core.List.{List}
 use lib.ListN.{length, drop}
 use borrow.Author.Needs.{needs}
 use borrow.Author.Tests.{not-true, not-false}
-use Rattle.record.specs.Codec.{readAll}
+use Rattle.codec.specs.Codec.{readAll}
 use Rattle.record.specs.Record.{uriText, routesField}
 use Rattle.image.specs.Places.{routesAt}
 use Rattle.image.proofs.AnswerLaws.{UriGot, uri-got, uri-not}

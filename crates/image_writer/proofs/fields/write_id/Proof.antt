@@ -5,14 +5,15 @@ use mathlib.Core.Path.{_≡_, sym, ap, _∙_}
 use mathlib.Core.List.{List, []}
 use lib.ListN.{length}
 use Prim.Native.Nat.{ℕ, _+_}
-use Rattle.image_writer.proofs.FieldLaws.{id-empty, id-filled, text-size}
+use Rattle.image_writer.proofs.FieldLaws.{id-empty, id-filled}
+use Rattle.codec.proofs.SizeLaws.{text-size}
 use Rattle.edit.proofs.EditLaws.{put-nothing}
 use Rattle.edit.specs.Edit.{putAt}
 use Rattle.image_writer.proofs.fields.write_id.Statement.{statement}
 use Rattle.image_writer.proofs.fields.write_id.Tie as tie
 use Rattle.image_writer.proofs.fields.write_id.Reads as reads
 use Rattle.image_writer.proofs.fields.write_id.Lts as lts
-use Rattle.image_writer.proofs.fields.write_text.Reads as write-text-reads
+use Rattle.codec.proofs.write_text.Reads as write-text-reads
 
 returns : tie.Need-returns
 returns c =

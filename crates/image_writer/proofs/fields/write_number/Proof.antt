@@ -9,7 +9,7 @@ use Rattle.image_writer.proofs.fields.write_number.Statement.{statement
 use Rattle.image_writer.proofs.fields.write_number.Tie as tie
 use Rattle.image_writer.proofs.fields.write_number.Reads as reads
 use Rattle.image_writer.proofs.fields.write_number.Lts as lts
-use Rattle.image_writer.proofs.fields.write_four.Reads as write-four-reads
+use Rattle.codec.proofs.write_four.Reads as write-four-reads
 
 returns : tie.Need-returns
 returns c =

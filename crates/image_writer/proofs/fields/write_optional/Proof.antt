@@ -7,7 +7,7 @@ use Rattle.image_writer.proofs.fields.write_optional.Statement.{stateme
 use Rattle.image_writer.proofs.fields.write_optional.Tie as tie
 use Rattle.image_writer.proofs.fields.write_optional.Reads as reads
 use Rattle.image_writer.proofs.fields.write_optional.Lts as lts
-use Rattle.image_writer.proofs.fields.write_four.Reads as write-four-reads
+use Rattle.codec.proofs.write_four.Reads as write-four-reads
 
 enum-known-n : tie.Need-enum-known-n
 enum-known-n c = search needs

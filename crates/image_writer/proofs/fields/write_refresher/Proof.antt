@@ -7,7 +7,7 @@ use Rattle.image_writer.proofs.fields.write_refresher.Statement.{statem
 use Rattle.image_writer.proofs.fields.write_refresher.Tie as tie
 use Rattle.image_writer.proofs.fields.write_refresher.Reads as reads
 use Rattle.image_writer.proofs.fields.write_refresher.Lts as lts
-use Rattle.image_writer.proofs.fields.write_four.Reads as write-four-reads
+use Rattle.codec.proofs.write_four.Reads as write-four-reads
 
 enum-told : tie.Need-enum-told
 enum-told c = search needs

@@ -3,7 +3,8 @@ use native.Mathlib.Omega.{arith}
 use borrow.Author.Needs.{needs}
 use mathlib.Core.Path.{_≡_, sym, ap, _∙_}
 use lib.ListN.{length}
-use Rattle.image_writer.proofs.FieldLaws.{id-empty, id-filled, text-size}
+use Rattle.image_writer.proofs.FieldLaws.{id-empty, id-filled}
+use Rattle.codec.proofs.SizeLaws.{text-size}
 use Rattle.image_writer.proofs.sections.id_size.Statement.{statement}
 use Rattle.image_writer.proofs.sections.id_size.Tie as tie
 use Rattle.image_writer.proofs.sections.id_size.Reads as reads

@@ -1,14 +1,15 @@
 -- `image_writer::write_uris` meets its contract: the three URIs one after another. Assumes nothing.
 use native.Mathlib.Omega.{arith}
 use borrow.Author.Needs.{needs}
-use Rattle.image_writer.proofs.FieldLaws.{uris-size, text-size}
+use Rattle.image_writer.proofs.FieldLaws.{uris-size}
+use Rattle.codec.proofs.SizeLaws.{text-size}
 use Rattle.edit.proofs.EditLaws.{wrote-three}
-use Rattle.record.specs.Codec.{text}
+use Rattle.codec.specs.Codec.{text}
 use Rattle.image_writer.proofs.sections.write_uris.Statement.{statement}
 use Rattle.image_writer.proofs.sections.write_uris.Tie as tie
 use Rattle.image_writer.proofs.sections.write_uris.Reads as reads
 use Rattle.image_writer.proofs.sections.write_uris.Lts as lts
-use Rattle.image_writer.proofs.fields.write_text.Reads as write-text-reads
+use Rattle.codec.proofs.write_text.Reads as write-text-reads
 
 write-text-requires : tie.Need-write-text-requires
 write-text-requires c κs = let a = c .before .before .before .before .before .args in (omega arith, omega (arith, uris-size (record { first = a .target .now; second = record { first = a .local-uri .now; second = a .remote-uri .now } })))

@@ -1,6 +1,6 @@
 -- `prack_body::load` meets its contract: the bytes behind the text are put to the front. Assumes nothing.
 use mathlib.Core.Path.{refl}
-use Rattle.record.proofs.CodecLaws.{bytes-all}
+use Rattle.codec.proofs.CodecLaws.{bytes-all}
 use Rattle.prack_body.proofs.BodyLaws.{loaded}
 use borrow.Author.Needs.{needs}
 use Rattle.prack_body.proofs.body.load.Statement.{statement}

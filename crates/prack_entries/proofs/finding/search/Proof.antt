@@ -3,7 +3,7 @@ use Prim.Native.Nat.{ℕ, _-_}
 use mathlib.Core.Path.{_≡_, sym, ap, _∙_}
 use mathlib.Core.List.{List}
 use lib.ListN.{length, drop}
-use Rattle.record.proofs.CodecLaws.{bytes-all}
+use Rattle.codec.proofs.CodecLaws.{bytes-all}
 use Rattle.ordered_store.specs.Entries.{Key}
 use Rattle.ordered_store.proofs.KeyLaws.{told-last}
 use Rattle.ordered_store.proofs.PlaceLaws.{Here}

@@ -3,7 +3,7 @@ use Prim.Native.Nat.{ℕ}
 use mathlib.Core.Path.{sym}
 use mathlib.Core.List.{List, []}
 use lib.Seq.{length-take-le}
-use Rattle.record.proofs.CodecLaws.{Bytes, bytes-all}
+use Rattle.codec.proofs.CodecLaws.{Bytes, bytes-all}
 use Rattle.prack_body.specs.declared.TrackedAt.{TrackedAt}
 use Rattle.prack_body.proofs.BodyLaws.{holds-size}
 use Rattle.prack_entries.specs.Places.{Sought}

@@ -1,7 +1,7 @@
 -- `holding::insert` meets its contract: the tail moved, then text and body written before it. Assumes nothing.
 use mathlib.Core.Path.{refl}
 use mathlib.Core.List.{_++_}
-use Rattle.record.specs.Codec.{text}
+use Rattle.codec.specs.Codec.{text}
 use Rattle.prack_entries.proofs.WriteLaws.{no-room, piece-size, inserted}
 use native.Mathlib.Omega.{arith}
 use borrow.Author.Needs.{needs}

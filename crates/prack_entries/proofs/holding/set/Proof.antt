@@ -1,7 +1,7 @@
 -- `holding::set` meets its contract: the body in place of the old one, or text and body at their place. Assumes nothing.
 use Prim.Native.Nat.{ℕ, _+_, _-_, _≤_}
 use mathlib.Core.List.{List}
-use Rattle.record.proofs.CodecLaws.{Bytes, bytes-all}
+use Rattle.codec.proofs.CodecLaws.{Bytes, bytes-all}
 use Rattle.prack_body.specs.declared.TrackedAt.{TrackedAt}
 use Rattle.prack_entries.specs.Places.{Sought}
 use Rattle.prack_entries.specs.declared.finding.Slot.the-variants as slots

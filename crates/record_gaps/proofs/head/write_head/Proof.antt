@@ -5,7 +5,7 @@ use mathlib.Core.List.{List, [], _∷_, _++_}
 use Prim.Native.Nat.{ℕ, _+_}
 use Rattle.edit.specs.Edit.{putAt}
 use Rattle.edit.proofs.EditLaws.{put-put}
-use Rattle.record.specs.Codec.{two, text}
+use Rattle.codec.specs.Codec.{two, text}
 use Rattle.record.specs.Record.{stateByteNumber}
 use Rattle.record.specs.NumbersForm.{meaning}
 use Rattle.image_edit.specs.Maps.{mapFrom}
@@ -15,11 +15,11 @@ use Rattle.record_gaps.proofs.head.write_head.Statement.{statement}
 use Rattle.record_gaps.proofs.head.write_head.Tie as tie
 use Rattle.record_gaps.proofs.head.write_head.Reads as reads
 use Rattle.record_gaps.proofs.head.write_head.Lts as lts
-use Rattle.image_edit.proofs.either.Reads as either-reads
+use Rattle.image.proofs.either.Reads as either-reads
 use Rattle.image_edit.proofs.new_map.Reads as new-map-reads
-use Rattle.image_writer.proofs.write_byte.Reads as write-byte-reads
-use Rattle.image_writer.proofs.write_text.Reads as write-text-reads
-use Rattle.image_writer.proofs.write_two.Reads as write-two-reads
+use Rattle.codec.proofs.write_byte.Reads as write-byte-reads
+use Rattle.codec.proofs.write_text.Reads as write-text-reads
+use Rattle.codec.proofs.write_two.Reads as write-two-reads
 use Rattle.image_writer.proofs.state_byte.Reads as state-byte-reads
 
 new-map-requires : tie.Need-new-map-requires

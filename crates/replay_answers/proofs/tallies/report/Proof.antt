@@ -5,10 +5,10 @@ use Rattle.replay_answers.proofs.tallies.report.Statement.{statement}
 use Rattle.replay_answers.proofs.tallies.report.Tie as tie
 
 abbrev Inv-loop : tie.InvT-loop
-Inv-loop rows tallies row₀ t6 t7 t8 t9 t10 t11 t12 t13 t14 row = row ≤ 82
+Inv-loop rows tallies row₀ t6 t7 t8 t9 t10 t11 t12 t13 t14 row = row ≤ 84
 
 abbrev μ-loop : tie.MeasureT-loop
-μ-loop rows tallies row₀ t6 t7 t8 t9 t10 t11 t12 t13 t14 row = 82 - row
+μ-loop rows tallies row₀ t6 t7 t8 t9 t10 t11 t12 t13 t14 row = 84 - row
 
 loop-holds : tie.Need-loop-holds Inv-loop μ-loop
 loop-holds c = search needs

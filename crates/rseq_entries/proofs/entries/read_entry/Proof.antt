@@ -5,8 +5,8 @@ use mathlib.Core.Path.{sym, _∙_}
 use lib.ListN.{drop}
 use borrow.Author.Needs.{needs}
 use Rattle.text.specs.declared.Span.{Span}
-use Rattle.record.specs.Codec.{text}
-use Rattle.image.proofs.AnswerLaws.{TextGot, text-got, text-not}
+use Rattle.codec.specs.Codec.{text}
+use Rattle.codec.proofs.AnswerLaws.{TextGot, text-got, text-not}
 use Rattle.rseq_entries.proofs.ReadLaws.{no-first, no-second, no-third, no-number, zero-number, whole}
 use Rattle.rseq_entries.proofs.entries.read_entry.Statement.{statement}
 use Rattle.rseq_entries.proofs.entries.read_entry.Tie as tie

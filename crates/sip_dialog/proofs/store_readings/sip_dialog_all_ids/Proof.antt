@@ -1,7 +1,7 @@
 -- `sip_dialog_all_ids` meets its contract: what is handed over is the answer of `run`. Assumes nothing.
 use lib.ListN.{length}
 use Rattle.limits.specs.Limits.{rustLimits}
-use Rattle.record.proofs.CodecLaws.{bytes-all}
+use Rattle.codec.proofs.CodecLaws.{bytes-all}
 use Rattle.book.specs.Calls.{allIds}
 use Rattle.c_store_answers.proofs.ReturnLaws.{reading-returns}
 use Rattle.c_store_answers.proofs.ValueLaws.{ids-answers}

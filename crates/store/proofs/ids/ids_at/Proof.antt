@@ -6,13 +6,13 @@ use mathlib.Core.List.{List}
 use mathlib.Core.Option.{Option·some-injective}
 use lib.ListN.{length}
 use lib.Dec.{eqb}
-use Rattle.record.specs.Codec.{Reading}
+use Rattle.codec.specs.Codec.{Reading}
 use Rattle.record.specs.Record.{Record}
-use Rattle.record.proofs.CodecLaws.{Bytes, bytes-all}
+use Rattle.codec.proofs.CodecLaws.{Bytes, bytes-all}
 use Rattle.image.specs.Places.{idsPlaces, idsOf}
 use Rattle.image.specs.declared.sections.IdsAt.{IdsAt}
-use Rattle.distinct.specs.Keys.{At, pastText}
-use Rattle.distinct.proofs.Images
+use Rattle.record_walk.specs.Walk.{At, pastText}
+use Rattle.record_walk.proofs.Images
 use Rattle.store.proofs.IdLaws.{three}
 use Rattle.store.proofs.ids.ids_at.Statement.{statement}
 use Rattle.store.proofs.ids.ids_at.Tie as tie

@@ -3,7 +3,7 @@ use mathlib.Core.Path.{sym, ap, _∙_}
 use lib.ListN.{length}
 use Rattle.limits.specs.Limits.{rustLimits}
 use Rattle.output.specs.declared.Written.the-variants as written
-use Rattle.record.proofs.CodecLaws.{bytes-all}
+use Rattle.codec.proofs.CodecLaws.{bytes-all}
 use Rattle.dialog_manager.specs.Lookups.{answerIn}
 use Rattle.store_edits.proofs.RemoveLaws.{turned-back, removes, refuses}
 use native.Mathlib.Omega.{arith}

@@ -4,15 +4,15 @@ use mathlib.Core.Path.{sym, ap, _∙_}
 use mathlib.Core.List.{List}
 use lib.ListN.{length}
 use Rattle.edit.specs.Edit.{over}
-use Rattle.record.proofs.CodecLaws.{bytes-all}
-use Rattle.distinct.specs.Keys.{At}
+use Rattle.codec.proofs.CodecLaws.{bytes-all}
+use Rattle.record_walk.specs.Walk.{At}
 use Rattle.store_edits.proofs.SweepLaws.{Closing, start, stands, Next, next, done, same-long}
 use native.Mathlib.Omega.{arith}
 use Rattle.store_edits.proofs.sweeps.close_up.Statement.{statement}
 use Rattle.store_edits.proofs.sweeps.close_up.Tie as tie
 use Rattle.store_edits.proofs.sweeps.close_up.Reads as reads
 use Rattle.store_edits.proofs.sweeps.close_up.Lts as lts
-use Rattle.distinct.proofs.record_end.Reads as record-end-reads
+use Rattle.record_walk.proofs.record_end.Reads as record-end-reads
 use Rattle.edit.proofs.move_left.Reads as move-left-reads
 use Rattle.store_edits.proofs.sweeps.staying.Reads as staying-reads
 

@@ -1,5 +1,5 @@
 -- `sweeps::staying` meets its contract: the state byte tells whether the record is Terminated. Assumes nothing.
-use Rattle.record.proofs.CodecLaws.{Bytes, bytes-all}
+use Rattle.codec.proofs.CodecLaws.{Bytes, bytes-all}
 use Rattle.store_edits.proofs.StateLaws.{state-within, none-stay, all-stay}
 use borrow.Author.Needs.{needs}
 use Rattle.store_edits.proofs.sweeps.staying.Statement.{statement}

@@ -3,10 +3,10 @@ use mathlib.Core.Path.{sym, ap, _∙_}
 use lib.ListN.{length}
 use Rattle.limits.specs.Limits.{rustLimits}
 use Rattle.output.specs.declared.Written.the-variants as written
-use Rattle.record.proofs.CodecLaws.{bytes-all}
+use Rattle.codec.proofs.CodecLaws.{bytes-all}
 use Rattle.book.specs.Store.{Left}
 use Rattle.dialog_manager.proofs.LookupLaws.{Kept, kept, stored}
-use Rattle.book.specs.Returned.{writtenIn}
+use Rattle.dialog_manager.specs.Answers.{writtenIn}
 use Rattle.store_edits.proofs.RemoveLaws.{turned-back}
 use Rattle.store_edits.proofs.SweepLaws.{unswept, swept}
 use borrow.Author.Needs.{needs}

@@ -2,7 +2,7 @@
 use Prim.Native.Nat.{ℕ, _+_, _-_}
 use mathlib.Core.Path.{sym, subst}
 use lib.ListN.{length}
-use Rattle.record.proofs.CodecLaws.{Bytes, bytes-all}
+use Rattle.codec.proofs.CodecLaws.{Bytes, bytes-all}
 use Rattle.dialog_id.specs.Ident.{ident}
 use Rattle.store_puts.proofs.EarlyLaws.{Counting, start, done, stands, Counted, counted}
 use native.Mathlib.Omega.{arith}
@@ -10,7 +10,7 @@ use Rattle.store_puts.proofs.early.early_others.Statement.{statement}
 use Rattle.store_puts.proofs.early.early_others.Tie as tie
 use Rattle.store_puts.proofs.early.early_others.Reads as reads
 use Rattle.store_puts.proofs.early.early_others.Lts as lts
-use Rattle.distinct.proofs.record_end.Reads as record-end-reads
+use Rattle.record_walk.proofs.record_end.Reads as record-end-reads
 use Rattle.store.proofs.ids_at.Reads as ids-at-reads
 use Rattle.store_puts.proofs.early.early_other.Reads as early-other-reads
 

@@ -4,7 +4,8 @@ use mathlib.Core.Path.{_≡_, sym, _∙_}
 use lib.ListN.{length}
 use Rattle.limits.specs.Limits.{rustLimits}
 use Rattle.image.specs.declared.RecordAt.{RecordAt}
-use Rattle.dialog.specs.OneImage.{oneRecord, imageAnswer}
+use Rattle.dialog_rules.specs.OneImage.{oneRecord}
+use Rattle.dialog.specs.Readings.{imageAnswer}
 use Rattle.dialog.specs.declared.readings.ImageAnswer.the-variants as answer
 use Rattle.dialog_manager.specs.Search.{IdsWithin}
 use Rattle.dialog_manager.proofs.LookupLaws.{Kept, kept}

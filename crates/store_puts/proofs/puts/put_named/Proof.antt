@@ -6,7 +6,7 @@ use lib.ListN.{length, take}
 use lib.Seq.{length-take-le}
 use Rattle.limits.specs.Limits.{rustLimits}
 use Rattle.record.specs.NumbersForm.{stateIn}
-use Rattle.record.proofs.CodecLaws.{Bytes, bytes-all}
+use Rattle.codec.proofs.CodecLaws.{Bytes, bytes-all}
 use Rattle.image.specs.declared.RecordAt.{RecordAt}
 use Rattle.dialog_id.specs.Ident.{ident}
 use Rattle.record.specs.Store.{decodeAll}
@@ -21,7 +21,7 @@ use Rattle.store_puts.proofs.puts.put_named.Statement.{statement}
 use Rattle.store_puts.proofs.puts.put_named.Tie as tie
 use Rattle.store_puts.proofs.puts.put_named.Reads as reads
 use Rattle.store_puts.proofs.puts.put_named.Lts as lts
-use Rattle.dialog_manager.proofs.search.Reads as search-reads
+use Rattle.dialog_manager.proofs.search_id.Reads as search-id-reads
 use Rattle.store_puts.proofs.early.is_crowded.Reads as is-crowded-reads
 use Rattle.store_puts.proofs.puts.add.Reads as add-reads
 use Rattle.store_puts.proofs.puts.replace_image.Reads as replace-image-reads
@@ -50,7 +50,7 @@ abbrev R : tie.After-struct-known → RecordAt
 R c = c .before .before .before .at .given .0 .1 .0
 
 stands : (c : tie.After-struct-known) → let a = start (begun (past c)) .args in Stands (take (a .used) (a .bytes .now)) (found.At (at c) (R c))
-stands c = let a = start (begun (past c)) .args in subst (Stands (take (a .used) (a .bytes .now))) (c .before .before .before .at .given .1) (c .before .before .before .before .before .search .ensures .1)
+stands c = let a = start (begun (past c)) .args in subst (Stands (take (a .used) (a .bytes .now))) (c .before .before .before .at .given .1) (c .before .before .before .before .before .search-id .ensures .1)
 
 lies : (c : tie.After-struct-known) → (at c ≤ R c .end) × (R c .end ≤ start (begun (past c)) .args .used)
 lies c = let k = start (begun (past c)) in found-within (k .args .bytes .now) (k .args .used) (known (begun (past c))) (k .pre .1 .within) (at c) (R c) (stands c)
@@ -73,14 +73,14 @@ returns c =
     let a = k .args in
     turned-back (crowded rustLimits (length (a .bytes .now)) (a .image .now) (a .bytes .now) (a .used) (a .state) (a .call-id .now) (a .local-tag .now) (a .remote-tag .now) (k .pre .0) (k .pre .1) (sym (c .before .is-crowded .ensures) ∙ c .if1 .taken))
 
-slice-reshare-prefix-search : tie.Need-slice-reshare-prefix-search
-slice-reshare-prefix-search c = search needs
+slice-reshare-prefix-search-id : tie.Need-slice-reshare-prefix-search-id
+slice-reshare-prefix-search-id c = search needs
 
-slice-aggregate-search : tie.Need-slice-aggregate-search
-slice-aggregate-search c = let k = start (begun (c .before)) in sym (length-take-le (k .args .used) (k .args .bytes .now) (k .pre .1 .within))
+slice-aggregate-search-id : tie.Need-slice-aggregate-search-id
+slice-aggregate-search-id c = let k = start (begun (c .before)) in sym (length-take-le (k .args .used) (k .args .bytes .now) (k .pre .1 .within))
 
-search-requires : tie.Need-search-requires
-search-requires c κs = search needs
+search-id-requires : tie.Need-search-id-requires
+search-id-requires c κs = search needs
 
 enum-known-at : tie.Need-enum-known-at
 enum-known-at c = search needs
@@ -101,7 +101,7 @@ returns-2 c =
     let k = start (begun p) in
     let a = k .args in
     let r = c .before .before .add .ensures in
-    let w = added-new rustLimits (length (a .bytes .now)) (a .image .now) (a .bytes .now) (a .used) (a .state) (a .call-id .now) (a .local-tag .now) (a .remote-tag .now) (k .pre .0) (k .pre .1) (known (begun p)) (free p) (sym (t .enum-told .given .1) ∙ t .before .before .search .ensures .0) in
+    let w = added-new rustLimits (length (a .bytes .now)) (a .image .now) (a .bytes .now) (a .used) (a .state) (a .call-id .now) (a .local-tag .now) (a .remote-tag .now) (k .pre .0) (k .pre .1) (known (begun p)) (free p) (sym (t .enum-told .given .1) ∙ t .before .before .search-id .ensures .0) in
     (r .0 ∙ w .answer, r .1 ∙ w .bytes)
 
 sub-replace-image : tie.Need-sub-replace-image
@@ -120,7 +120,7 @@ returns-3 c =
     let k = start (begun p) in
     let a = k .args in
     let r = c .before .before .replace-image .ensures in
-    let w = replaced-old rustLimits (length (a .bytes .now)) (a .image .now) (a .bytes .now) (a .used) (a .state) (a .call-id .now) (a .local-tag .now) (a .remote-tag .now) (k .pre .0) (k .pre .1) (known (begun p)) (free p) (at t) (R t) (stands t) (sym (t .before .before .before .at .given .1) ∙ t .before .before .before .before .before .search .ensures .0) in
+    let w = replaced-old rustLimits (length (a .bytes .now)) (a .image .now) (a .bytes .now) (a .used) (a .state) (a .call-id .now) (a .local-tag .now) (a .remote-tag .now) (k .pre .0) (k .pre .1) (known (begun p)) (free p) (at t) (R t) (stands t) (sym (t .before .before .before .at .given .1) ∙ t .before .before .before .before .before .search-id .ensures .0) in
     (r .0 ∙ w .answer, r .1 ∙ w .bytes)
 
 pub put-named-spec : {M : Type 1} → statement M
@@ -132,9 +132,9 @@ put-named-spec =
     is-crowded-requires
     same-length
     returns
-    slice-reshare-prefix-search
-    slice-aggregate-search
-    search-requires
+    slice-reshare-prefix-search-id
+    slice-aggregate-search-id
+    search-id-requires
     enum-known-at
     enum-told
     add-requires

@@ -4,7 +4,7 @@ use Rattle.limits.specs.Limits.{rustLimits}
 use Rattle.limits.specs.Outcome.{checkOf}
 use Rattle.limits.specs.declared.Check.{Check}
 use Rattle.msg.specs.Block.{blockCause}
-use Rattle.record.proofs.CodecLaws.{bytes-all}
+use Rattle.codec.proofs.CodecLaws.{bytes-all}
 use Rattle.dialog_updates.proofs.BlockLaws.{short-block}
 use Rattle.dialog_id.specs.Ident.{Ident, ident}
 use Rattle.book.specs.Book.{revised}

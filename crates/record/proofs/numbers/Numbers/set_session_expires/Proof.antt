@@ -4,7 +4,7 @@ use mathlib.Core.Path.{sym, ap, _∙_}
 use borrow.Author.Needs.{needs}
 use Rattle.limits.specs.Limits.{rustLimits}
 use Rattle.limits.specs.Outcome.{given}
-use Rattle.session_timer_manager.proofs.Laws.{seconds-accepted, seconds-refused}
+use Rattle.session_seconds.proofs.Laws.{seconds-accepted, seconds-refused}
 use Rattle.record.specs.NumbersForm.{meaning}
 use Rattle.record.specs.Rules.{withSeconds, intervalStep}
 use Rattle.record.proofs.numbers.Numbers.set_session_expires.Statement.{statement}

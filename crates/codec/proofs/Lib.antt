@@ -1,0 +1,4 @@
+pub mod AnswerLaws
+pub mod CodecLaws
+pub mod ReadLaws
+pub mod SizeLaws

@@ -1,0 +1,9 @@
+pub mod CreatedLaws
+pub mod FormedLaws
+pub mod PieceLaws
+pub mod PlacedLaws
+pub mod ReadLaws
+pub mod RefusalLaws
+pub mod RouteLaws
+pub mod StepLaws
+pub mod UpdateLaws

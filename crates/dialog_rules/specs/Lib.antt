@@ -1,0 +1,4 @@
+pub mod Creation
+pub mod Matching
+pub mod OneImage
+pub mod Updates

@@ -1,0 +1,4 @@
+pub mod Images
+pub mod Parts
+pub mod Tails
+pub mod Texts

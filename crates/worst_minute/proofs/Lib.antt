@@ -1,0 +1,10 @@
+pub mod CallLaws
+pub mod CountLaws
+pub mod HistoryLaws
+pub mod LayoutLaws
+pub mod MinuteLaws
+pub mod NumberLaws
+pub mod ReadLaws
+pub mod ScanLaws
+pub mod TakenLaws
+pub mod WindowLaws
