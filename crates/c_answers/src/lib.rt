@@ -1,4 +1,6 @@
 // Answers handed over to a C caller: the number is returned, and the values go to the lent numbers.
+#![tactic(auto)]
+
 ghost use Rattle.std.specs.Prelude.{◌≡◌};
 ghost use Rattle.c_answers.specs.Given.{flag, refresher_number, least_after, optional_time, optional_seconds, check_number, port_flag, port_after, LookupGives, NextGives, PartGives, IdGives, UriGives, EstimateGives, ExpiresGives, CountGives, HeldGives, NumberGives, MethodGives, MethodLookupGives, ReliableGives, RackGives, WrittenGives, ValidatedGives, IntervalGives, RoleGives};
 

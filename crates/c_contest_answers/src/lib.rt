@@ -1,4 +1,6 @@
 // The answer of the interval contest handed over to a C caller: the number is returned, and the values go to the lent numbers.
+#![tactic(auto)]
+
 ghost use Rattle.std.specs.Prelude.{◌≡◌};
 ghost use Rattle.interval_contest.specs.Answers.{extent_in, outcome_in};
 ghost use Rattle.c_contest_answers.specs.Given.{extent_flag, least_in, most_in, ContestGives};

@@ -1,4 +1,6 @@
 // Answers about one record image handed over to a C caller: the number is returned, and the values go to the lent numbers.
+#![tactic(auto)]
+
 ghost use Rattle.std.specs.Prelude.{◌≡◌};
 ghost use Rattle.c_image_answers.specs.Given.{state_number, optional_flag, optional_after, refresher_number, ImageIdGives, StateGives, UrisGives, NumbersGives, RouteCountGives, MatchesGives, RefreshGives, RaisedGives, SetGives};
 

@@ -1,4 +1,6 @@
 // The answer of `worst_minute` handed over to a C caller: the number is returned, and the values go to the lent numbers.
+#![tactic(auto)]
+
 ghost use Rattle.c_minute_answers.specs.Given.{WorstGives};
 
 use worst_minute::Worst;

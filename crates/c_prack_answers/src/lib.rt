@@ -1,4 +1,6 @@
 // Answers of the calls on a PRACK store handed over to a C caller: the number is returned, and the values go to the lent numbers.
+#![tactic(auto)]
+
 ghost use Rattle.c_prack_answers.specs.Given.{rack_of, ValidatedGives, PrackedGives, ListedGives};
 
 use prack_validator::{Listed, Pracked, Validated};

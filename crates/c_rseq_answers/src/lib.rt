@@ -1,4 +1,6 @@
 // Answers of the calls on an RSeq store handed over to a C caller: the number is returned, and the values go to the lent numbers.
+#![tactic(auto)]
+
 ghost use Rattle.std.specs.Prelude.{◌≡◌};
 ghost use Rattle.c_rseq_answers.specs.Given.{NumberedGives, current_number, current_after, counted_number, counted_after, flag_of, empty_after};
 

@@ -1,4 +1,6 @@
 // Answers of the calls on a dialog store handed over to a C caller: the number is returned, and the values go to the lent numbers.
+#![tactic(auto)]
+
 ghost use Rattle.std.specs.Prelude.{◌≡◌};
 ghost use Rattle.limits.specs.Outcome.{number_in};
 ghost use Rattle.book.specs.Returned.{place_after, length_after};

@@ -1,4 +1,6 @@
 // Forms of bytes: texts with two length bytes and big-endian numbers, read and written at a place of lent bytes.
+#![tactic(auto)]
+
 mod reading;
 mod writing;
 

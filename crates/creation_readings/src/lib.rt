@@ -1,4 +1,6 @@
 // What a creation reads from the two messages: the identifier, the state, the target, the numbers, and the size of the routes' section.
+#![tactic(auto)]
+
 ghost use Rattle.std.specs.Prelude.{◌≡◌, ◌≤◌, length};
 ghost use Rattle.limits.specs.Limits.{rust_limits};
 ghost use Rattle.limits.specs.Outcome.{check_of};

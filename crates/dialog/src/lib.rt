@@ -1,5 +1,7 @@
 // Dialog: readings of one record image. What creation and the updates make of a record is defined in `dialog_rules`; the updates of one image are in
 // `dialog_changes`, `dialog_updates` and above it, creation in `dialog_creation`.
+#![tactic(auto)]
+
 mod matching;
 mod readings;
 mod routes;

@@ -1,4 +1,6 @@
 // The updates of one record that no message makes, on its image in lent bytes with room behind it. Each answers the image's new length.
+#![tactic(auto)]
+
 ghost use Rattle.std.specs.Prelude.{◌≡◌, ◌≤◌, length, take};
 ghost use Rattle.limits.specs.Limits.{rust_limits};
 ghost use Rattle.output.specs.Output.{fitted, leaves, written_from};

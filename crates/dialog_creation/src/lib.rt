@@ -1,4 +1,6 @@
 // Dialog::new_uac and Dialog::new_uas: a new record's image from a request and its response.
+#![tactic(auto)]
+
 ghost use Rattle.std.specs.Prelude.{◌≡◌, ◌≤◌, length};
 ghost use Rattle.limits.specs.Limits.{rust_limits};
 ghost use Rattle.output.specs.Output.{leaves, written_from};

@@ -1,4 +1,6 @@
 // A dialog's identifier: the check of given parts, and the readings from a header block.
+#![tactic(auto)]
+
 ghost use Rattle.std.specs.Prelude.{◌≡◌, ◌≤◌, length};
 ghost use Rattle.limits.specs.Limits.{rust_limits};
 ghost use Rattle.limits.specs.Outcome.{check_of};

@@ -1,4 +1,6 @@
 // DialogManager: the look-ups of a dialog store, on lent bytes of which so many are used.
+#![tactic(auto)]
+
 mod finding;
 mod lookups;
 mod placing;

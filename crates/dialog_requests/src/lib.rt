@@ -1,4 +1,6 @@
 // Dialog::update_from_request.
+#![tactic(auto)]
+
 ghost use Rattle.std.specs.Prelude.{◌≡◌, ◌≤◌, length, take};
 ghost use Rattle.limits.specs.Limits.{rust_limits};
 ghost use Rattle.msg.specs.Block.{lines_of, first_named, found_of};

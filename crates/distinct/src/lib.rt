@@ -1,4 +1,6 @@
 // Whether each record of a store has an identifier of its own.
+#![tactic(auto)]
+
 ghost use Rattle.std.specs.Prelude.{◌≡◌, length};
 ghost use Rattle.distinct.specs.Distinct.{Places, Whole, is_distinct};
 

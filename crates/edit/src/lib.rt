@@ -1,4 +1,6 @@
 // Edits in place: a piece written over lent bytes, and the used bytes after it moved to the left or to the right.
+#![tactic(auto)]
+
 ghost use Rattle.std.specs.Prelude.{◌≡◌, ◌+◌, ◌-◌, ◌≤◌, length, take, drop};
 ghost use Rattle.edit.specs.Edit.{put_at, over, spliced, tail_moved};
 

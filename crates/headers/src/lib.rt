@@ -1,4 +1,6 @@
 // Readings of header values: tags, Session-Expires.
+#![tactic(auto)]
+
 mod session_timer;
 mod tag;
 

@@ -1,4 +1,6 @@
 // One record image, read at a place of lent bytes (document 01, "Record image").
+#![tactic(auto)]
+
 ghost use Rattle.std.specs.Prelude.{◌≡◌, ◌&&◌, ◌||◌, ◌≤◌, ◌/◌, ◌%◌, eqb, ltb, length, drop};
 ghost use Rattle.record.specs.Record.{image};
 ghost use Rattle.image.specs.Places.{record_from};

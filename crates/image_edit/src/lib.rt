@@ -1,4 +1,6 @@
 // A record's numbers changed in its place in lent bytes. The caller has read it, and has measured that the change fits.
+#![tactic(auto)]
+
 ghost use Rattle.std.specs.Prelude.{◌≡◌, ◌+◌, ◌-◌, ◌≤◌, ◌<◌, ltb, length, take};
 ghost use Rattle.edit.specs.Edit.{over, spliced};
 ghost use Rattle.record.specs.NumbersForm.{meaning};

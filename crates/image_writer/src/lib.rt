@@ -1,5 +1,7 @@
 // One record image, written over the front of lent bytes (document 01, "Record image"): whole into the free end of a store, or made from its
 // parts, all but its routes.
+#![tactic(auto)]
+
 ghost use Rattle.std.specs.Prelude.{◌≡◌, ◌≤◌, ◌<◌, length, ltb};
 ghost use Rattle.edit.specs.Edit.{over};
 ghost use Rattle.output.specs.Output.{fitted, leaves, written_from};

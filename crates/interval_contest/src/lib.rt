@@ -1,4 +1,6 @@
 // Who sets the session interval: what a callee can make of one offer of a caller. Times are whole seconds.
+#![tactic(auto)]
+
 ghost use Rattle.std.specs.Prelude.{◌≡◌};
 ghost use Rattle.limits.specs.Limits.{rust_limits};
 ghost use Rattle.limits.specs.Outcome.{check_of};

@@ -1,4 +1,6 @@
 // The limits of the Rust as associated constants, and the refusals of document 01's table "Turned back".
+#![tactic(auto)]
+
 ghost use Rattle.std.specs.Prelude.{◌≡◌};
 ghost use Rattle.limits.specs.Refusal.{number_of};
 

@@ -1,4 +1,6 @@
 // The handover listing (document 01): reads a store from standard input and prints a line per record, or `refused` and the number.
+#![tactic(auto)]
+
 use libc::STDIN_FILENO;
 use listing_output::print_listing;
 

@@ -1,4 +1,6 @@
 // Lines of the listing: columns with a space between them, and a line feed at the end.
+#![tactic(auto)]
+
 ghost use Rattle.std.specs.Prelude.{◌≡◌, ◌++◌, ◌∷◌, [], ◌+◌, ◌≤◌, length};
 ghost use Rattle.edit.specs.Edit.{over, put_at};
 ghost use Rattle.output.specs.Decimal.{decimal_of};

@@ -1,4 +1,6 @@
 // The listing of a store, written to standard output: what `listing` and `listings` print.
+#![tactic(auto)]
+
 ghost use Rattle.std.specs.Prelude.{◌≡◌, ◌≢◌, ◌≤◌, length};
 ghost use Rattle.limits.specs.Limits.{rust_limits};
 ghost use Rattle.limits.specs.declared.Refusal.TheVariants.{NoRoom};

@@ -1,4 +1,6 @@
 // The handover listing as a text (document 01, "Handover listing").
+#![tactic(auto)]
+
 ghost use Rattle.std.specs.Prelude.{◌≡◌, true, ◌≤◌, length};
 ghost use Rattle.edit.specs.Edit.{over};
 ghost use Rattle.limits.specs.Limits.{rust_limits};

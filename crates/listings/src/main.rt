@@ -1,5 +1,7 @@
 // The stores in data/, in the order of the arguments: a line with the name of each, then what `listing` prints of it.
 // The stores and what is to be printed are made by tests/stores.py.
+#![tactic(auto)]
+
 use listing_output::{print, print_listing};
 
 fn main() {

@@ -1,4 +1,6 @@
 // The methods that the Rust's `parse_method` knows, numbered in its order from 1.
+#![tactic(auto)]
+
 ghost use Rattle.std.specs.Prelude.{◌≡◌, ◌≤◌, length, take};
 ghost use Rattle.limits.specs.Limits.{rust_limits};
 ghost use Rattle.output.specs.Output.{leaves, written_from};

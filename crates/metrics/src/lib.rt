@@ -1,4 +1,6 @@
 // The created and terminated counts of metrics.rs, as numbers that go in by value and come back changed.
+#![tactic(auto)]
+
 ghost use Rattle.std.specs.Prelude.{◌≡◌};
 ghost use Rattle.metrics.specs.Metrics.{counted, none_counted, created_counted, terminated_counted};
 

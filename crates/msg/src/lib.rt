@@ -1,4 +1,6 @@
 // The header block: its check, the look-up of a name, and all lines of a name; the classes of a status code.
+#![tactic(auto)]
+
 ghost use Rattle.std.specs.Prelude.{◌≡◌, ◌≤◌, length, drop};
 ghost use Rattle.limits.specs.Limits.{rust_limits};
 ghost use Rattle.limits.specs.Outcome.{check_of};

@@ -1,4 +1,6 @@
 // A store of entries: the order of texts, by which it keeps its keys (and by which `distinct` sorts the keys of records), and how many entries there are.
+#![tactic(auto)]
+
 ghost use Rattle.std.specs.Prelude.{◌≡◌, ◌-◌};
 ghost use Rattle.ordered_store.specs.Order.{order};
 

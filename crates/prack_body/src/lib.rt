@@ -1,4 +1,6 @@
 // What is held for one identifier text in a PRACK store: read at a place, and taken into a small array.
+#![tactic(auto)]
+
 ghost use Rattle.std.specs.Prelude.{◌≡◌, ◌+◌, ◌*◌, ◌≤◌, length, drop};
 ghost use Rattle.limits.specs.Limits.{rust_limits};
 ghost use Rattle.codec.specs.Codec.{read_all};

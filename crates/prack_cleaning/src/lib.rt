@@ -1,4 +1,6 @@
 // The entries that stay in a body (prack_body/specs/Body.antt), moved together: the cleanup of a call, and `remove_pracked`.
+#![tactic(auto)]
+
 ghost use Rattle.std.specs.Prelude.{◌≡◌, List, ◌++◌, ℕ, ◌+◌, ◌*◌, ◌≤◌, length, drop};
 ghost use Rattle.std.proofs.Math.Option.{some};
 ghost use Rattle.limits.specs.Limits.{rust_limits};

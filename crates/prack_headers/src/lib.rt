@@ -1,4 +1,6 @@
 // CSeq and RSeq of a block, as the Rust's prack_validator.rs reads them.
+#![tactic(auto)]
+
 ghost use Rattle.std.specs.Prelude.{◌≡◌, ◌≤◌, length};
 ghost use Rattle.limits.specs.Limits.{rust_limits};
 ghost use Rattle.text.specs.Number.{number_from, read_number};

@@ -1,4 +1,6 @@
 // The list of one identifier text in a small array (prack_body/specs/Body.antt): a response added, found and marked; those that wait.
+#![tactic(auto)]
+
 mod finding;
 mod open;
 mod pushing;

@@ -1,4 +1,6 @@
 // PrackValidator: the calls that remove, on a lent store of which so many bytes are used. Neither cleans.
+#![tactic(auto)]
+
 ghost use Rattle.std.specs.Prelude.{◌≡◌};
 ghost use Rattle.limits.specs.Limits.{rust_limits};
 ghost use Rattle.ordered_store.specs.Answers.{written_in, used_written};

@@ -1,4 +1,6 @@
 // Which entries of a body stay (prack_body/specs/Body.antt): the test of a cleanup, and that of `remove_pracked`.
+#![tactic(auto)]
+
 ghost use Rattle.std.specs.Prelude.{◌≡◌, List, ◌++◌, ℕ, ◌+◌, ◌-◌, ◌≤◌, length, drop};
 ghost use Rattle.limits.specs.Limits.{rust_limits};
 ghost use Rattle.prack_body.specs.Lists.{Pending, stays, is_other};

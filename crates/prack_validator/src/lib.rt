@@ -1,5 +1,7 @@
 // PrackValidator: the reliable provisional responses that wait for their PRACK, in a lent store of which so many bytes are used. The calls that remove are in
 // `prack_removal`.
+#![tactic(auto)]
+
 ghost use Rattle.std.specs.Prelude.{◌≡◌, length};
 ghost use Rattle.limits.specs.Limits.{rust_limits};
 ghost use Rattle.ordered_store.specs.Answers.{written_in, used_written};

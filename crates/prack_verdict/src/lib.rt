@@ -1,4 +1,6 @@
 // The PRACK of a block held against the responses that wait for one.
+#![tactic(auto)]
+
 ghost use Rattle.std.specs.Prelude.{◌≡◌, ◌≤◌, length};
 ghost use Rattle.prack_body.specs.Lists.{Tracked, with_list};
 ghost use Rattle.prack_body.specs.Body.{Holds};

@@ -1,4 +1,6 @@
 // RAck (RFC 3262 section 7.2): which provisional response a PRACK acknowledges.
+#![tactic(auto)]
+
 ghost use Rattle.std.specs.Prelude.{◌≡◌, ◌+◌, ◌≤◌, length};
 ghost use Rattle.limits.specs.Limits.{rust_limits};
 ghost use Rattle.edit.specs.Edit.{over};

@@ -1,4 +1,6 @@
 // One record: its image, and the steps of its numbers.
+#![tactic(auto)]
+
 mod numbers;
 
 pub use numbers::{Method, Numbers, Optional, Refresher, State, Step};

@@ -1,5 +1,7 @@
 // A record's numbers, with or without its target, changed in its place in lent bytes: 18 where the result is larger than they are.
 // The caller has read the record.
+#![tactic(auto)]
+
 ghost use Rattle.std.specs.Prelude.{◌≡◌, ◌≤◌, ◌<◌, length, take};
 ghost use Rattle.edit.specs.Edit.{over};
 ghost use Rattle.output.specs.Output.{fitted, leaves, written_from};

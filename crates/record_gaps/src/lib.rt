@@ -1,4 +1,6 @@
 // What the changes of a record in its place have in common: gaps opened for sections that grow or shrink, and the head written.
+#![tactic(auto)]
+
 mod gaps;
 mod head;
 

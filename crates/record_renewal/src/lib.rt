@@ -1,5 +1,7 @@
 // The changes of `record_edit` with the routes of a block, reversed: what a 2xx does that confirms an Early record. `count` and `size` are those that
 // `measure_routes` answers of the block, which was checked.
+#![tactic(auto)]
+
 ghost use Rattle.std.specs.Prelude.{◌≡◌, true, ◌++◌, ◌+◌, ◌≤◌, ◌<◌, length, take};
 ghost use Rattle.limits.specs.Limits.{rust_limits};
 ghost use Rattle.route_set.specs.Routes.{routes_of};

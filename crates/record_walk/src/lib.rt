@@ -1,5 +1,7 @@
 // The records of a store's used bytes, one after another: where the parts of a record end, and the record, of bytes that are
 // known to be whole records.
+#![tactic(auto)]
+
 ghost use Rattle.std.specs.Prelude.{◌≡◌, ◌+◌, ◌≤◌, ◌<◌, length};
 ghost use Rattle.record_walk.specs.Walk.{At, two_at, past_text, ids_end, end_at, texts_end};
 

@@ -1,5 +1,7 @@
 // Replays recorded answers of the Rust (`oracle/run record`, oracle/README.md): calls the C function of each line of the list on its standard input and compares all
 // that it answers with what the line has. Prints a line for each operation, and a last one.
+#![tactic(auto)]
+
 mod calls;
 mod lines;
 

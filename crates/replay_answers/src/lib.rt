@@ -1,4 +1,6 @@
 // What the program `replay` makes of a line but for the call: the memory, what is lent, the comparison of the answer, and the counts.
+#![tactic(auto)]
+
 mod answers;
 mod memory;
 mod tallies;

@@ -1,4 +1,6 @@
 // How the recorded list is read: bytes and parts of them, the items of a line, and the rows at the list's head. Nothing here knows an operation.
+#![tactic(auto)]
+
 mod bytes;
 mod items;
 mod rows;

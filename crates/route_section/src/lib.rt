@@ -1,4 +1,6 @@
 // The routes' section of a record image, measured and written out of the Record-Route lines of a header block that was checked.
+#![tactic(auto)]
+
 ghost use Rattle.std.specs.Prelude.{◌≡◌, ◌≤◌, length};
 ghost use Rattle.limits.specs.Limits.{rust_limits};
 ghost use Rattle.route_set.specs.Routes.{routes_of};

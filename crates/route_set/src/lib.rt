@@ -1,4 +1,6 @@
 // The elements of a header value, the Contact's URI, and the route set of a block's Record-Route lines.
+#![tactic(auto)]
+
 mod parts;
 mod routes;
 

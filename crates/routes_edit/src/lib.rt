@@ -1,5 +1,7 @@
 // A record changed in its place in lent bytes, its numbers and its routes in one step: what a 2xx does that confirms an Early record. The caller
 // has read the record, has measured the routes, and has measured that the change fits.
+#![tactic(auto)]
+
 ghost use Rattle.std.specs.Prelude.{◌≡◌, true, ◌++◌, ◌+◌, ◌-◌, ◌≤◌, length, take};
 ghost use Rattle.limits.specs.Limits.{rust_limits};
 ghost use Rattle.route_set.specs.Routes.{routes_of};

@@ -1,4 +1,6 @@
 // RSeqManager: the RSeq number of each dialog, in a lent store of which so many bytes are used.
+#![tactic(auto)]
+
 ghost use Rattle.std.specs.Prelude.{◌≡◌};
 ghost use Rattle.limits.specs.Limits.{rust_limits};
 ghost use Rattle.ordered_store.specs.Answers.{written_in, used_written};

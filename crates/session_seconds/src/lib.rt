@@ -1,4 +1,6 @@
 // The check of a session interval in whole seconds: a step of creation and of `set_session_expires`.
+#![tactic(auto)]
+
 ghost use Rattle.std.specs.Prelude.{◌≡◌};
 ghost use Rattle.limits.specs.Limits.{rust_limits};
 ghost use Rattle.session_seconds.specs.Seconds.{checked_seconds};

@@ -1,5 +1,7 @@
 // The free functions of session_timer_manager.rs, and of lib.rs `needs_refresh`, on numbers.
 // Times are whole nanoseconds where nothing is said of seconds.
+#![tactic(auto)]
+
 ghost use Rattle.std.specs.Prelude.{◌≡◌, min, max};
 ghost use Rattle.limits.specs.Limits.{rust_limits};
 ghost use Rattle.session_timer_manager.specs.Answers.{time_of, seconds_of, text_if, interval_from, role_from};

@@ -1,6 +1,8 @@
 // Runs document 01's test sheet and the examples of RFC 3261, 3262 and 4028 that the readings answer, a line for each:
 // where the example stands (`after` where it is not word for word there), what is asked, and the answer.
 // Here: numbers, sizes, blocks, status classes, tags, identifiers and whole messages. The others are in `sheet_routes`.
+#![tactic(auto)]
+
 mod blocks;
 mod flows;
 mod identifiers;

@@ -1,4 +1,6 @@
 // How a line of the sheets is written: where the example stands, what is asked, and each kind of answer.
+#![tactic(auto)]
+
 mod parts;
 
 use dialog_id::IdAnswer;

@@ -1,5 +1,7 @@
 // Runs sentences of change request 10, "Refusals in the worst minute", that calls on a run of verdicts can show, a line for each: the call, its answer, and how
 // many of the lent bytes are used. Times are nanoseconds; a verdict's number is 0 where the request was taken.
+#![tactic(auto)]
+
 mod calls;
 
 use calls::{add, add_many, worst};

@@ -1,5 +1,7 @@
 // Runs the rest of the test sheet and of the RFCs' examples, in the form of `sheet`: URIs, routes, Session-Expires,
 // intervals and who sets them, RSeq and RAck, and the counts.
+#![tactic(auto)]
+
 mod contests;
 mod counts;
 mod expires;

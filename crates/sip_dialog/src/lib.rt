@@ -1,4 +1,6 @@
 // The C face: functions on numbers and byte runs. Nothing but calls, and answers handed over.
+#![tactic(auto)]
+
 pub mod blocks;
 pub mod contests;
 pub mod creation;

@@ -1,4 +1,6 @@
 // The used bytes of a store: whole records one after another, each with an identifier of its own (document 01, "Record image").
+#![tactic(auto)]
+
 ghost use Rattle.std.specs.Prelude.{◌≡◌, length};
 ghost use Rattle.record.specs.Store.{decode_all};
 ghost use Rattle.store.specs.Counting.{records_held, count_answer};

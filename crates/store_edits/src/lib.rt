@@ -1,4 +1,6 @@
 // The calls that take records out of a lent store. Each answers the new used length.
+#![tactic(auto)]
+
 mod removal;
 mod sweeps;
 

@@ -1,5 +1,7 @@
 // What the calls that change one held record have in common: what they leave and answer, as definitions with their laws (specs/ and proofs/), and
 // where the record of an identifier stands in a lent store.
+#![tactic(auto)]
+
 ghost use Rattle.std.specs.Prelude.{◌≡◌};
 ghost use Rattle.dialog_id.specs.Ident.{ident};
 ghost use Rattle.store_entries.specs.Entries.{spot_in, standing_of, Ready};

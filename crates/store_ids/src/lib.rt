@@ -1,4 +1,6 @@
 // DialogManager::all_ids: the identifiers of all records of a lent store, written to lent output.
+#![tactic(auto)]
+
 ghost use Rattle.std.specs.Prelude.{◌≡◌, ◌+◌, ◌≤◌, ◌<◌, length};
 ghost use Rattle.limits.specs.Limits.{rust_limits};
 ghost use Rattle.edit.specs.Edit.{over, put_at};

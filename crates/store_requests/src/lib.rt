@@ -1,4 +1,6 @@
 // The request entry: the record that a request names, changed by it.
+#![tactic(auto)]
+
 ghost use Rattle.std.specs.Prelude.{◌≡◌, ◌+◌, ◌≤◌, length};
 ghost use Rattle.std.proofs.Math.Option.{none};
 ghost use Rattle.limits.specs.Limits.{rust_limits};

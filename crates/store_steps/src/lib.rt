@@ -1,4 +1,6 @@
 // The steps of the calls by identifier that no message makes, on the record that stands at a place of a store.
+#![tactic(auto)]
+
 ghost use Rattle.std.specs.Prelude.{◌≡◌, ◌≤◌, length, take};
 ghost use Rattle.limits.specs.Limits.{rust_limits};
 ghost use Rattle.limits.specs.Outcome.{given};

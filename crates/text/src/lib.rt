@@ -1,4 +1,6 @@
 // Bytes and ASCII: classes of bytes, blanks at both ends, letter case, words, and decimal numbers.
+#![tactic(auto)]
+
 ghost use Rattle.std.specs.Prelude.{◌≡◌, ◌+◌, ◌≤◌, eqb, length, not};
 ghost use Rattle.limits.specs.Limits.{rust_limits};
 ghost use Rattle.limits.specs.Outcome.{check_of};

@@ -1,4 +1,6 @@
 // Classes of bytes in a URI, and one scan for all of them.
+#![tactic(auto)]
+
 ghost use Rattle.std.specs.Prelude.{◌≡◌, ◌≤◌, length};
 ghost use Rattle.text.specs.Text.{span, all};
 ghost use Rattle.uri_bytes.specs.Bytes.{ends_port, ends_host};

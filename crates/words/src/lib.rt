@@ -1,4 +1,6 @@
 // The words of a text, one after another.
+#![tactic(auto)]
+
 ghost use Rattle.std.specs.Prelude.{◌≡◌, drop};
 ghost use Rattle.text.specs.Text.{words};
 ghost use Rattle.words.specs.Words.{word_at};

@@ -1,4 +1,6 @@
 // A run of request verdicts in lent bytes, of which so many are used, and the 60 s of it that have the most refusals.
+#![tactic(auto)]
+
 ghost use Rattle.std.specs.Prelude.{◌≡◌, max};
 ghost use Rattle.output.specs.Output.{leaves, written_from};
 ghost use Rattle.worst_minute.specs.Calls.{added, worst_in};
