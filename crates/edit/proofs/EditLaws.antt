@@ -1,12 +1,12 @@
 -- Laws of lists that the in-place edits turn on. Assumes nothing.
-use mathlib.Core.Path.{◌≡◌, refl, sym, ap, subst, ◌∙◌}
-use mathlib.Core.List.{List, [], ◌∷◌, ◌++◌, append_assoc, append-nil}
+use mathlib.Core.Path.{◌≡◌, sym, ap, subst, ◌∙◌}
+use mathlib.Core.List.{List, [], ◌++◌, append_assoc}
 use Prim.Native.Nat.{ℕ, zero, suc, ◌+◌, ◌-◌, ◌≤◌, ◌<◌}
-use native.Mathlib.Nat.{not-suc-le-zero, add-suc, suc-add, add-zero, zero-add, add_assoc}
+use native.Mathlib.Nat.{not-suc-le-zero, add-suc, suc-add, add-zero, add_assoc}
 use native.Mathlib.Numerals.{add-one}
 use native.Mathlib.Omega.{arith}
-use lib.ListN.{length, take, drop, get_or, set, length-append, length-take, length-drop, length-set, take-append-drop}
-use lib.Seq.{paste, paste-suc, drop-paste, take-paste, get_or-drop, get_or-take, take-suc, drop-cons, set_at, append_snoc, length-take-le, take-length, take_at, take-add, drop_at, take-take, take-append-le, drop-append-add, drop-drop}
+use lib.ListN.{length, take, drop, get_or, set, length-append, length-drop, take-append-drop}
+use lib.Seq.{paste, paste-suc, drop-paste, get_or-drop, get_or-take, take-suc, drop-cons, set_at, length-take-le, take-length, take_at, take-add, drop_at, take-take, take-append-le, drop-append-add, drop-drop}
 use Rattle.edit.specs.Edit.{put_at, over, spliced, tail_moved}
 
 -- what stands at i, where two lists agree from m on, or up to m
