@@ -26,10 +26,10 @@ over-estimate-requires : tie.Need-over-estimate-requires
 over-estimate-requires c κs = search rules
 
 returns-2 : tie.Need-returns-2
-returns-2 c = over_refused (sip_uri c.before.before.before.before.before.before.before.args.t.now) (sym c.before.before.before.before.before.read-uri.ensures ∙ c.before.before.before.u.given.1) (sym c.before.over_estimate_lem.ensures ∙ c.if1.true)
+returns-2 c = over_refused (sip_uri c.before.before.before.before.before.before.before.args.t.now) (sym c.before.before.before.before.before.read-uri.ensures ∙ c.before.before.before.u.given.1) (sym c.before.over_estimate.ensures ∙ c.if1.true)
 
 returns-3 : tie.Need-returns-3
-returns-3 c = within_passed (sip_uri c.before.before.before.before.before.before.before.args.t.now) (sym c.before.before.before.before.before.read-uri.ensures ∙ c.before.before.before.u.given.1) (sym c.before.over_estimate_lem.ensures ∙ c.if1.false)
+returns-3 c = within_passed (sip_uri c.before.before.before.before.before.before.before.args.t.now) (sym c.before.before.before.before.before.read-uri.ensures ∙ c.before.before.before.u.given.1) (sym c.before.over_estimate.ensures ∙ c.if1.false)
 
 pub check-estimate-spec : {M : Type 1} → statement M
 check-estimate-spec =

@@ -36,22 +36,22 @@ add-size-4 : tie.Need-overflow-add-size-4
 add-size-4 c = search rules
 
 returns : tie.Need-returns
-returns c = let a = c.before.before.before.before.before.before.before.before.before.before.before.args in refused_before a.routes (front_of (front_from (meaning a.numbers) a.we-are-uac a.secure a.call-id.now a.local-tag.now a.remote-tag.now a.target.now a.local-uri.now a.remote-uri.now (ltb 0 a.routes))) a.free.now (omega (arith, front_size (front_from (meaning a.numbers) a.we-are-uac a.secure a.call-id.now a.local-tag.now a.remote-tag.now a.target.now a.local-uri.now a.remote-uri.now (ltb 0 a.routes)), c.before.numbers_size_lem.ensures.0, c.before.before.uris_size_lem.ensures.0, c.before.before.before.ids_size_lem.ensures.0))
+returns c = let a = c.before.before.before.before.before.before.before.before.before.before.before.args in refused_before a.routes (front_of (front_from (meaning a.numbers) a.we-are-uac a.secure a.call-id.now a.local-tag.now a.remote-tag.now a.target.now a.local-uri.now a.remote-uri.now (ltb 0 a.routes))) a.free.now (omega (arith, front_size (front_from (meaning a.numbers) a.we-are-uac a.secure a.call-id.now a.local-tag.now a.remote-tag.now a.target.now a.local-uri.now a.remote-uri.now (ltb 0 a.routes)), c.before.numbers_size.ensures.0, c.before.before.uris_size.ensures.0, c.before.before.before.ids_size.ensures.0))
 
 sub-if2 : tie.Need-overflow-sub-if2
 sub-if2 c = search rules
 
 returns-2 : tie.Need-returns-2
-returns-2 c = let a = c.before.before.before.before.before.before.before.before.before.before.before.before.args in refused_before a.routes (front_of (front_from (meaning a.numbers) a.we-are-uac a.secure a.call-id.now a.local-tag.now a.remote-tag.now a.target.now a.local-uri.now a.remote-uri.now (ltb 0 a.routes))) a.free.now (omega (arith, front_size (front_from (meaning a.numbers) a.we-are-uac a.secure a.call-id.now a.local-tag.now a.remote-tag.now a.target.now a.local-uri.now a.remote-uri.now (ltb 0 a.routes)), c.before.before.numbers_size_lem.ensures.0, c.before.before.before.uris_size_lem.ensures.0, c.before.before.before.before.ids_size_lem.ensures.0))
+returns-2 c = let a = c.before.before.before.before.before.before.before.before.before.before.before.before.args in refused_before a.routes (front_of (front_from (meaning a.numbers) a.we-are-uac a.secure a.call-id.now a.local-tag.now a.remote-tag.now a.target.now a.local-uri.now a.remote-uri.now (ltb 0 a.routes))) a.free.now (omega (arith, front_size (front_from (meaning a.numbers) a.we-are-uac a.secure a.call-id.now a.local-tag.now a.remote-tag.now a.target.now a.local-uri.now a.remote-uri.now (ltb 0 a.routes)), c.before.before.numbers_size.ensures.0, c.before.before.before.uris_size.ensures.0, c.before.before.before.before.ids_size.ensures.0))
 
 write-parts-requires : tie.Need-write-parts-requires
-write-parts-requires c κs = let a = c.before.before.before.before.before.before.before.before.before.before.before.before.before.args in (c.before.before.before.before.before.before.before.before.before.before.before.before.before.requires.0, (c.before.before.before.before.before.before.before.before.before.before.before.before.before.requires.1, omega (arith, front_size (front_from (meaning a.numbers) a.we-are-uac a.secure a.call-id.now a.local-tag.now a.remote-tag.now a.target.now a.local-uri.now a.remote-uri.now (ltb 0 a.routes)), c.before.before.before.numbers_size_lem.ensures.0, c.before.before.before.before.uris_size_lem.ensures.0, c.before.before.before.before.before.ids_size_lem.ensures.0)))
+write-parts-requires c κs = let a = c.before.before.before.before.before.before.before.before.before.before.before.before.before.args in (c.before.before.before.before.before.before.before.before.before.before.before.before.before.requires.0, (c.before.before.before.before.before.before.before.before.before.before.before.before.before.requires.1, omega (arith, front_size (front_from (meaning a.numbers) a.we-are-uac a.secure a.call-id.now a.local-tag.now a.remote-tag.now a.target.now a.local-uri.now a.remote-uri.now (ltb 0 a.routes)), c.before.before.before.numbers_size.ensures.0, c.before.before.before.before.uris_size.ensures.0, c.before.before.before.before.before.ids_size.ensures.0)))
 
 same_length : tie.Need-same-length
 same_length c = search rules
 
 returns-3 : tie.Need-returns-3
-returns-3 c = let a = c.before.before.before.before.before.before.before.before.before.before.before.before.before.before.before.before.args in accepted_before a.routes (front_of (front_from (meaning a.numbers) a.we-are-uac a.secure a.call-id.now a.local-tag.now a.remote-tag.now a.target.now a.local-uri.now a.remote-uri.now (ltb 0 a.routes))) a.free.now (omega (arith, front_size (front_from (meaning a.numbers) a.we-are-uac a.secure a.call-id.now a.local-tag.now a.remote-tag.now a.target.now a.local-uri.now a.remote-uri.now (ltb 0 a.routes)), c.before.before.before.before.before.before.numbers_size_lem.ensures.0, c.before.before.before.before.before.before.before.uris_size_lem.ensures.0, c.before.before.before.before.before.before.before.before.ids_size_lem.ensures.0)) (omega (arith, front_size (front_from (meaning a.numbers) a.we-are-uac a.secure a.call-id.now a.local-tag.now a.remote-tag.now a.target.now a.local-uri.now a.remote-uri.now (ltb 0 a.routes)), c.before.before.before.before.before.before.numbers_size_lem.ensures.0, c.before.before.before.before.before.before.before.uris_size_lem.ensures.0, c.before.before.before.before.before.before.before.before.ids_size_lem.ensures.0)) c.before.before.write-parts.ensures
+returns-3 c = let a = c.before.before.before.before.before.before.before.before.before.before.before.before.before.before.before.before.args in accepted_before a.routes (front_of (front_from (meaning a.numbers) a.we-are-uac a.secure a.call-id.now a.local-tag.now a.remote-tag.now a.target.now a.local-uri.now a.remote-uri.now (ltb 0 a.routes))) a.free.now (omega (arith, front_size (front_from (meaning a.numbers) a.we-are-uac a.secure a.call-id.now a.local-tag.now a.remote-tag.now a.target.now a.local-uri.now a.remote-uri.now (ltb 0 a.routes)), c.before.before.before.before.before.before.numbers_size.ensures.0, c.before.before.before.before.before.before.before.uris_size.ensures.0, c.before.before.before.before.before.before.before.before.ids_size.ensures.0)) (omega (arith, front_size (front_from (meaning a.numbers) a.we-are-uac a.secure a.call-id.now a.local-tag.now a.remote-tag.now a.target.now a.local-uri.now a.remote-uri.now (ltb 0 a.routes)), c.before.before.before.before.before.before.numbers_size.ensures.0, c.before.before.before.before.before.before.before.uris_size.ensures.0, c.before.before.before.before.before.before.before.before.ids_size.ensures.0)) c.before.before.write-parts.ensures
 
 pub write-front-spec : {M : Type 1} → statement M
 write-front-spec =

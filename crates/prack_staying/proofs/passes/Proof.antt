@@ -19,7 +19,7 @@ returns : tie.Need-returns
 returns c = λ p rest f e. rw (c.before.before.which.given.1) (c.is-young.ensures p rest f e)
 
 returns-2 : tie.Need-returns-2
-returns-2 c = λ p rest f e. rw (c.before.before.which2.given.1) (c.is_other_lem.ensures p rest f e)
+returns-2 c = λ p rest f e. rw (c.before.before.which2.given.1) (c.is_other.ensures p rest f e)
 
 pub passes-spec : {M : Type 1} → statement M
 passes-spec =

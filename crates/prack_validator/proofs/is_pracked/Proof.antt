@@ -65,8 +65,8 @@ F c = found (i (top (e c))) (s (top (e c))) (used (top (e c))) (P c) (known (top
 abbrev d : tie.After-first-of → tie.After-known-told
 d c = c.before.before.before
 
-position : (c : tie.After-first-of) → c.first_of_lem.result ≡ position_in (r (top (e (d c)))) (F (d c)).t.list
-position c = c.first_of_lem.ensures (F (d c)).t (body_there (known (top (e (d c)))) (S (d c)).within (F (d c)))
+position : (c : tie.After-first-of) → c.first_of.result ≡ position_in (r (top (e (d c)))) (F (d c)).t.list
+position c = c.first_of.ensures (F (d c)).t (body_there (known (top (e (d c)))) (S (d c)).within (F (d c)))
 
 answers : (c : tie.After-known-told) (b : Bool) → is_acknowledged (first_of_rseq (r (top (e c))) (entries_of (F c).t.list)) ≡ b
     → DonePracked (s (top (e c))) (used (top (e c))) (ran rust_limits (act (top (e c))) (s (top (e c))) (used (top (e c)))) (pracked.Is b)

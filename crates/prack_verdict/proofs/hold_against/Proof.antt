@@ -53,7 +53,7 @@ place c = c.before.place.given.0.0
 
 found : (c : tie.After-known-told2) (t : Tracked) → Holds (body (r (e c))) (n (r (e c))) t
     → FoundIn (k (e c)).rseq t.list (place c) c.before.place.given.0.1.0 c.before.place.given.0.1.1.0 c.before.place.given.0.1.1.1.0
-found c t h = position_found (k (e c)).rseq t.list (sym c.before.place.given.1 ∙ c.before.before.before.first_of_lem.ensures t h)
+found c t h = position_found (k (e c)).rseq t.list (sym c.before.place.given.1 ∙ c.before.before.before.first_of.ensures t h)
 
 -- it lies in the body
 inside : (c : tie.After-known-told2) (t : Tracked) → Holds (body (r (e c))) (n (r (e c))) t → place c + 20 ≤ n (r (e c))
@@ -142,7 +142,7 @@ same-length-5 c = search rules
 returns-6 : tie.Need-returns-6
 returns-6 c =
     let d = c.before.before.before.before in
-    refuses d (λ t h. no_list (rack_in (block (r d))) t.list (k d) (rack d) (position_no_list (k d).rseq t.list (sym c.enum-told2.given.1 ∙ c.before.before.first_of_lem.ensures t h)))
+    refuses d (λ t h. no_list (rack_in (block (r d))) t.list (k d) (rack d) (position_no_list (k d).rseq t.list (sym c.enum-told2.given.1 ∙ c.before.before.first_of.ensures t h)))
 
 same-length-6 : tie.Need-same-length-6
 same-length-6 c = search rules
@@ -151,7 +151,7 @@ returns-7 : tie.Need-returns-7
 returns-7 c =
     let d = c.before.before.before.before in
     refuses d (λ t h.
-    let w = position_unknown (k d).rseq t.list (sym c.enum-told3.given.1 ∙ c.before.before.first_of_lem.ensures t h) in
+    let w = position_unknown (k d).rseq t.list (sym c.enum-told3.given.1 ∙ c.before.before.first_of.ensures t h) in
     no_entry (rack_in (block (r d))) t.list (k d) (rack d) w.0 w.1.0 w.1.1)
 
 pub hold-against-spec : {M : Type 1} → statement M

@@ -57,9 +57,9 @@ open-gaps-requires c κs =
     let d = c.before.before.before.before.before.before in
     let a = d.before.args in
     let w = within d in
-    let s : c.before.before.numbers_size_lem.result ≡ length (numbers_bytes (meaning a.numbers)) = c.before.before.numbers_size_lem.ensures.0 in
+    let s : c.before.before.numbers_size.result ≡ length (numbers_bytes (meaning a.numbers)) = c.before.before.numbers_size.ensures.0 in
     let e : a.r.uris.end + (a.r.routes - a.r.uris.end) ≤ a.used = omega (arith, w.3, w.4) in
-    let f : a.used - a.r.uris.target.length - (a.r.routes - a.r.uris.end) + length a.target.now + c.before.before.numbers_size_lem.result ≤ length a.bytes.now = omega (arith, room d, s) in
+    let f : a.used - a.r.uris.target.length - (a.r.routes - a.r.uris.end) + length a.target.now + c.before.before.numbers_size.result ≤ length a.bytes.now = omega (arith, room d, s) in
     ((w.2, e, d.before.requires.0.0), f)
 
 add-to : tie.Need-overflow-add-to
@@ -102,14 +102,14 @@ returns c =
     let a = d.before.args in
     let s = a.bytes.now in
     let x = meaning a.numbers in
-    let size : c.before.before.before.before.before.before.before.before.before.before.before.before.before.numbers_size_lem.result ≡ length (numbers_bytes x) = c.before.before.before.before.before.before.before.before.before.before.before.before.before.numbers_size_lem.ensures.0 in
+    let size : c.before.before.before.before.before.before.before.before.before.before.before.before.before.numbers_size.result ≡ length (numbers_bytes x) = c.before.before.before.before.before.before.before.before.before.before.before.before.before.numbers_size.ensures.0 in
     let from = a.r.uris.target.start + a.r.uris.target.length in
     let m = a.r.uris.end - from in
     let to = a.r.uris.target.start + length a.target.now in
     let behind = a.r.uris.end + (a.r.routes - a.r.uris.end) in
     let opened : c.before.before.before.before.before.before.before.before.before.before.open-gaps.new.0 ≡ put_at to (take m (drop from s)) (put_at (to + m + length (numbers_bytes x)) (take (a.used - behind) (drop behind s)) s) =
     c.before.before.before.before.before.before.before.before.before.before.open-gaps.ensures.1 ∙ ap (λ (n : ℕ). put_at to (take m (drop from s)) (put_at (to + m + n) (take (a.used - behind) (drop behind s)) s)) size in
-    let n : c.before.before.before.before.before.before.before.before.before.before.open-gaps.result ≡ a.used - a.r.uris.target.length - (a.r.routes - a.r.uris.end) + length a.target.now + c.before.before.before.before.before.before.before.before.before.before.before.before.before.numbers_size_lem.result = c.before.before.before.before.before.before.before.before.before.before.open-gaps.ensures.0 in (
+    let n : c.before.before.before.before.before.before.before.before.before.before.open-gaps.result ≡ a.used - a.r.uris.target.length - (a.r.routes - a.r.uris.end) + length a.target.now + c.before.before.before.before.before.before.before.before.before.before.before.before.before.numbers_size.result = c.before.before.before.before.before.before.before.before.before.before.open-gaps.ensures.0 in (
       n ∙ ap (λ (k : ℕ). a.used - a.r.uris.target.length - (a.r.routes - a.r.uris.end) + length a.target.now + k) size ∙ sym (sized d),
       c.before.before.write-head.ensures ∙ ap (λ (l : List ℕ). put_at a.at (two.write (map_from x a.r.ids a.r.route_count)) (put_at a.r.state ((state_byte_number (record { state = x.state; we_are_uac = a.r.we_are_uac; secure = a.r.uris.local_secure || a.r.uris.remote_secure }) ∷ []) ++ text.write a.target.now) l)) (c.before.before.before.before.before.before.write-numbers.ensures.1 ∙ ap (put_at (to + m) (numbers_bytes x)) opened) ∙ both_edit s a.used a.at a.r d.before.requires.0.0 (stood d) x a.target.now (room d),
     )

@@ -48,20 +48,20 @@ numbers-size-requires : tie.Need-numbers-size-requires
 numbers-size-requires c κs = search rules
 
 add-size : tie.Need-overflow-add-size
-add-size c = omega (arith, within c.before.before.before.before, c.numbers_size_lem.ensures.1, c.before.before.before.before.before.requires.0.0)
+add-size c = omega (arith, within c.before.before.before.before, c.numbers_size.ensures.1, c.before.before.before.before.before.requires.0.0)
 
 returns : tie.Need-returns
 returns c =
     let d = c.before.before.before.before.before in
     let a = d.before.args in
-    let s : c.before.numbers_size_lem.result ≡ length (numbers_bytes (meaning a.numbers)) = c.before.numbers_size_lem.ensures.0 in
+    let s : c.before.numbers_size.result ≡ length (numbers_bytes (meaning a.numbers)) = c.before.numbers_size.ensures.0 in
     refused_large (changed (with_numbers (meaning a.numbers)) a.at (take a.used a.bytes.now)) a.bytes.now (omega (arith, c.if1.true, s, sized d))
 
 change-numbers-requires : tie.Need-change-numbers-requires
 change-numbers-requires c κs =
     let d = c.before.before.before.before.before.before in
     let a = d.before.args in
-    let s : c.before.before.numbers_size_lem.result ≡ length (numbers_bytes (meaning a.numbers)) = c.before.before.numbers_size_lem.ensures.0 in
+    let s : c.before.before.numbers_size.result ≡ length (numbers_bytes (meaning a.numbers)) = c.before.before.numbers_size.ensures.0 in
     (d.before.requires.0, (d.before.requires.1, omega (arith, c.before.if1.false, s, sized d)))
 
 same_length : tie.Need-same-length
@@ -71,7 +71,7 @@ returns-2 : tie.Need-returns-2
 returns-2 c =
     let d = c.before.before.before.before.before.before.before.before.before in
     let a = d.before.args in
-    let s : c.before.before.before.before.before.numbers_size_lem.result ≡ length (numbers_bytes (meaning a.numbers)) = c.before.before.before.before.before.numbers_size_lem.ensures.0 in
+    let s : c.before.before.before.before.before.numbers_size.result ≡ length (numbers_bytes (meaning a.numbers)) = c.before.before.before.before.before.numbers_size.ensures.0 in
     accepted (changed (with_numbers (meaning a.numbers)) a.at (take a.used a.bytes.now)) a.bytes.now (omega (arith, c.before.before.before.before.if1.false, s, sized d)) c.before.before.change-numbers.ensures.0 c.before.before.change-numbers.ensures.1
 
 pub revise-numbers-spec : {M : Type 1} → statement M

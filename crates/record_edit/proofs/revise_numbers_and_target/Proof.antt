@@ -52,20 +52,20 @@ numbers-size-requires : tie.Need-numbers-size-requires
 numbers-size-requires c κs = search rules
 
 add-result-2 : tie.Need-overflow-add-result-2
-add-result-2 c = omega (arith, within c.before.before.before.before.before.before.before, c.numbers_size_lem.ensures.1, c.before.before.before.before.before.before.before.before.requires.0.0, c.before.before.before.before.before.before.before.before.requires.0.2)
+add-result-2 c = omega (arith, within c.before.before.before.before.before.before.before, c.numbers_size.ensures.1, c.before.before.before.before.before.before.before.before.requires.0.0, c.before.before.before.before.before.before.before.before.requires.0.2)
 
 returns : tie.Need-returns
 returns c =
     let d = c.before.before.before.before.before.before.before.before in
     let a = d.before.args in
-    let s : c.before.numbers_size_lem.result ≡ length (numbers_bytes (meaning a.numbers)) = c.before.numbers_size_lem.ensures.0 in
+    let s : c.before.numbers_size.result ≡ length (numbers_bytes (meaning a.numbers)) = c.before.numbers_size.ensures.0 in
     refused_large (changed (revised (meaning a.numbers) a.target.now) a.at (take a.used a.bytes.now)) a.bytes.now (omega (arith, c.if1.true, s, sized d))
 
 change-numbers-and-target-requires : tie.Need-change-numbers-and-target-requires
 change-numbers-and-target-requires c κs =
     let d = c.before.before.before.before.before.before.before.before.before in
     let a = d.before.args in
-    let s : c.before.before.numbers_size_lem.result ≡ length (numbers_bytes (meaning a.numbers)) = c.before.before.numbers_size_lem.ensures.0 in
+    let s : c.before.before.numbers_size.result ≡ length (numbers_bytes (meaning a.numbers)) = c.before.before.numbers_size.ensures.0 in
     (d.before.requires.0, (d.before.requires.1, omega (arith, c.before.if1.false, s, sized d)))
 
 same_length : tie.Need-same-length
@@ -75,7 +75,7 @@ returns-2 : tie.Need-returns-2
 returns-2 c =
     let d = c.before.before.before.before.before.before.before.before.before.before.before.before in
     let a = d.before.args in
-    let s : c.before.before.before.before.before.numbers_size_lem.result ≡ length (numbers_bytes (meaning a.numbers)) = c.before.before.before.before.before.numbers_size_lem.ensures.0 in
+    let s : c.before.before.before.before.before.numbers_size.result ≡ length (numbers_bytes (meaning a.numbers)) = c.before.before.before.before.before.numbers_size.ensures.0 in
     accepted (changed (revised (meaning a.numbers) a.target.now) a.at (take a.used a.bytes.now)) a.bytes.now (omega (arith, c.before.before.before.before.if1.false, s, sized d)) c.before.before.change-numbers-and-target.ensures.0 c.before.before.change-numbers-and-target.ensures.1
 
 pub revise-numbers-and-target-spec : {M : Type 1} → statement M

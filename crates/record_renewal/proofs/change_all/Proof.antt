@@ -68,7 +68,7 @@ numbers-size-requires : tie.Need-numbers-size-requires
 numbers-size-requires c κs = search rules
 
 add-tail : tie.Need-overflow-add-tail
-add-tail c = omega (arith, c.numbers_size_lem.ensures.1, c.before.before.before.before.before.before.requires.0.3)
+add-tail c = omega (arith, c.numbers_size.ensures.1, c.before.before.before.before.before.before.requires.0.3)
 
 sub-open-gaps : tie.Need-overflow-sub-open-gaps
 sub-open-gaps c = (within c.before.before.before.before.before.before.before).3
@@ -78,9 +78,9 @@ open-gaps-requires c κs =
     let d = c.before.before.before.before.before.before.before in
     let a = d.before.args in
     let w = within d in
-    let s : c.before.before.numbers_size_lem.result ≡ length (numbers_bytes (meaning a.numbers)) = c.before.before.numbers_size_lem.ensures.0 in
+    let s : c.before.before.numbers_size.result ≡ length (numbers_bytes (meaning a.numbers)) = c.before.before.numbers_size.ensures.0 in
     let e : a.r.uris.end + (a.r.end - a.r.uris.end) ≤ a.used = omega (arith, w.3, w.4) in
-    let f : a.used - a.r.uris.target.length - (a.r.end - a.r.uris.end) + length a.target.now + (c.before.before.numbers_size_lem.result + a.size) ≤ length a.bytes.now = omega (arith, room d, s) in
+    let f : a.used - a.r.uris.target.length - (a.r.end - a.r.uris.end) + length a.target.now + (c.before.before.numbers_size.result + a.size) ≤ length a.bytes.now = omega (arith, room d, s) in
     ((w.2, e, d.before.requires.0.0), f)
 
 add-to : tie.Need-overflow-add-to
@@ -125,15 +125,15 @@ returns c =
     let x = meaning a.numbers in
     let l = route_texts true (read d).pieces in
     let tail = numbers_bytes x ++ section_of l in
-    let size : c.before.before.before.before.before.before.before.before.before.before.before.before.before.numbers_size_lem.result ≡ length (numbers_bytes x) = c.before.before.before.before.before.before.before.before.before.before.before.before.before.numbers_size_lem.ensures.0 in
+    let size : c.before.before.before.before.before.before.before.before.before.before.before.before.before.numbers_size.result ≡ length (numbers_bytes x) = c.before.before.before.before.before.before.before.before.before.before.before.before.before.numbers_size.ensures.0 in
     let from = a.r.uris.target.start + a.r.uris.target.length in
     let m = a.r.uris.end - from in
     let to = a.r.uris.target.start + length a.target.now in
     let behind = a.r.uris.end + (a.r.end - a.r.uris.end) in
-    let tail-size : c.before.before.before.before.before.before.before.before.before.before.before.before.before.numbers_size_lem.result + a.size ≡ length tail = omega (arith, size, (read d).size_is, length-append (numbers_bytes x) (section_of l)) in
+    let tail-size : c.before.before.before.before.before.before.before.before.before.before.before.before.before.numbers_size.result + a.size ≡ length tail = omega (arith, size, (read d).size_is, length-append (numbers_bytes x) (section_of l)) in
     let opened : c.before.before.before.before.before.before.before.before.before.before.open-gaps.new.0 ≡ put_at to (take m (drop from s)) (put_at (to + m + length tail) (take (a.used - behind) (drop behind s)) s) =
     c.before.before.before.before.before.before.before.before.before.before.open-gaps.ensures.1 ∙ ap (λ (n : ℕ). put_at to (take m (drop from s)) (put_at (to + m + n) (take (a.used - behind) (drop behind s)) s)) tail-size in
-    let n : c.before.before.before.before.before.before.before.before.before.before.open-gaps.result ≡ a.used - a.r.uris.target.length - (a.r.end - a.r.uris.end) + length a.target.now + (c.before.before.before.before.before.before.before.before.before.before.before.before.before.numbers_size_lem.result + a.size) = c.before.before.before.before.before.before.before.before.before.before.open-gaps.ensures.0 in
+    let n : c.before.before.before.before.before.before.before.before.before.before.open-gaps.result ≡ a.used - a.r.uris.target.length - (a.r.end - a.r.uris.end) + length a.target.now + (c.before.before.before.before.before.before.before.before.before.before.before.before.before.numbers_size.result + a.size) = c.before.before.before.before.before.before.before.before.before.before.open-gaps.ensures.0 in
     let section : section_in true (routes_of rust_limits a.block.now) ≡ section_of l = ap (section_in true) (read d).is in
     let written : c.before.before.before.before.before.before.write-tail.new.0 ≡ put_at (to + m) tail c.before.before.before.before.before.before.before.before.before.before.open-gaps.new.0 = c.before.before.before.before.before.before.write-tail.ensures ∙ ap (λ (q : List ℕ). put_at (to + m) (numbers_bytes x ++ q) c.before.before.before.before.before.before.before.before.before.before.open-gaps.new.0) section in (
       n ∙ ap (λ (k : ℕ). a.used - a.r.uris.target.length - (a.r.end - a.r.uris.end) + length a.target.now + (k + a.size)) size ∙ sym (sized d),

@@ -75,23 +75,23 @@ numbers-size-requires : tie.Need-numbers-size-requires
 numbers-size-requires c κs = search rules
 
 add-result-2 : tie.Need-overflow-add-result-2
-add-result-2 c = omega (arith, within c.before.before.before.before.before.before.before.before, c.numbers_size_lem.ensures.1, c.before.before.before.before.before.before.before.before.before.requires.0.0, c.before.before.before.before.before.before.before.before.before.requires.0.3, c.before.before.before.before.before.before.before.before.before.requires.0.4)
+add-result-2 c = omega (arith, within c.before.before.before.before.before.before.before.before, c.numbers_size.ensures.1, c.before.before.before.before.before.before.before.before.before.requires.0.0, c.before.before.before.before.before.before.before.before.before.requires.0.3, c.before.before.before.before.before.before.before.before.before.requires.0.4)
 
 add-result-3 : tie.Need-overflow-add-result-3
-add-result-3 c = omega (arith, within c.before.before.before.before.before.before.before.before, c.numbers_size_lem.ensures.1, c.before.before.before.before.before.before.before.before.before.requires.0.0, c.before.before.before.before.before.before.before.before.before.requires.0.3, c.before.before.before.before.before.before.before.before.before.requires.0.4)
+add-result-3 c = omega (arith, within c.before.before.before.before.before.before.before.before, c.numbers_size.ensures.1, c.before.before.before.before.before.before.before.before.before.requires.0.0, c.before.before.before.before.before.before.before.before.before.requires.0.3, c.before.before.before.before.before.before.before.before.before.requires.0.4)
 
 returns : tie.Need-returns
 returns c =
     let d = c.before.before.before.before.before.before.before.before.before in
     let a = d.before.args in
-    let s : c.before.numbers_size_lem.result ≡ length (numbers_bytes (meaning a.numbers)) = c.before.numbers_size_lem.ensures.0 in
+    let s : c.before.numbers_size.result ≡ length (numbers_bytes (meaning a.numbers)) = c.before.numbers_size.ensures.0 in
     refused_large (changed (renewed (meaning a.numbers) (routes_of rust_limits a.block.now) a.target.now) a.at (take a.used a.bytes.now)) a.bytes.now (omega (arith, c.if1.true, s, sized d))
 
 change-all-requires : tie.Need-change-all-requires
 change-all-requires c κs =
     let d = c.before.before.before.before.before.before.before.before.before.before in
     let a = d.before.args in
-    let s : c.before.before.numbers_size_lem.result ≡ length (numbers_bytes (meaning a.numbers)) = c.before.before.numbers_size_lem.ensures.0 in
+    let s : c.before.before.numbers_size.result ≡ length (numbers_bytes (meaning a.numbers)) = c.before.before.numbers_size.ensures.0 in
     (d.before.requires.0, (d.before.requires.1.0, (d.before.requires.1.1, omega (arith, c.before.if1.false, s, sized d))))
 
 same_length : tie.Need-same-length
@@ -101,7 +101,7 @@ returns-2 : tie.Need-returns-2
 returns-2 c =
     let d = c.before.before.before.before.before.before.before.before.before.before.before.before.before in
     let a = d.before.args in
-    let s : c.before.before.before.before.before.numbers_size_lem.result ≡ length (numbers_bytes (meaning a.numbers)) = c.before.before.before.before.before.numbers_size_lem.ensures.0 in
+    let s : c.before.before.before.before.before.numbers_size.result ≡ length (numbers_bytes (meaning a.numbers)) = c.before.before.before.before.before.numbers_size.ensures.0 in
     accepted (changed (renewed (meaning a.numbers) (routes_of rust_limits a.block.now) a.target.now) a.at (take a.used a.bytes.now)) a.bytes.now (omega (arith, c.before.before.before.before.if1.false, s, sized d)) c.before.before.change-all.ensures.0 c.before.before.change-all.ensures.1
 
 pub revise-all-spec : {M : Type 1} → statement M

@@ -28,8 +28,8 @@ module _ (c : tie.After-shared-slice-known) where
   here = c.before.requires
 
 -- each step's place
-at_target : (c : tie.After-ids-end) → c.ids_end_lem.result + 1 ≡ (let b = c.before.before in Tails.target (s b) (p b) (known b) (here b))
-at_target c = let b = c.before.before in Tails.target_is (s b) (p b) (known b) (here b) c.ids_end_lem.result c.ids_end_lem.ensures.0
+at_target : (c : tie.After-ids-end) → c.ids_end.result + 1 ≡ (let b = c.before.before in Tails.target (s b) (p b) (known b) (here b))
+at_target c = let b = c.before.before in Tails.target_is (s b) (p b) (known b) (here b) c.ids_end.result c.ids_end.ensures.0
 
 at_local_uri : (c : tie.After-past) → c.past.result ≡ (let b = c.before.before.before in Tails.local-uri (s b) (p b) (known b) (here b))
 at_local_uri c = let b = c.before.before.before in c.past.ensures ∙ Tails.target_past (s b) (p b) (known b) (here b) _ (at_target c.before)
@@ -56,7 +56,7 @@ past-requires-2 : tie.Need-past-requires-2
 past-requires-2 c κs = let b = c.before.before.before in omega (arith, Tails.local_uri_past (s b) (p b) (known b) (here b) _ (at_local_uri c), (Tails.remote_uri_at (s b) (p b) (known b) (here b)).here)
 
 past-requires-3 : tie.Need-past-requires-3
-past-requires-3 c κs = let b = c.before.before.before.before in omega (arith, Tails.remote_uri_past (s b) (p b) (known b) (here b) _ (at_remote_uri c), (Tails.numbers_at_lem (s b) (p b) (known b) (here b)).here)
+past-requires-3 c κs = let b = c.before.before.before.before in omega (arith, Tails.remote_uri_past (s b) (p b) (known b) (here b) _ (at_remote_uri c), (Tails.numbers_at (s b) (p b) (known b) (here b)).here)
 
 add-count : tie.Need-overflow-add-count
 add-count c = search rules
@@ -113,7 +113,7 @@ wide-requires c κs = search rules
 ended : (c : tie.After-wide) → texts_end c.wide.result (s (b c.before.before)) ((d c.before.before).past3.result + 4 * Tails.number_count (a (d c.before.before)).two.result + 1) ≡ end_at (s (b c.before.before)) (p (b c.before.before))
 ended c =
     let e = c.before.before in
-    Tails.texts_end_lem (s (b e)) (p (b e)) (known (b e)) (here (b e)) (a (d e)).two.result (d e).past3.result (a (d e)).two.ensures.0 (at_numbers (d e)) e.if1.false c.wide.result c.wide.ensures.0
+    Tails.texts_end (s (b e)) (p (b e)) (known (b e)) (here (b e)) (a (d e)).two.result (d e).past3.result (a (d e)).two.ensures.0 (at_numbers (d e)) e.if1.false c.wide.result c.wide.ensures.0
 
 texts-end-requires : tie.Need-texts-end-requires
 texts-end-requires c κs =
@@ -121,7 +121,7 @@ texts-end-requires c κs =
     rw (ended c) (Tails.end_here (s (b e)) (p (b e)) (known (b e)) (here (b e)))
 
 returns-2 : tie.Need-returns-2
-returns-2 c = c.texts_end_lem.ensures ∙ ended c.before
+returns-2 c = c.texts_end.ensures ∙ ended c.before
 
 pub record-end-spec : {M : Type 1} → statement M
 record-end-spec =

@@ -50,7 +50,7 @@ returns c =
     let t = section_in true (routes_of rust_limits a.block.now) in
     let m = c.before.before.before.before.before.before.before.before.before.before.move-tail in
     let w = c.before.before.before.before.before.before.write-numbers in
-    let n : c.before.before.before.before.before.before.before.before.before.before.before.numbers_size_lem.result ≡ length x = c.before.before.before.before.before.before.before.before.before.before.before.numbers_size_lem.ensures.0 in
+    let n : c.before.before.before.before.before.before.before.before.before.before.before.numbers_size.result ≡ length x = c.before.before.before.before.before.before.before.before.before.before.before.numbers_size.ensures.0 in
     let k : length m.new.0 ≡ length a.bytes.now = m.auto.0 in (
       omega (arith, m.ensures.0, n),
       sections_put a.bytes.now a.used a.at a.old-length x t c.before.before.before.before.before.before.before.before.before.before.before.before.before.before.before.requires.1.0 c.before.before.before.before.before.before.before.before.before.before.before.before.before.before.before.requires.1.1 c.before.before.before.before.before.before.before.before.before.before.before.before.before.before.before.requires.1.2 c.before.before.before.before.before.before.before.before.before.before.before.before.before.before.before.requires.0.1 (omega (arith, n)) m.ensures.1 (omega (arith, k)) w.ensures.0 w.ensures.1 c.before.before.write-routes.ensures,

@@ -69,13 +69,13 @@ returns-2 c =
     let t = c.before.before.before in
     let k = began t in
     let a = k.before.before.args in
-    let h : length a.out.now < length (ids t) = omega (arith, c.if1.true, c.before.ids_size_lem.ensures) in
+    let h : length a.out.now < length (ids t) = omega (arith, c.if1.true, c.before.ids_size.ensures) in
     let e = too_long rust_limits (length (s k)) (length a.out.now) (s k) a.used (known k) (store t) h in
     (ap ids_written e, ap (λ (x : Answer). output_after x a.out.now) e)
 
 -- there is room
 fits : (c : tie.Else1) → length (ids c.before.before.before) ≤ length (began c.before.before.before).before.before.args.out.now
-fits c = omega (arith, c.if1.false, c.before.ids_size_lem.ensures)
+fits c = omega (arith, c.if1.false, c.before.ids_size.ensures)
 
 slice-aggregate-write-all : tie.Need-slice-aggregate-write-all
 slice-aggregate-write-all c = let t = c.before.before.before.before in let k = began t in sym (length-take-le k.before.before.args.used (s k) (store t).within)
@@ -96,7 +96,7 @@ returns-3 c =
     let k = began t in
     let a = k.before.before.args in
     let e = fitting rust_limits (length (s k)) (length a.out.now) (s k) a.used (known k) (store t) (fits i) in
-    (ap written.Length i.before.ids_size_lem.ensures ∙ ap ids_written e, c.before.before.write-all.ensures ∙ ap (λ (x : Answer). output_after x a.out.now) e)
+    (ap written.Length i.before.ids_size.ensures ∙ ap ids_written e, c.before.before.write-all.ensures ∙ ap (λ (x : Answer). output_after x a.out.now) e)
 
 pub all-ids-spec : {M : Type 1} → statement M
 all-ids-spec =

@@ -23,10 +23,10 @@ text-end-requires : tie.Need-text-end-requires
 text-end-requires c κs = search rules
 
 slice-aggregate-result : tie.Need-slice-aggregate-result
-slice-aggregate-result c = sym (length-take-le _ _ (omega (arith, c.before.text_end_lem.ensures.0)))
+slice-aggregate-result c = sym (length-take-le _ _ (omega (arith, c.before.text_end.ensures.0)))
 
 returns : tie.Need-returns
-returns c = trim_part c.before.before.before.before.before.args.s.now _ _ c.before.before.before.leading.ensures.0 c.before.text_end_lem.ensures.0
+returns c = trim_part c.before.before.before.before.before.args.s.now _ _ c.before.before.before.leading.ensures.0 c.before.text_end.ensures.0
 
 pub trim-spec : {M : Type 1} → statement M
 trim-spec =

@@ -27,8 +27,8 @@ returns : tie.Need-returns
 returns c =
     let s = c.before.before.before.before.args.s.now in
     let a = c.before.before.leading.result in
-    let e = trim_length s a _ c.before.before.leading.ensures.0 c.text_end_lem.ensures.0 c.text_end_lem.ensures.1 in
-    (ap₂ (λ (x y : ℕ). record { start = x; length = y }) c.before.before.leading.ensures.0 e, omega (arith, c.text_end_lem.ensures.1, part_length s a, c.before.before.leading.ensures.1))
+    let e = trim_length s a _ c.before.before.leading.ensures.0 c.text_end.ensures.0 c.text_end.ensures.1 in
+    (ap₂ (λ (x y : ℕ). record { start = x; length = y }) c.before.before.leading.ensures.0 e, omega (arith, c.text_end.ensures.1, part_length s a, c.before.before.leading.ensures.1))
 
 pub trim-span-spec : {M : Type 1} → statement M
 trim-span-spec =

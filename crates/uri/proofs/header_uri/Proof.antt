@@ -17,11 +17,11 @@ enum_told : tie.Need-enum-told
 enum_told c = search rules
 
 returns : tie.Need-returns
-returns c = (ap header_uri_from (sym (uncut c.before.before.before.before.args.value.now (sym c.before.before.uri_text_lem.ensures ∙ c.enum_told.given.1))), tt)
+returns c = (ap header_uri_from (sym (uncut c.before.before.before.before.args.value.now (sym c.before.before.uri_text.ensures ∙ c.enum_told.given.1))), tt)
 
 add-end : tie.Need-overflow-add-end
 add-end c =
-    let h = cut_inside c.before.before.before.before.before.before.args.value.now _ (sym c.before.before.before.before.uri_text_lem.ensures ∙ c.before.before.part.given.1) in
+    let h = cut_inside c.before.before.before.before.before.before.args.value.now _ (sym c.before.before.before.before.uri_text.ensures ∙ c.before.before.part.given.1) in
     omega arith
 
 sub-read-uri : tie.Need-overflow-sub-read-uri
@@ -32,7 +32,7 @@ part-read-uri-start c = search rules
 
 part-read-uri-end : tie.Need-slice-bounds-read-uri-end
 part-read-uri-end c =
-    let h = cut_inside c.before.before.before.before.before.before.args.value.now _ (sym c.before.before.before.before.uri_text_lem.ensures ∙ c.before.before.part.given.1) in
+    let h = cut_inside c.before.before.before.before.before.before.args.value.now _ (sym c.before.before.before.before.uri_text.ensures ∙ c.before.before.part.given.1) in
     search rules
 
 read-uri-requires : tie.Need-read-uri-requires
@@ -45,10 +45,10 @@ enum-told-2 : tie.Need-enum-told-2
 enum-told-2 c = search rules
 
 returns-2 : tie.Need-returns-2
-returns-2 c = (ap header_uri_from (sym (cut_unread c.before.before.before.before.before.before.before.before.before.before.args.value.now _ (sym c.before.before.before.before.before.before.before.before.uri_text_lem.ensures ∙ c.before.before.before.before.before.before.part.given.1) (sym c.before.before.read-uri.ensures ∙ c.enum-told2.given.1))), tt)
+returns-2 c = (ap header_uri_from (sym (cut_unread c.before.before.before.before.before.before.before.before.before.before.args.value.now _ (sym c.before.before.before.before.before.before.before.before.uri_text.ensures ∙ c.before.before.before.before.before.before.part.given.1) (sym c.before.before.read-uri.ensures ∙ c.enum-told2.given.1))), tt)
 
 returns-3 : tie.Need-returns-3
-returns-3 c = (cut_read c.before.before.before.before.before.before.before.before.before.before.before.args.value.now _ (sym c.before.before.before.before.before.before.before.before.before.uri_text_lem.ensures ∙ c.before.before.before.before.before.before.before.part.given.1) _ (sym c.before.before.before.read-uri.ensures ∙ c.before.u.given.1), cut_inside c.before.before.before.before.before.before.before.before.before.before.before.args.value.now _ (sym c.before.before.before.before.before.before.before.before.before.uri_text_lem.ensures ∙ c.before.before.before.before.before.before.before.part.given.1))
+returns-3 c = (cut_read c.before.before.before.before.before.before.before.before.before.before.before.args.value.now _ (sym c.before.before.before.before.before.before.before.before.before.uri_text.ensures ∙ c.before.before.before.before.before.before.before.part.given.1) _ (sym c.before.before.before.read-uri.ensures ∙ c.before.u.given.1), cut_inside c.before.before.before.before.before.before.before.before.before.before.before.args.value.now _ (sym c.before.before.before.before.before.before.before.before.before.uri_text.ensures ∙ c.before.before.before.before.before.before.before.part.given.1))
 
 pub header-uri-spec : {M : Type 1} → statement M
 header-uri-spec =

@@ -16,7 +16,7 @@ with-user-requires : tie.Need-with-user-requires
 with-user-requires c κs = scheme_fits c.before.before.before.args.s.now _ c.before.scheme-length.ensures
 
 returns-2 : tie.Need-returns-2
-returns-2 c = c.with_user_lem.ensures ∙ ap uri_from (sym (scheme_read c.before.before.before.before.args.s.now _ c.before.before.scheme-length.ensures c.before.if1.false))
+returns-2 c = c.with_user.ensures ∙ ap uri_from (sym (scheme_read c.before.before.before.before.args.s.now _ c.before.before.scheme-length.ensures c.before.if1.false))
 
 pub read-uri-spec : {M : Type 1} → statement M
 read-uri-spec = tie.close (tie.spec scheme-length-requires returns with-user-requires returns-2)

@@ -41,11 +41,11 @@ returns-3 : tie.Need-returns-3
 returns-3 c =
     let s = c.before.before.before.before.before.before.before.before.before.args.s.now in
     let r = parts c.before.before in
-    ap estimate_answer (sym (estimate_over rust_limits s r.parts (given_read rust_limits s (sym c.before.before.before.before.before.before.before.too_long.ensures ∙ c.before.before.before.before.before.before.if1.false) r) (sym (c.before.over_estimate_lem.ensures ∙ over_is r.parts r.told) ∙ c.if2.true)))
+    ap estimate_answer (sym (estimate_over rust_limits s r.parts (given_read rust_limits s (sym c.before.before.before.before.before.before.before.too_long.ensures ∙ c.before.before.before.before.before.before.if1.false) r) (sym (c.before.over_estimate.ensures ∙ over_is r.parts r.told) ∙ c.if2.true)))
 
 estimated-length-requires : tie.Need-estimated-length-requires
 estimated-length-requires c κs =
-    let h : size_of c.before.before.before.u.given.0.0 ≤ 512 = ltb-false _ _ (sym c.before.over_estimate_lem.ensures ∙ c.if2.false) in
+    let h : size_of c.before.before.before.u.given.0.0 ≤ 512 = ltb-false _ _ (sym c.before.over_estimate.ensures ∙ c.if2.false) in
     (omega arith, omega arith)
 
 returns-4 : tie.Need-returns-4
@@ -53,7 +53,7 @@ returns-4 c =
     let s = c.before.before.before.before.before.before.before.before.before.before.args.s.now in
     let r = parts c.before.before.before in
     ap Length (c.estimated-length.ensures ∙ ap size_of (sym r.told) ∙ size_is r.parts)
-    ∙ ap estimate_answer (sym (estimate_given rust_limits s r.parts (given_read rust_limits s (sym c.before.before.before.before.before.before.before.before.too_long.ensures ∙ c.before.before.before.before.before.before.before.if1.false) r) (sym (c.before.before.over_estimate_lem.ensures ∙ over_is r.parts r.told) ∙ c.before.if2.false)))
+    ∙ ap estimate_answer (sym (estimate_given rust_limits s r.parts (given_read rust_limits s (sym c.before.before.before.before.before.before.before.before.too_long.ensures ∙ c.before.before.before.before.before.before.before.if1.false) r) (sym (c.before.before.over_estimate.ensures ∙ over_is r.parts r.told) ∙ c.before.if2.false)))
 
 pub uri-estimate-spec : {M : Type 1} → statement M
 uri-estimate-spec =

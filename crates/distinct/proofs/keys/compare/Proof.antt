@@ -71,10 +71,10 @@ ids-end-requires-2 : tie.Need-ids-end-requires-2
 ids-end-requires-2 c κs = search rules
 
 sub-compare : tie.Need-overflow-sub-compare
-sub-compare c = omega (arith, p_long c.before.before.before.before.before.before, p_ends c.before.before.before.before.before.before c.before.ids_end_lem.ensures.0)
+sub-compare c = omega (arith, p_long c.before.before.before.before.before.before, p_ends c.before.before.before.before.before.before c.before.ids_end.ensures.0)
 
 part-compare-start : tie.Need-slice-bounds-compare-start
-part-compare-start c = omega (arith, p_long c.before.before.before.before.before.before, p_ends c.before.before.before.before.before.before c.before.ids_end_lem.ensures.0)
+part-compare-start c = omega (arith, p_long c.before.before.before.before.before.before, p_ends c.before.before.before.before.before.before c.before.ids_end.ensures.0)
 
 part-compare-end : tie.Need-slice-bounds-compare-end
 part-compare-end c = search rules
@@ -97,7 +97,7 @@ returns-3 c =
     let d = e.before.before.before.before.before.before in
     let a = d.before.args in
     c.compare.ensures
-    ∙ sym (by_bytes (s d) a.p a.q (known d) d.before.requires.0 d.before.requires.1 _ _ e.before.before.before.before.before.flags.ensures e.before.before.before.before.flags2.ensures e.before.before.before.if1.false e.before.before.if2.false _ _ (p_ends d e.before.ids_end_lem.ensures.0) (q_ends d e.ids-end2.ensures.0))
+    ∙ sym (by_bytes (s d) a.p a.q (known d) d.before.requires.0 d.before.requires.1 _ _ e.before.before.before.before.before.flags.ensures e.before.before.before.before.flags2.ensures e.before.before.before.if1.false e.before.before.if2.false _ _ (p_ends d e.before.ids_end.ensures.0) (q_ends d e.ids-end2.ensures.0))
 
 pub compare-spec : {M : Type 1} → statement M
 compare-spec =

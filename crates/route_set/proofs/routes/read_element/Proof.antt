@@ -58,14 +58,14 @@ over-estimate-requires : tie.Need-over-estimate-requires
 over-estimate-requires c κs = search rules
 
 returns-2 : tie.Need-returns-2
-returns-2 c = (element_long (header_uri (take c.before.before.before.before.before.before.before.before.before.args.p.length (drop c.before.before.before.before.before.before.before.before.before.args.p.start c.before.before.before.before.before.before.before.before.before.args.value.now))) _ _ _ (cut c.before.before.before.before.before.before.before.before.before.args.value.now c.before.before.before.before.before.before.before.before.before.args.p.start c.before.before.before.before.before.before.before.before.before.args.p.length ∙ sym c.before.before.before.before.before.header-uri.ensures.0 ∙ c.before.before.before.u.given.1) (sym c.before.over_estimate_lem.ensures ∙ c.if1.true), tt)
+returns-2 c = (element_long (header_uri (take c.before.before.before.before.before.before.before.before.before.args.p.length (drop c.before.before.before.before.before.before.before.before.before.args.p.start c.before.before.before.before.before.before.before.before.before.args.value.now))) _ _ _ (cut c.before.before.before.before.before.before.before.before.before.args.value.now c.before.before.before.before.before.before.before.before.before.args.p.start c.before.before.before.before.before.before.before.before.before.args.p.length ∙ sym c.before.before.before.before.before.header-uri.ensures.0 ∙ c.before.before.before.u.given.1) (sym c.before.over_estimate.ensures ∙ c.if1.true), tt)
 
 moved-requires : tie.Need-moved-requires
 moved-requires c κs = omega (arith, within c)
 
 returns-3 : tie.Need-returns-3
 returns-3 c = (
-  ap Route c.moved.ensures ∙ element_route (header_uri (take c.before.before.before.before.before.before.before.before.before.before.args.p.length (drop c.before.before.before.before.before.before.before.before.before.before.args.p.start c.before.before.before.before.before.before.before.before.before.before.args.value.now))) _ _ _ (cut c.before.before.before.before.before.before.before.before.before.before.args.value.now c.before.before.before.before.before.before.before.before.before.before.args.p.start c.before.before.before.before.before.before.before.before.before.before.args.p.length ∙ sym c.before.before.before.before.before.before.header-uri.ensures.0 ∙ c.before.before.before.before.u.given.1) (sym c.before.before.over_estimate_lem.ensures ∙ c.before.if1.false),
+  ap Route c.moved.ensures ∙ element_route (header_uri (take c.before.before.before.before.before.before.before.before.before.before.args.p.length (drop c.before.before.before.before.before.before.before.before.before.before.args.p.start c.before.before.before.before.before.before.before.before.before.before.args.value.now))) _ _ _ (cut c.before.before.before.before.before.before.before.before.before.before.args.value.now c.before.before.before.before.before.before.before.before.before.before.args.p.start c.before.before.before.before.before.before.before.before.before.before.args.p.length ∙ sym c.before.before.before.before.before.before.header-uri.ensures.0 ∙ c.before.before.before.before.u.given.1) (sym c.before.before.over_estimate.ensures ∙ c.before.if1.false),
   subst (λ (x : Span). x.start + x.length ≤ length c.before.before.before.before.before.before.before.before.before.before.args.value.now) (sym c.moved.ensures) (omega (arith, within c.before)),
 )
 

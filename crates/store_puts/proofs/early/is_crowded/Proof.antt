@@ -13,13 +13,13 @@ is-early-requires : tie.Need-is-early-requires
 is-early-requires c κs = search rules
 
 returns : tie.Need-returns
-returns c = rw (sym c.before.is_early_lem.ensures ∙ not-true _ c.if1.true)
+returns c = rw (sym c.before.is_early.ensures ∙ not-true _ c.if1.true)
 
 early-others-requires : tie.Need-early-others-requires
 early-others-requires c κs = search rules
 
 returns-2 : tie.Need-returns-2
-returns-2 c = rw (sym c.before.before.is_early_lem.ensures ∙ not-false _ c.before.if1.false, ← c.early_others_lem.ensures)
+returns-2 c = rw (sym c.before.before.is_early.ensures ∙ not-false _ c.before.if1.false, ← c.early_others.ensures)
 
 pub is-crowded-spec : {M : Type 1} → statement M
 is-crowded-spec = tie.close (tie.spec is-early-requires returns early-others-requires returns-2)

@@ -31,7 +31,7 @@ at-end-requires : tie.Need-at-end-requires
 at-end-requires c κs = search rules
 
 returns-2 : tie.Need-returns-2
-returns-2 c = ap (λ (o : Option ℕ). after_host_from (given_port o)) (sym (port_open c.before.before.before.before.before.before.args.s.now _ c.before.before.before.before.run.ensures.0 (sym c.before.at_end_lem.ensures ∙ not-true _ c.if2.true)))
+returns-2 c = ap (λ (o : Option ℕ). after_host_from (given_port o)) (sym (port_open c.before.before.before.before.before.before.args.s.now _ c.before.before.before.before.run.ensures.0 (sym c.before.at_end.ensures ∙ not-true _ c.if2.true)))
 
 slice-aggregate-digits-below : tie.Need-slice-aggregate-digits-below
 slice-aggregate-digits-below c = sym (length-take-le _ _ c.before.before.before.before.before.run.ensures.1)
@@ -46,13 +46,13 @@ enum_told : tie.Need-enum-told
 enum_told c = search rules
 
 returns-3 : tie.Need-returns-3
-returns-3 c = ap (λ (o : Option ℕ). after_host_from (given_port o)) (sym (port_digits c.before.before.before.before.before.before.before.before.before.before.args.s.now _ c.before.before.before.before.before.before.before.before.run.ensures.0 (omega arith) (sym c.before.before.before.before.before.at_end_lem.ensures ∙ not-false _ c.before.before.before.before.if2.false) ∙ not_read _ (sym c.before.before.digits-below.ensures ∙ c.enum_told.given.1)))
+returns-3 c = ap (λ (o : Option ℕ). after_host_from (given_port o)) (sym (port_digits c.before.before.before.before.before.before.before.before.before.before.args.s.now _ c.before.before.before.before.before.before.before.before.run.ensures.0 (omega arith) (sym c.before.before.before.before.before.at_end.ensures ∙ not-false _ c.before.before.before.before.if2.false) ∙ not_read _ (sym c.before.before.digits-below.ensures ∙ c.enum_told.given.1)))
 
 cast-t14 : tie.Need-overflow-cast-t14
 cast-t14 c = record { fits = read_below 65536 _ _ (was_read _ (sym c.before.before.before.digits-below.ensures ∙ c.before.v.given.1)) }
 
 returns-4 : tie.Need-returns-4
-returns-4 c = ap (λ (o : Option ℕ). after_host_from (given_port o)) (sym (port_digits c.before.before.before.before.before.before.before.before.before.before.before.args.s.now _ c.before.before.before.before.before.before.before.before.before.run.ensures.0 (omega arith) (sym c.before.before.before.before.before.before.at_end_lem.ensures ∙ not-false _ c.before.before.before.before.before.if2.false) ∙ was_read _ (sym c.before.before.before.digits-below.ensures ∙ c.before.v.given.1)))
+returns-4 c = ap (λ (o : Option ℕ). after_host_from (given_port o)) (sym (port_digits c.before.before.before.before.before.before.before.before.before.before.before.args.s.now _ c.before.before.before.before.before.before.before.before.before.run.ensures.0 (omega arith) (sym c.before.before.before.before.before.before.at_end.ensures ∙ not-false _ c.before.before.before.before.before.if2.false) ∙ was_read _ (sym c.before.before.before.digits-below.ensures ∙ c.before.v.given.1)))
 
 pub read-port-spec : {M : Type 1} → statement M
 read-port-spec =

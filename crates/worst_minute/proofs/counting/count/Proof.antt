@@ -63,7 +63,7 @@ time-at-requires : tie.Need-time-at-requires invariant-loop decreases-loop
 time-at-requires c κs = omega (arith, c.before.requires.0, (sized (length c.before.args.run.now) c.before.requires.1).0)
 
 loop-holds : tie.Need-loop-init invariant-loop decreases-loop
-loop-holds c = started c.before.before.args.run.now c.before.before.requires.1 c.before.before.requires.0 c.time_at_lem.ensures
+loop-holds c = started c.before.before.args.run.now c.before.before.requires.1 c.before.before.requires.0 c.time_at.ensures
 
 time-at-requires-2 : tie.Need-time-at-requires-2 invariant-loop decreases-loop
 time-at-requires-2 c κs =

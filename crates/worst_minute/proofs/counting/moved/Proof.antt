@@ -17,7 +17,7 @@ time-at-requires : tie.Need-time-at-requires invariant-loop decreases-loop
 time-at-requires c κs = omega (arith, c.before.requires.entry)
 
 loop-holds : tie.Need-loop-init invariant-loop decreases-loop
-loop-holds c = moving c.before.before.args.run.now c.before.before.args.w c.before.before.args.at c.before.before.requires c.time_at_lem.ensures
+loop-holds c = moving c.before.before.args.run.now c.before.before.args.w c.before.before.args.at c.before.before.requires c.time_at.ensures
 
 sub-loop : tie.Need-overflow-sub-loop invariant-loop decreases-loop
 sub-loop c = omega (arith, not_above c.loop.invariant)

@@ -38,7 +38,7 @@ time-at-requires c κs = omega (arith, room c.before.before.before.before.before
 returns-2 : tie.Need-returns-2 invariant-loop decreases-loop
 returns-2 c =
     let k = c.before.before.before in
-    ap last_of (sym (one_falls k.before.before.before.before.args.run.now (fits k.before) k.loop.invariant c.before.before.loop-test.true c.before.time_at_lem.ensures c.if2.true))
+    ap last_of (sym (one_falls k.before.before.before.before.args.run.now (fits k.before) k.loop.invariant c.before.before.loop-test.true c.before.time_at.ensures c.if2.true))
 
 add_at : tie.Need-overflow-add-at invariant-loop decreases-loop
 add_at c = let k = c.before.before.before in omega (arith, room k.before.before.before.before.args.run.now (fits k.before) k.loop.invariant c.before.before.loop-test.true)
@@ -49,7 +49,7 @@ loop-less c = omega arith
 loop-again : tie.Need-loop-preserved invariant-loop decreases-loop
 loop-again c =
     let k = c.before.before.before in
-    one_read k.before.before.before.before.args.run.now (fits k.before) k.loop.invariant c.before.before.loop-test.true c.before.time_at_lem.ensures c.if2.false
+    one_read k.before.before.before.before.args.run.now (fits k.before) k.loop.invariant c.before.before.loop-test.true c.before.time_at.ensures c.if2.false
 
 returns-3 : tie.Need-returns-3 invariant-loop decreases-loop
 returns-3 c =
