@@ -10,7 +10,7 @@ use text::Span;
 pub const LENGTH_SIZE: usize = 2;
 
 // Where a text lies; what comes after it begins at its end.
-#[derive(Drop)]
+#[derive(Clone, Copy)]
 pub enum Text {
     At(Span),
     Broken,

@@ -23,14 +23,14 @@ use session_seconds::{CheckedSeconds, check_expires_seconds};
 use text::Number;
 
 // The state that a new record starts in.
-#[derive(Drop)]
+#[derive(Clone, Copy)]
 pub enum FirstState {
     Of(State),
     Outside,
 }
 
 // The numbers of a new record, and how many bytes its routes' section has.
-#[derive(Drop)]
+#[derive(Clone, Copy)]
 pub enum Rest {
     Of(Numbers, usize),
     Refused(Refusal),

@@ -12,7 +12,7 @@ use limits::{Check, Refusal};
 use text::Span;
 
 // What `matches_request` answers.
-#[derive(Drop)]
+#[derive(Clone, Copy)]
 pub enum Matches {
     Yes,
     No,

@@ -11,14 +11,14 @@ use record::Optional;
 use session_timer_manager::OptionalSeconds;
 
 // Where the parts of a record lie in its image, and its numbers.
-#[derive(Drop)]
+#[derive(Clone, Copy)]
 pub enum ImageAnswer {
     Of(RecordAt),
     Refused(Refusal),
 }
 
 // What `needs_refresh` answers.
-#[derive(Drop)]
+#[derive(Clone, Copy)]
 pub enum Refresh {
     Due,
     NotDue,

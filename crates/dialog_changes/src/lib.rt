@@ -20,7 +20,7 @@ use record::{Numbers, Step};
 use record_edit::revise_numbers;
 
 // What `next_local_cseq` answers: the new number, and the image's new length.
-#[derive(Drop)]
+#[derive(Clone, Copy)]
 pub enum Raised {
     To(u32, usize),
     Refused(Refusal),

@@ -17,7 +17,7 @@ use msg::{Found, HeaderTable};
 use text::Span;
 
 // Where the three parts stand in a header block.
-#[derive(Drop)]
+#[derive(Clone, Copy)]
 pub struct DialogId {
     pub call_id: Span,
     pub local_tag: Span,
@@ -25,14 +25,14 @@ pub struct DialogId {
 }
 
 // A reading without refusals.
-#[derive(Drop)]
+#[derive(Clone, Copy)]
 pub enum IdPart {
     At(DialogId),
     Nothing,
 }
 
 // What the readings from a block answer.
-#[derive(Drop)]
+#[derive(Clone, Copy)]
 pub enum IdAnswer {
     At(DialogId),
     Refused(Refusal),

@@ -11,7 +11,7 @@ use store::ids_at;
 use text::Span;
 
 // Where its image begins, and its parts.
-#[derive(Drop)]
+#[derive(Clone, Copy)]
 pub enum Found {
     At(usize, RecordAt),
     Nothing,

@@ -10,7 +10,7 @@ use dialog_id::DialogId;
 use limits::Refusal;
 
 // Where the record's image lies, and its length.
-#[derive(Drop)]
+#[derive(Clone, Copy)]
 pub enum Place {
     At(usize, usize),
     Refused(Refusal),

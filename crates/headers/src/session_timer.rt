@@ -9,7 +9,7 @@ use limits::{Check, Refusal};
 use msg::Found;
 use text::Number;
 
-#[derive(Drop)]
+#[derive(Clone, Copy)]
 pub enum Refresher {
     Uac,
     Uas,
@@ -17,14 +17,14 @@ pub enum Refresher {
 }
 
 // A reading without refusals.
-#[derive(Drop)]
+#[derive(Clone, Copy)]
 pub enum Expires {
     Of(u32, Refresher),
     Nothing,
 }
 
 // What the readings answer.
-#[derive(Drop)]
+#[derive(Clone, Copy)]
 pub enum ExpiresAnswer {
     Of(u32, Refresher),
     Nothing,

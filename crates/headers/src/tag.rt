@@ -8,14 +8,14 @@ use limits::{Check, Refusal};
 use text::Span;
 
 // A part of a value: where it stands, or that there is none.
-#[derive(Drop)]
+#[derive(Clone, Copy)]
 pub enum Part {
     At(Span),
     Nothing,
 }
 
 // How a byte of a value is read: outside quotes and angle brackets, in quotes, in quotes right after a backslash, or in brackets.
-#[derive(Drop)]
+#[derive(Clone, Copy)]
 pub enum Mode {
     Outside,
     Quoted,
@@ -24,7 +24,7 @@ pub enum Mode {
 }
 
 // What a reading of a part answers.
-#[derive(Drop)]
+#[derive(Clone, Copy)]
 pub enum PartAnswer {
     At(Span),
     Refused(Refusal),

@@ -15,7 +15,7 @@ mod sections;
 pub use sections::{IdsAt, UrisAt};
 
 // Where the parts of a record lie: the texts, the state byte, the routes' section and the end; and its numbers.
-#[derive(Drop)]
+#[derive(Clone, Copy)]
 pub struct RecordAt {
     pub ids: IdsAt,
     pub state: usize,
@@ -27,7 +27,7 @@ pub struct RecordAt {
     pub end: usize,
 }
 
-#[derive(Drop)]
+#[derive(Clone, Copy)]
 pub enum RecordReading {
     Whole(RecordAt),
     Broken,

@@ -10,40 +10,40 @@ use text::Span;
 use uri::Uri;
 
 // Where a URI lies, and whether it is `sips`; the next field begins at its end.
-#[derive(Drop)]
+#[derive(Clone, Copy)]
 pub enum UriText {
     At(Span, bool),
     Broken,
 }
 
 // A number, and the place after it.
-#[derive(Drop)]
+#[derive(Clone, Copy)]
 pub enum Number {
     Of(u32, usize),
     Broken,
 }
 
-#[derive(Drop)]
+#[derive(Clone, Copy)]
 pub enum OptionalNumber {
     Of(Optional, usize),
     Broken,
 }
 
-#[derive(Drop)]
+#[derive(Clone, Copy)]
 pub enum RefresherNumber {
     Of(Refresher, usize),
     Broken,
 }
 
 // How many routes there are, and the place after them.
-#[derive(Drop)]
+#[derive(Clone, Copy)]
 pub enum Routes {
     Of(usize, usize),
     Broken,
 }
 
 // The state, whether we are uac, and whether the secure bit stands.
-#[derive(Drop)]
+#[derive(Clone, Copy)]
 pub enum StateField {
     Of(State, bool, bool),
     Broken,

@@ -12,7 +12,7 @@ use record::{Optional, Refresher};
 use text::Span;
 
 // Where the identifier's parts lie, and the place after them.
-#[derive(Drop)]
+#[derive(Clone, Copy)]
 pub struct IdsAt {
     pub call_id: Span,
     pub local_tag: Span,
@@ -20,14 +20,14 @@ pub struct IdsAt {
     pub end: usize,
 }
 
-#[derive(Drop)]
+#[derive(Clone, Copy)]
 pub enum IdsSection {
     At(IdsAt),
     Broken,
 }
 
 // Where the URIs lie, which of the local and the remote one is `sips`, and the place after them.
-#[derive(Drop)]
+#[derive(Clone, Copy)]
 pub struct UrisAt {
     pub target: Span,
     pub local_uri: Span,
@@ -37,14 +37,14 @@ pub struct UrisAt {
     pub end: usize,
 }
 
-#[derive(Drop)]
+#[derive(Clone, Copy)]
 pub enum UrisSection {
     At(UrisAt),
     Broken,
 }
 
 // The numbers, where the routes' section lies, how many routes it has, and the place after it.
-#[derive(Drop)]
+#[derive(Clone, Copy)]
 pub struct TailAt {
     pub local: u32,
     pub remote: u32,
@@ -56,7 +56,7 @@ pub struct TailAt {
     pub end: usize,
 }
 
-#[derive(Drop)]
+#[derive(Clone, Copy)]
 pub enum TailSection {
     At(TailAt),
     Broken,

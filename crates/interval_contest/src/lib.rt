@@ -11,7 +11,7 @@ ghost use Rattle.interval_contest.specs.Contest.{Settles, offer_cause};
 use limits::{Check, Limits, Refusal};
 
 // The least and the most interval that the callee can force, or that it can force none.
-#[derive(Drop)]
+#[derive(Clone, Copy)]
 pub enum Forced {
     Between(u64, u64),
     Nothing,
@@ -19,7 +19,7 @@ pub enum Forced {
 
 // What the callee can force at its first answer, and at the answer to the retry after 13; and whether only the request
 // itself or 13 is left to it at the first.
-#[derive(Drop)]
+#[derive(Clone, Copy)]
 pub struct Contest {
     pub first: Forced,
     pub retry: Forced,
@@ -27,7 +27,7 @@ pub struct Contest {
 }
 
 // What the callee can force, or why the offer is turned back.
-#[derive(Drop)]
+#[derive(Clone, Copy)]
 pub enum ContestAnswer {
     Of(Contest),
     Refused(Refusal),

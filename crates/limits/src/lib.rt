@@ -5,7 +5,7 @@ ghost use Rattle.std.specs.Prelude.{◌≡◌};
 ghost use Rattle.limits.specs.Refusal.{number_of};
 
 // Holds no state: a name for the constants.
-#[derive(Drop)]
+#[derive(Clone, Copy)]
 pub struct Limits {}
 
 impl Limits {
@@ -45,7 +45,7 @@ impl Limits {
 }
 
 // Why a call is turned back, in the order of the numbers 1 to 28. The names are DialogError's where it has one.
-#[derive(Drop)]
+#[derive(Clone, Copy)]
 pub enum Refusal {
     TextTooLong,
     Malformed,
@@ -79,7 +79,7 @@ pub enum Refusal {
 }
 
 // Whether a check was passed.
-#[derive(Drop)]
+#[derive(Clone, Copy)]
 pub enum Check {
     Passed,
     Refused(Refusal),

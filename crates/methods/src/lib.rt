@@ -10,14 +10,14 @@ use limits::Refusal;
 use output::Written;
 
 // A method's number.
-#[derive(Drop)]
+#[derive(Clone, Copy)]
 pub enum Method {
     Of(u8),
     Unknown,
 }
 
 // What `method_number` answers.
-#[derive(Drop)]
+#[derive(Clone, Copy)]
 pub enum MethodLookup {
     Of(u8),
     Unknown,
@@ -25,7 +25,7 @@ pub enum MethodLookup {
 }
 
 // A method's name: the first `length` of the bytes.
-#[derive(Drop)]
+#[derive(Clone, Copy)]
 pub struct Name {
     pub bytes: [u8; 9],
     pub length: usize,

@@ -7,7 +7,7 @@ ghost use Rattle.metrics.specs.Metrics.{counted, none_counted, created_counted, 
 const LARGEST_COUNT: u64 = 18446744073709551615;
 
 // How many dialogs were put into a store, and how many were removed.
-#[derive(Drop)]
+#[derive(Clone, Copy)]
 pub struct DialogMetrics {
     pub created: u64,
     pub terminated: u64,

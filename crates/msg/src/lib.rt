@@ -21,14 +21,14 @@ pub use status::{
 pub use table::{HeaderTable, Headers, line_value, read_headers};
 
 // A line at the front of some bytes: how long its name and its value are.
-#[derive(Drop)]
+#[derive(Clone, Copy)]
 pub enum Line {
     Of(usize, usize),
     Malformed,
 }
 
 // Where the value of a line stands, and where the next line starts.
-#[derive(Drop)]
+#[derive(Clone, Copy)]
 pub enum Found {
     At(Span, usize),
     Nothing,

@@ -9,7 +9,7 @@ use limits::Refusal;
 use text::Span;
 
 // The first line of each name.
-#[derive(Drop)]
+#[derive(Clone, Copy)]
 pub struct HeaderTable {
     pub call_id: Found,
     pub from: Found,
@@ -22,7 +22,7 @@ pub struct HeaderTable {
 }
 
 // What the reading of a block answers.
-#[derive(Drop)]
+#[derive(Clone, Copy)]
 pub enum Headers {
     Of(HeaderTable),
     Refused(Refusal),

@@ -5,7 +5,7 @@ ghost use Rattle.std.specs.Prelude.{◌≡◌, ◌-◌};
 ghost use Rattle.ordered_store.specs.Order.{order};
 
 // Of two texts: whether the first comes before the second, is the same, or comes after it.
-#[derive(Drop)]
+#[derive(Clone, Copy)]
 pub enum Order {
     Before,
     Same,
@@ -13,7 +13,7 @@ pub enum Order {
 }
 
 // How many entries there are.
-#[derive(Drop)]
+#[derive(Clone, Copy)]
 pub enum Count {
     Entries(usize),
     Broken,

@@ -71,8 +71,8 @@ value_last (b ∷ s) d =
     let p : 10 ^ length (s ++ ((48 + d) ∷ [])) ≡ 10 ^ length s * 10 = ap (λ (n : ℕ). 10 ^ n) (length-append s ((48 + d) ∷ []) ∙ add-one (length s)) ∙ pow-suc 10 (length s) in
     rw (p, value_last s d, add-mul, mul_assoc, add_assoc)
 
-is_digit : (d : ℕ) → d < 10 → is_digit (48 + d) ≡ true
-is_digit d h = rw (le-leb 48 (48 + d) (omega arith), le-leb (48 + d) 57 (omega arith))
+is_digit_lem : (d : ℕ) → d < 10 → is_digit (48 + d) ≡ true
+is_digit_lem d h = rw (le-leb 48 (48 + d) (omega arith), le-leb (48 + d) 57 (omega arith))
 
 -- what the text of a number is
 pub record Decimal (n : ℕ) (s : List ℕ) : Type 0 where
@@ -82,7 +82,7 @@ pub record Decimal (n : ℕ) (s : List ℕ) : Type 0 where
 
 one_decimal : (n : ℕ) → n < 10 → Decimal n ((48 + n) ∷ [])
 unfolding value all
-one_decimal n h = record { says = omega arith; are_digits = rw (is_digit n h); some_digit = refl }
+one_decimal n h = record { says = omega arith; are_digits = rw (is_digit_lem n h); some_digit = refl }
 
 last_some : (s : List ℕ) (b : ℕ) → non_empty (s ++ (b ∷ [])) ≡ true
 last_some [] b = refl

@@ -4,7 +4,7 @@
 use limits::Refusal;
 
 // What a call with lent bytes answers: how many of them it wrote.
-#[derive(Drop)]
+#[derive(Clone, Copy)]
 pub enum Written {
     Length(usize),
     Refused(Refusal),

@@ -42,7 +42,7 @@ pub const BODY_ROOM: usize = ENTRIES_AT + Limits::MAX_PENDING_PRACK_PER_DIALOG *
 const LIST_HEAD: usize = ENTRIES_AT - LIST_AT;
 
 // Where a list lies: how many entries it has, where they begin and where they end.
-#[derive(Drop)]
+#[derive(Clone, Copy)]
 pub struct ListAt {
     pub has_list: bool,
     pub count: usize,
@@ -50,14 +50,14 @@ pub struct ListAt {
     pub end: usize,
 }
 
-#[derive(Drop)]
+#[derive(Clone, Copy)]
 pub enum ListReading {
     At(ListAt),
     Broken,
 }
 
 // Where the parts lie of what is held for one identifier text, and the last cleanup's time.
-#[derive(Drop)]
+#[derive(Clone, Copy)]
 pub struct TrackedAt {
     pub id: Span,
     pub cleaned_at: u64,
@@ -67,7 +67,7 @@ pub struct TrackedAt {
     pub end: usize,
 }
 
-#[derive(Drop)]
+#[derive(Clone, Copy)]
 pub enum TrackedReading {
     Whole(TrackedAt),
     Broken,

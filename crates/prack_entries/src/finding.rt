@@ -13,7 +13,7 @@ use ordered_store::{Count, Order};
 use prack_body::{TrackedAt, TrackedReading, read_tracked};
 
 // Where what is held for a text lies, or the place where it would go.
-#[derive(Drop)]
+#[derive(Clone, Copy)]
 pub enum Slot {
     Held(TrackedAt),
     Free(usize),

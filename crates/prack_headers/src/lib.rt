@@ -15,21 +15,21 @@ use msg::Found;
 use text::Number;
 
 // What the reading of a number answers.
-#[derive(Drop)]
+#[derive(Clone, Copy)]
 pub enum NumberAnswer {
     Value(u32),
     Refused(Refusal),
 }
 
 // What the reading of a method answers: its number.
-#[derive(Drop)]
+#[derive(Clone, Copy)]
 pub enum MethodAnswer {
     Of(u8),
     Refused(Refusal),
 }
 
 // What `is_reliable_provisional` answers.
-#[derive(Drop)]
+#[derive(Clone, Copy)]
 pub enum Reliable {
     Yes,
     No,

@@ -9,7 +9,7 @@ use codec::read_four;
 use prack_body::{ACKNOWLEDGED_AT, CSEQ_AT, ENTRIES_AT, ENTRY_SIZE, METHOD_AT};
 
 // The first entry of an RSeq: its place in the body, its CSeq, its method and whether it is acknowledged.
-#[derive(Drop)]
+#[derive(Clone, Copy)]
 pub enum Position {
     At(usize, u32, u8, bool),
     NoList,

@@ -12,7 +12,7 @@ use limits::Limits;
 use prack_body::{ACKNOWLEDGED_AT, REGISTERED_AT};
 
 // Which entries stay: those not acknowledged and young at a time, or all but the acknowledged ones of an RSeq.
-#[derive(Drop)]
+#[derive(Clone, Copy)]
 pub enum Test {
     Young(u64),
     Other(u32),

@@ -16,20 +16,20 @@ use prack_verdict::{Verdict, hold_against};
 use rack::RAck;
 
 // The RAck that was accepted, or the cause; and the new used length, since a refused PRACK keeps the cleaned list.
-#[derive(Drop)]
+#[derive(Clone, Copy)]
 pub enum Validated {
     Is(RAck, usize),
     Refused(Refusal, usize),
 }
 
-#[derive(Drop)]
+#[derive(Clone, Copy)]
 pub enum Pracked {
     Is(bool),
     Refused(Refusal),
 }
 
 // How many bytes of the output were written, and the new used length.
-#[derive(Drop)]
+#[derive(Clone, Copy)]
 pub enum Listed {
     Is(usize, usize),
     Refused(Refusal),

@@ -11,7 +11,7 @@ use prack_list::Position;
 use rack::{RAck, RAckReading};
 
 // Accepted, and the entry marked; or the cause.
-#[derive(Drop)]
+#[derive(Clone, Copy)]
 pub enum Verdict {
     Accepted(RAck),
     Refused(Refusal),

@@ -14,7 +14,7 @@ use output::Written;
 use text::Number;
 use words::{after_word, word};
 
-#[derive(Drop)]
+#[derive(Clone, Copy)]
 pub struct RAck {
     pub rseq: u32,
     pub cseq: u32,
@@ -22,14 +22,14 @@ pub struct RAck {
 }
 
 // A reading without refusals.
-#[derive(Drop)]
+#[derive(Clone, Copy)]
 pub enum RAckReading {
     Of(RAck),
     Unreadable,
 }
 
 // What `parse_rack` answers.
-#[derive(Drop)]
+#[derive(Clone, Copy)]
 pub enum RAckAnswer {
     Of(RAck),
     Refused(Refusal),

@@ -7,7 +7,7 @@ ghost use Rattle.record.specs.NumbersForm.{meaning, kind_in, outcome_in};
 use limits::{Limits, Refusal};
 use session_seconds::{CheckedSeconds, check_expires_seconds};
 
-#[derive(Drop)]
+#[derive(Clone, Copy)]
 pub enum State {
     Early,
     Confirmed,
@@ -15,13 +15,13 @@ pub enum State {
 }
 
 // A number that may be absent.
-#[derive(Drop)]
+#[derive(Clone, Copy)]
 pub enum Optional {
     Number(u32),
     Absent,
 }
 
-#[derive(Drop)]
+#[derive(Clone, Copy)]
 pub enum Refresher {
     Uac,
     Uas,
@@ -29,13 +29,13 @@ pub enum Refresher {
 }
 
 // ACK is exactly those letters; every other method is another.
-#[derive(Drop)]
+#[derive(Clone, Copy)]
 pub enum Method {
     Ack,
     Other,
 }
 
-#[derive(Drop)]
+#[derive(Clone, Copy)]
 pub struct Numbers {
     pub state: State,
     pub local: u32,
@@ -46,7 +46,7 @@ pub struct Numbers {
 }
 
 // What a step that can be refused answers.
-#[derive(Drop)]
+#[derive(Clone, Copy)]
 pub enum Step {
     Taken(Numbers),
     Refused(Refusal),

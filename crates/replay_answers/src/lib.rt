@@ -10,7 +10,7 @@ pub use memory::set_memory;
 pub use tallies::{report, show, take};
 
 // What became of a line: nothing was asked; the memory has so many bytes; the call of that row answered as recorded, or not; it can't be read.
-#[derive(Drop)]
+#[derive(Clone, Copy)]
 pub enum Outcome {
     Passed,
     Memory(usize),

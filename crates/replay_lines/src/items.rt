@@ -3,7 +3,7 @@ use crate::bytes::{byte, part};
 use crate::texts::{joined, read_number};
 
 // What an item is: n, t, s or `=`, and 0 where it can't be read; its number, or a text's length and where its bytes begin.
-#[derive(Drop)]
+#[derive(Clone, Copy)]
 struct Item {
     kind: u8,
     value: u64,

@@ -22,7 +22,7 @@ pub fn word(s: &[u8], from: usize) -> usize {
 }
 
 // Whether there is such a row, its number, and where its name and its shape begin.
-#[derive(Drop)]
+#[derive(Clone, Copy)]
 pub struct Row {
     pub found: bool,
     pub index: usize,

@@ -2,7 +2,7 @@
 use crate::bytes::byte;
 
 // Where the line goes on, and where the bytes do; not good where the line can't be read or the bytes have no room.
-#[derive(Drop)]
+#[derive(Clone, Copy)]
 pub struct Place {
     pub at: usize,
     pub to: usize,
@@ -10,7 +10,7 @@ pub struct Place {
 }
 
 // A number in decimal, and where it ends.
-#[derive(Drop)]
+#[derive(Clone, Copy)]
 pub struct Number {
     pub value: u64,
     pub at: usize,

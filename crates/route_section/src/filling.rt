@@ -10,7 +10,7 @@ use msg::Found;
 use route_set::{Element, Part, next_part, read_element};
 
 // How many routes are held, and the bytes of their texts with the length bytes; or 7 or 8.
-#[derive(Drop)]
+#[derive(Clone, Copy)]
 pub enum Routes {
     Held(usize, usize),
     Refused(Refusal),

@@ -13,7 +13,7 @@ use limits::Refusal;
 mod filling;
 
 // What `measure_routes` answers: how many routes there are, and the bytes of their section; or 7 or 8.
-#[derive(Drop)]
+#[derive(Clone, Copy)]
 pub enum Section {
     Of(usize, usize),
     Refused(Refusal),

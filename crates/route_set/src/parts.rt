@@ -9,7 +9,7 @@ use limits::Check;
 use text::{Next, Span};
 
 // Where an element stands, and from where the next is asked for.
-#[derive(Drop)]
+#[derive(Clone, Copy)]
 pub enum Part {
     At(Span, usize),
     Nothing,

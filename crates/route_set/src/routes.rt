@@ -14,21 +14,21 @@ use text::{Lookup, Span};
 use uri::HeaderUri;
 
 // Where the Contact's URI stands.
-#[derive(Drop)]
+#[derive(Clone, Copy)]
 pub enum Contact {
     At(Span),
     Nothing,
 }
 
 // What `route_count` answers.
-#[derive(Drop)]
+#[derive(Clone, Copy)]
 pub enum Count {
     Routes(usize),
     Refused(Refusal),
 }
 
 // One element of a Record-Route line.
-#[derive(Drop)]
+#[derive(Clone, Copy)]
 pub enum Element {
     Route(Span),
     Unreadable,
@@ -36,7 +36,7 @@ pub enum Element {
 }
 
 // What a scan of the routes comes to: all of them, how many; the wanted one; or why it ended.
-#[derive(Drop)]
+#[derive(Clone, Copy)]
 pub enum Scan {
     All(usize),
     Route(Span),

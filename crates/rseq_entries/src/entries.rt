@@ -7,7 +7,7 @@ use codec::Text;
 use text::Span;
 
 // Where its texts lie, its number, and the place after it.
-#[derive(Drop)]
+#[derive(Clone, Copy)]
 pub struct EntryAt {
     pub call_id: Span,
     pub local_tag: Span,
@@ -16,7 +16,7 @@ pub struct EntryAt {
     pub end: usize,
 }
 
-#[derive(Drop)]
+#[derive(Clone, Copy)]
 pub enum EntryReading {
     Whole(EntryAt),
     Broken,

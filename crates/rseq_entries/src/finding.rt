@@ -13,7 +13,7 @@ use crate::entries::{EntryAt, EntryReading, read_entry};
 use ordered_store::{Count, Order};
 
 // The place of an entry's first byte, its number and the place after it; or the place where it would go.
-#[derive(Drop)]
+#[derive(Clone, Copy)]
 pub enum Slot {
     Held(usize, u32, usize),
     Free(usize),

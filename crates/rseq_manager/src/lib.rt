@@ -19,19 +19,19 @@ use rseq_entries::{Slot, count_entries, find};
 mod writing;
 
 // The number, and the new used length.
-#[derive(Drop)]
+#[derive(Clone, Copy)]
 pub enum Numbered {
     Is(u32, usize),
     Refused(Refusal),
 }
 
-#[derive(Drop)]
+#[derive(Clone, Copy)]
 pub enum Current {
     Is(u32),
     Refused(Refusal),
 }
 
-#[derive(Drop)]
+#[derive(Clone, Copy)]
 pub enum Counted {
     Is(usize),
     Refused(Refusal),

@@ -9,7 +9,7 @@ ghost use Rattle.session_seconds.specs.Answers.{seconds_from};
 use limits::{Limits, Refusal};
 
 // An interval that is within the limits, or why it is not.
-#[derive(Drop)]
+#[derive(Clone, Copy)]
 pub enum CheckedSeconds {
     Accepted(u32),
     Refused(Refusal),

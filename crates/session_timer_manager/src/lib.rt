@@ -16,28 +16,28 @@ const NANOS_PER_SECOND: u64 = 1000000000;
 const EXPIRY_MARGIN_SECS: u64 = 32;
 
 // A minimum or a preference that may be absent.
-#[derive(Drop)]
+#[derive(Clone, Copy)]
 pub enum OptionalTime {
     Nanos(u64),
     Absent,
 }
 
 // The session interval of a dialog, which may have none.
-#[derive(Drop)]
+#[derive(Clone, Copy)]
 pub enum OptionalSeconds {
     Of(u32),
     Absent,
 }
 
 // The interval that holds, or why there is none.
-#[derive(Drop)]
+#[derive(Clone, Copy)]
 pub enum Interval {
     Nanos(u64),
     Refused(Refusal),
 }
 
 // Whether we refresh, or why that is not told.
-#[derive(Drop)]
+#[derive(Clone, Copy)]
 pub enum RefresherRole {
     WeRefresh(bool),
     Refused(Refusal),

@@ -179,7 +179,7 @@ pub fn show_lookup(s: &[u8], l: Lookup) {
 }
 
 // Whether a further text can be asked for, and from where.
-#[derive(Drop)]
+#[derive(Clone, Copy)]
 pub enum More {
     From(usize),
     End,

@@ -14,14 +14,14 @@ mod ids;
 pub use ids::ids_at;
 
 // How many records there are.
-#[derive(Drop)]
+#[derive(Clone, Copy)]
 pub enum StoreReading {
     Records(usize),
     Broken,
 }
 
 // What `count` answers.
-#[derive(Drop)]
+#[derive(Clone, Copy)]
 pub enum Held {
     Records(usize),
     Refused(Refusal),

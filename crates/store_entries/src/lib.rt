@@ -12,7 +12,7 @@ use limits::Refusal;
 use store::Held;
 
 // Where its image begins, and its parts.
-#[derive(Drop)]
+#[derive(Clone, Copy)]
 pub enum Standing {
     At(usize, RecordAt),
     Refused(Refusal),

@@ -15,14 +15,14 @@ mod number;
 pub use number::{Number, digits_below, digits_u32, read_u32};
 
 // Where a part of a text stands: its first place and its length.
-#[derive(Drop)]
+#[derive(Clone, Copy)]
 pub struct Span {
     pub start: usize,
     pub length: usize,
 }
 
 // What a look-up answers: where a text stands, that there is none, or why it was refused.
-#[derive(Drop)]
+#[derive(Clone, Copy)]
 pub enum Lookup {
     At(Span),
     Nothing,
@@ -30,7 +30,7 @@ pub enum Lookup {
 }
 
 // The same of the next text from a place on, with the place from which to ask for the one after it.
-#[derive(Drop)]
+#[derive(Clone, Copy)]
 pub enum Next {
     At(Span, usize),
     Nothing,

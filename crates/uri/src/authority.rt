@@ -8,14 +8,14 @@ use text::Number;
 use uri_bytes::{Class, all_of, ends_host, ends_port, run};
 
 // How long the host is that stands first.
-#[derive(Drop)]
+#[derive(Clone, Copy)]
 pub enum Host {
     Length(usize),
     Unreadable,
 }
 
 // What stands after the host: its port, or something that can't stand there.
-#[derive(Drop)]
+#[derive(Clone, Copy)]
 pub enum AfterHost {
     Read(Port),
     Unreadable,

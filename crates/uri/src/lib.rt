@@ -17,14 +17,14 @@ use uri_bytes::{Class, all_of, run};
 
 mod authority;
 
-#[derive(Drop)]
+#[derive(Clone, Copy)]
 pub enum Port {
     Number(u16),
     Absent,
 }
 
 // The parts of a URI: where they stand in its text. Without a user part its length is 0 and its place that of the host.
-#[derive(Drop)]
+#[derive(Clone, Copy)]
 pub struct SipUri {
     pub secure: bool,
     pub user: Span,
@@ -33,42 +33,42 @@ pub struct SipUri {
 }
 
 // A reading without refusals.
-#[derive(Drop)]
+#[derive(Clone, Copy)]
 pub enum Uri {
     Read(SipUri),
     Unreadable,
 }
 
 // What `sip_uri` answers.
-#[derive(Drop)]
+#[derive(Clone, Copy)]
 pub enum UriAnswer {
     Read(SipUri),
     Refused(Refusal),
 }
 
 // What `uri_estimate` answers.
-#[derive(Drop)]
+#[derive(Clone, Copy)]
 pub enum Estimate {
     Length(usize),
     Refused(Refusal),
 }
 
 // The URI in a header value: where its text stands, and its parts.
-#[derive(Drop)]
+#[derive(Clone, Copy)]
 pub enum HeaderUri {
     At(Span, SipUri),
     Nothing,
 }
 
 // The user part, and the place of the host after it.
-#[derive(Drop)]
+#[derive(Clone, Copy)]
 enum User {
     Before(Span, usize),
     Unreadable,
 }
 
 // The text that is read as the URI in a header value.
-#[derive(Drop)]
+#[derive(Clone, Copy)]
 enum Cut {
     At(Span),
     Nothing,

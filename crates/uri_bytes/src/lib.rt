@@ -8,7 +8,7 @@ ghost use Rattle.uri_bytes.specs.Classes.{in_class, set_of, in_set};
 
 use text::in_range;
 
-#[derive(Drop)]
+#[derive(Clone, Copy)]
 pub enum Class {
     // Any byte of a URI.
     Uri,
@@ -21,7 +21,7 @@ pub enum Class {
 }
 
 // A class as the scan tests it: a range that is tried first, a bit for each byte below 64, and a range for the others.
-#[derive(Drop)]
+#[derive(Clone, Copy)]
 struct ByteSet {
     low: u8,
     high: u8,

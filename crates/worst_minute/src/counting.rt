@@ -15,7 +15,7 @@ use limits::Refusal;
 const MINUTE: u64 = 60000000000;
 
 // The most refusals in 60 s, and the earliest start that has them.
-#[derive(Drop)]
+#[derive(Clone, Copy)]
 pub enum Worst {
     Of(usize, u64),
     Empty,
@@ -23,7 +23,7 @@ pub enum Worst {
 }
 
 // The verdicts from a place up to the one read last: the time of the first, and how many of them are refusals.
-#[derive(Drop)]
+#[derive(Clone, Copy)]
 pub struct Window {
     pub from: usize,
     pub start: u64,

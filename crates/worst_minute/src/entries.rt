@@ -9,7 +9,7 @@ use crate::{ENTRY_SIZE, RUN_ROOM};
 use edit::put;
 
 // The time of the last verdict, 0 where there is none.
-#[derive(Drop)]
+#[derive(Clone, Copy)]
 pub enum Last {
     Time(u64),
     Broken,

@@ -1,0 +1,23 @@
+-- `session_timer_manager::negotiate_session_expires` meets its contract. Assumes nothing.
+use native.Mathlib.Omega.{arith}
+use borrow.Author.Tests.{lt-ltb, le-ltb}
+use Rattle.session_timer_manager.specs.Intervals.{negotiated}
+use Rattle.session_timer_manager.proofs.negotiate_session_expires.Goals as goal
+
+pub returns-then-requested-least : goal.returns-then-requested-least
+unfolding negotiated
+returns-then-requested-least c =
+    let least = c.joint_minimum-least in
+    rw (← least.ensures, lt-ltb c.args.requested least.result (omega arith))
+
+pub returns-in_default : goal.returns-in_default
+unfolding negotiated
+returns-in_default c =
+    let least = c.joint_minimum-least in
+    rw (← least.ensures, le-ltb c.args.requested least.result (omega arith), c.in_default.is)
+
+pub returns : goal.returns
+unfolding negotiated
+returns c =
+    let least = c.joint_minimum-least in
+    rw (c.smaller.ensures, c.larger.ensures, ← least.ensures, le-ltb c.args.requested least.result (omega arith), c.in-Nanos.is)
