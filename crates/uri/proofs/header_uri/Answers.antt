@@ -1,0 +1,29 @@
+-- `uri::header_uri` meets its contract: the part that is read is the text that was cut out. Assumes nothing.
+use native.Mathlib.Omega.{arith}
+use borrow.Author.Rules.{rules}
+use Rattle.uri.proofs.Laws.{uncut, cut_inside, cut_unread, cut_read}
+use Rattle.uri.specs.HeaderUri.{header_uri_from}
+use mathlib.Core.Path.{sym, ap, ◌∙◌}
+use Rattle.uri.proofs.header_uri.Goals as goal
+
+pub returns-in_default-clause-value : goal.returns-in_default-clause-value
+returns-in_default-clause-value c = ap header_uri_from (sym (uncut c.args.value.now (sym c.uri_text.ensures ∙ c.in_default.is)))
+
+pub overflow_add-end : goal.overflow_add-end
+overflow_add-end c =
+    let h = cut_inside c.args.value.now _ (sym c.uri_text.ensures ∙ c.in-At.is) in
+    omega arith
+
+pub slice_bounds-read_uri-end : goal.slice_bounds-read_uri-end
+slice_bounds-read_uri-end c =
+    let h = cut_inside c.args.value.now _ (sym c.uri_text.ensures ∙ c.in-At.is) in
+    search rules
+
+pub returns-in_default-read_uri-clause-value : goal.returns-in_default-read_uri-clause-value
+returns-in_default-read_uri-clause-value c = ap header_uri_from (sym (cut_unread c.args.value.now _ (sym c.uri_text.ensures ∙ c.in-At.is) (sym c.read_uri.ensures ∙ c.in_default-read_uri.is)))
+
+pub returns-clause-value : goal.returns-clause-value
+returns-clause-value c = cut_read c.args.value.now _ (sym c.uri_text.ensures ∙ c.in-At.is) _ (sym c.read_uri.ensures ∙ c.in-Read.is)
+
+pub returns-clause-inside : goal.returns-clause-inside
+returns-clause-inside c = cut_inside c.args.value.now _ (sym c.uri_text.ensures ∙ c.in-At.is)
