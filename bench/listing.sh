@@ -6,7 +6,7 @@ cd "$(dirname "$0")/.."
 program=target/bin/listing
 out=target/bench
 mkdir -p "$out"
-[ -x "$program" ] || rt check listing >&2
+[ -x "$program" ] || tools/build listing >&2
 cp crates/listings/data/bytes_65536 "$out/long_records"
 python3 - "$out/many_records" <<'PYTHON'
 import sys

@@ -1,11 +1,11 @@
 #!/bin/sh
 # The cost of the refresh test, on numbers and on an image: callgrind's instructions of one call.
-# PORT_LIB: a folder with libsip_dialog.a (default: built by `rt staticlib sip_dialog`).
+# PORT_LIB: a folder with libsip_dialog.a (default: built by `tools/build archive`).
 set -eu
 cd "$(dirname "$0")/.."
 archive=${PORT_LIB:-target/staticlib}/libsip_dialog.a
 out=target/bench
-[ -n "${PORT_LIB:-}" ] || rt staticlib sip_dialog >&2
+[ -n "${PORT_LIB:-}" ] || tools/build archive >&2
 command -v valgrind >/dev/null || { apt-get update -q && apt-get install -q -y valgrind; } >&2
 mkdir -p "$out"
 cc -std=c99 -O2 -Wall -Wextra -Werror -Iinclude bench/refresh.c "$archive" -o "$out/refresh"

@@ -1,6 +1,6 @@
 /*
  * sip_dialog: SIP dialogs (RFC 3261 section 12) as records in lent bytes, reliable provisional responses and their PRACKs (RFC 3262),
- * and session timers (RFC 4028). The functions are proved in Rattle; `rt staticlib sip_dialog` writes them to target/staticlib/libsip_dialog.a,
+ * and session timers (RFC 4028). The functions are proved in Rattle; `tools/build archive` writes them to target/staticlib/libsip_dialog.a,
  * for x86-64.
  *
  * For every call:

@@ -1,7 +1,7 @@
 #!/bin/sh
 # The C face: tests/c_face.c and the other tests/c_face_*.c against the static library, by themselves and under valgrind; and that the
 # library, the header and the tests have the same functions. Prints one line if all holds.
-# PORT_LIB: a folder with libsip_dialog.a (default: built by `rt staticlib sip_dialog`).
+# PORT_LIB: a folder with libsip_dialog.a (default: built by `tools/build archive`).
 set -eu
 cd "$(dirname "$0")/.."
 archive=${PORT_LIB:-target/staticlib}/libsip_dialog.a
@@ -17,7 +17,7 @@ if [ $# -gt 0 ]; then
 fi
 
 mkdir -p "$out"
-[ -n "${PORT_LIB:-}" ] || rt staticlib sip_dialog >&2
+[ -n "${PORT_LIB:-}" ] || tools/build archive >&2
 set --
 for part in c_face c_face_store c_face_rseq c_face_prack c_face_rfc c_face_verdicts; do
     cc -std=c99 -Wall -Wextra -Werror -pedantic -Iinclude -g -c "tests/$part.c" -o "$out/$part.o"

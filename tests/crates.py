@@ -1,7 +1,7 @@
 """Prints crates.txt as the sources have it: for each crate those that it uses itself, leaves first.
 
 A crate uses another where its code names it (`name::`), where its code, definitions or proofs name its definitions
-(`Rattle·name`), or where the types of its functions' values are declared there: those in the types and signatures of the
+(`Rattle.name`), or where the types of its functions' values are declared there: those in the types and signatures of the
 crates that its code names, and so on. Comments and the order of the lines are those of the file as it is; a crate that has no line yet
 is named on standard error."""
 import os
@@ -45,15 +45,33 @@ def in_laws(name):
     """The crates whose definitions are named."""
     used = set()
     for text in files(name, ["src", "specs", "proofs"], (".rt", ".antt")):
-        used.update(re.findall(r"Rattle·([a-z_0-9]+)", text))
+        used.update(re.findall(r"Rattle\.([a-z_0-9]+)", text))
     return (used & (names | set(KIT))) - {name}
+
+
+def imports(text):
+    """The whole path of each import, of those in braces too."""
+    for path in re.findall(r"\buse ([^;]*);", text):
+        begun, found = [], ""
+        for part in re.findall(r"[^{},\s]+|[{},]", re.sub(r"\s+as\s+\w+", "", path)):
+            if part == "{":
+                begun.append(found)
+            elif part == "}":
+                begun.pop()
+                found = ""
+            elif part == ",":
+                found = begun[-1] if begun else ""
+            else:
+                found = (begun[-1] if begun else "") + part
+                if not part.endswith("::"):
+                    yield found
 
 
 def in_types(name):
     """The crates that declare the types in the crate's own public types and signatures."""
     used = set()
     for text in code(name):
-        imported = dict((kind, crate) for crate, kind in re.findall(r"\buse ([a-z_0-9]+)::(?:[a-z_0-9]+::)*([A-Z]\w*)", text))
+        imported = {kind: path.split("::")[0] for path in imports(text) for kind in re.findall(r"::([A-Z]\w*)$", path)}
         bodies = re.findall(r"\bpub (?:struct|enum) \w+ \{(.*?)\n\}", text, re.S)
         heads = re.findall(r"\bpub (?:extern \"C\" )?fn (.*?)(?:\bensures\b|\brequires\b|\{)", text, re.S)
         for part in bodies + heads:
@@ -76,11 +94,12 @@ def uses(name):
 def main():
     with open(os.path.join(top, "crates.txt"), encoding="utf-8") as file:
         lines = file.read().splitlines()
-    order = [line.split(":")[0] for line in lines if ":" in line and not line.startswith("#")]
+    order = [line.split(":")[0].split(" ")[0] for line in lines if ":" in line and not line.startswith("#")]
     for name in sorted(names - set(order)):
         print(f"crates.py: {name} has no line", file=sys.stderr)
     for line in lines:
-        name = line.split(":")[0]
+        words = line.split(":")[0]
+        name = words.split(" ")[0]
         if name not in order:
             print(line)
         elif name in names:
@@ -89,7 +108,7 @@ def main():
                 if other in used:
                     print(f"crates.py: {name} uses {other}, which stands below it", file=sys.stderr)
             own = [other for other in order if other in used] + [library for library in KIT if library in used]
-            print(f"{name}:" + "".join(f" {other}" for other in own))
+            print(f"{words}:" + "".join(f" {other}" for other in own))
 
 
 main()

@@ -1,14 +1,14 @@
 #!/bin/sh
 # The refresh test divides nothing (02, request 5): the machine code of `sip_dialog_needs_refresh` and of `sip_dialog_image_needs_refresh`, with all that they call, has no division and
 # no product that stands for one; and the look at it finds both in C that divides.
-# PORT_LIB: a folder with libsip_dialog.a (default: built by `rt staticlib sip_dialog`).
+# PORT_LIB: a folder with libsip_dialog.a (default: built by `tools/build archive`).
 set -eu
 cd "$(dirname "$0")/.."
 archive=${PORT_LIB:-target/staticlib}/libsip_dialog.a
 out=target/divisions
 { command -v cc && command -v objdump; } >/dev/null || { apt-get update -q && apt-get install -q -y gcc libc6-dev binutils; } >&2
 mkdir -p "$out"
-[ -n "${PORT_LIB:-}" ] || rt staticlib sip_dialog >&2
+[ -n "${PORT_LIB:-}" ] || tools/build archive >&2
 python3 tests/divisions.py "$archive" sip_dialog_needs_refresh sip_dialog_image_needs_refresh
 
 # The same test as it was before the request, by a product and by a division: each is found.

@@ -7,6 +7,7 @@ out=$(mktemp -d)
 trap 'rm -rf "$out"' EXIT
 command -v python3 >/dev/null || { apt-get update -q && apt-get install -q -y python3; } >&2
 source=crates/sip_dialog/src
+exports=crates/sip_dialog_c/src
 header=include/sip_dialog.h
 oracle=oracle/port/src/c.rs
 rows=oracle/driver/src/record/rows.rs
@@ -16,7 +17,7 @@ runs=0
 python3 tools/face check >"$out/same"
 
 # What a copy is made from.
-for file in "$source"/* "$header" "$oracle" "$rows" "$proofs" "$list"; do
+for file in "$source"/* "$exports"/* "$header" "$oracle" "$rows" "$proofs" "$list"; do
     mkdir -p "$out/kept/$(dirname "$file")"
     cp "$file" "$out/kept/$file"
 done
@@ -81,8 +82,27 @@ alter "another name of a byte run" "$source/blocks.rt" '/sip_dialog_check_block(
 alter "another order" "$source/identifiers.rt" '/sip_dialog_extract_tag(/s/place: &mut usize, length:/length: \&mut usize, place:/' sip_dialog_extract_tag
 alter "a parameter less" "$source/identifiers.rt" '/sip_dialog_extract_tag(/s/, length: &mut usize//' sip_dialog_extract_tag
 alter "a function less" "$source/blocks.rt" '/^\/\/ 400 to 699\.$/,$d' sip_dialog_is_error
-alter "a function more" "$source/lib.rt" '$a#[no_mangle]\npub extern "C" fn sip_dialog_is_none(code: u16) -> bool\n{' sip_dialog_is_none
-alter "a function that isn't exported" "$source/uris.rt" '/^#\[no_mangle\]$/d' '\(crates.*\|sip_dialog_[a-z_]*uri[a-z_]*\)'
+alter "a function more" "$source/lib.rt" '$apub fn sip_dialog_is_none(code: u16) -> bool\n{' sip_dialog_is_none
+alter "a function that isn't public" "$source/uris.rt" 's/^pub fn/fn/' '\(crates.*\|sip_dialog_[a-z_]*uri[a-z_]*\)'
+alter "a function that is exported itself" "$source/uris.rt" 's/^pub fn/pub extern "C" fn/' '\(crates.*\|sip_dialog_[a-z_]*uri[a-z_]*\)'
 alter "a type that isn't known" "$source/blocks.rt" '/sip_dialog_check_block(/s/&\[u8\]/\&[u16]/' sip_dialog_check_block
+alter "another clause" "$source/blocks.rt" 's/in_class 100 200/in_class 101 200/' "$exports/blocks.rt"
+alter "a clause that can't be read" "$source/blocks.rt" 's/ensures { result ≡ is_error_code code }/ensures*{ }/' '\(crates.*\|sip_dialog_is_error\)'
+
+alter "a function that isn't exported" "$exports/blocks.rt" '/^#\[unsafe(no_mangle)\]$/d' "$exports/blocks.rt"
+alter "another result" "$exports/blocks.rt" '/sip_dialog_is_error(/s/-> bool/-> u8/' "$exports/blocks.rt"
+alter "another clause" "$exports/blocks.rt" 's/in_class 100 200/in_class 101 200/' "$exports/blocks.rt"
+alter "a clause less" "$exports/stores.rt" '/^    ensures created_after/d' "$exports/stores.rt"
+alter "a call of another function" "$exports/blocks.rt" 's/::sip_dialog_is_success(code)/::sip_dialog_is_error(code)/' "$exports/blocks.rt"
+alter "a function less" "$exports/blocks.rt" '/^\/\/ 400 to 699\.$/,$d' "$exports/blocks.rt"
+alter "a function more" "$exports/lib.rt" '$a#[unsafe(no_mangle)]\npub extern "C" fn sip_dialog_is_none(code: u16) -> bool\n{' "$exports/lib.rt"
+
+# A file of the exports' crate that is not made.
+rm -rf "$out/copy"
+cp -r "$out/kept" "$out/copy"
+echo "// More." >"$out/copy/$exports/more.rt"
+! python3 tools/face check "$out/copy" >"$out/said" 2>&1 || wrong "a file more in $exports (it was taken)"
+grep -q "^face: $exports/more.rt: " "$out/said" || wrong "a file more in $exports"
+runs=$((runs + 1))
 
 echo "face: $(cat "$out/same"); $runs altered copies, each reported"

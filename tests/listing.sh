@@ -1,7 +1,7 @@
 #!/bin/sh
 # The program `listing`: the stores of tests/stores.py are as that script writes them, and the program prints what is expected of
 # these and many more, however the input comes to it. Prints one line if all holds.
-# LISTING: the program (default: target/bin/listing, built by `rt check listing` if it isn't there).
+# LISTING: the program (default: target/bin/listing, built by `tools/build listing` if it isn't there).
 set -eu
 cd "$(dirname "$0")/.."
 program=${LISTING:-target/bin/listing}
@@ -9,7 +9,7 @@ data=crates/listings/data
 out=target/listing_runs
 mkdir -p "$out"
 command -v python3 >/dev/null || { apt-get update -q && apt-get install -q -y python3; } >&2
-[ -x "$program" ] || rt check listing >&2
+[ -x "$program" ] || tools/build listing >&2
 python3 tests/stores.py --check >"$out/log"
 
 # wrong WHAT: says which run is not as expected, and what it wrote.

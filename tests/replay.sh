@@ -1,14 +1,14 @@
 #!/bin/sh
 # The program `replay` reports what isn't as recorded: copies of its list, each with one thing altered, must be reported; the list itself, and the list by a pipe,
 # must not. Prints one line if all holds.
-# REPLAY: the program (default: target/bin/replay, built by `rt check replay` if it isn't there).
+# REPLAY: the program (default: target/bin/replay, built by `tools/build replay` if it isn't there).
 set -eu
 cd "$(dirname "$0")/.."
 program=${REPLAY:-target/bin/replay}
 list=crates/replay/stdin
 out=target/replay_runs
 mkdir -p "$out"
-[ -x "$program" ] || rt check replay >&2
+[ -x "$program" ] || tools/build replay >&2
 runs=0
 
 # wrong WHAT: says which run is not as expected, and what it wrote.

@@ -1,7 +1,7 @@
 #!/bin/sh
 # The example program examples/zone_switch.c: built against the static library, it prints what examples/zone_switch.txt has, by
 # itself and under valgrind. Prints one line if all holds.
-# PORT_LIB: a folder with libsip_dialog.a (default: built by `rt staticlib sip_dialog`).
+# PORT_LIB: a folder with libsip_dialog.a (default: built by `tools/build archive`).
 set -eu
 cd "$(dirname "$0")/.."
 archive=${PORT_LIB:-target/staticlib}/libsip_dialog.a
@@ -17,7 +17,7 @@ if [ $# -gt 0 ]; then
 fi
 
 mkdir -p "$out"
-[ -n "${PORT_LIB:-}" ] || rt staticlib sip_dialog >&2
+[ -n "${PORT_LIB:-}" ] || tools/build archive >&2
 gcc -std=c11 -Wall -Wextra -Wpedantic -Werror -Iinclude -g examples/zone_switch.c "$archive" -o "$out/zone_switch"
 
 # prints WORDS..: the words succeed, write just what is expected to standard output, and nothing to standard error.

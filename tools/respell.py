@@ -1,7 +1,7 @@
 #!/usr/bin/env python3
 """Spells the repository's own definitions, lemmas and record fields in snake case, as today's Rattle spells its library.
 
-usage: python3 tools/respell.py            at the top of the repository, once, on what /opt/rattle/port/port.py wrote
+usage: python3 tools/respell.py            at the top of the repository, once, on what the kit's port/port.py wrote
 
 Words in lowerCamel (`storeImage`) and names with dashes (`size-then`) get underscores. Names that Rattle makes of the
 code (goals, steps, places of the older proofs) keep their dashes: a dashed name turns where a file declares it itself,

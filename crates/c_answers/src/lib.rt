@@ -32,7 +32,7 @@ pub fn check_number(c: Check) -> u8
 }
 
 pub fn give_lookup(answer: Lookup, found: &mut u8, place: &mut usize, length: &mut usize) -> u8
-    ensures { LookupGives answer (record { found = found.entry.now; place = place.old; length = length.old }) result (record { found = found.exit.now; place = place.new; length = length.new }) }
+    ensures { LookupGives answer (record { found = found.old; place = place.old; length = length.old }) result (record { found = found.new; place = place.new; length = length.new }) }
 {
     match answer {
         Lookup::At(s) => {
@@ -56,7 +56,7 @@ pub fn give_next(
     length: &mut usize,
     next: &mut usize,
 ) -> u8
-    ensures { NextGives answer (record { found = found.entry.now; place = place.old; length = length.old; next = next.old }) result (record { found = found.exit.now; place = place.new; length = length.new; next = next.new }) }
+    ensures { NextGives answer (record { found = found.old; place = place.old; length = length.old; next = next.old }) result (record { found = found.new; place = place.new; length = length.new; next = next.new }) }
 {
     match answer {
         Next::At(s, after) => {
@@ -75,7 +75,7 @@ pub fn give_next(
 }
 
 pub fn give_part(answer: PartAnswer, place: &mut usize, length: &mut usize) -> u8
-    ensures { PartGives answer (record { place = place.entry.now; length = length.old }) result (record { place = place.exit.now; length = length.new }) }
+    ensures { PartGives answer (record { place = place.old; length = length.old }) result (record { place = place.new; length = length.new }) }
 {
     match answer {
         PartAnswer::At(s) => {
@@ -96,7 +96,7 @@ pub fn give_id(
     remote: &mut usize,
     remote_length: &mut usize,
 ) -> u8
-    ensures { IdGives answer (record { call = call.entry.now; call_length = call_length.old; local = local.old; local_length = local_length.old; remote = remote.old; remote_length = remote_length.old }) result (record { call = call.exit.now; call_length = call_length.new; local = local.new; local_length = local_length.new; remote = remote.new; remote_length = remote_length.new }) }
+    ensures { IdGives answer (record { call = call.old; call_length = call_length.old; local = local.old; local_length = local_length.old; remote = remote.old; remote_length = remote_length.old }) result (record { call = call.new; call_length = call_length.new; local = local.new; local_length = local_length.new; remote = remote.new; remote_length = remote_length.new }) }
 {
     match answer {
         IdAnswer::At(i) => {
@@ -122,7 +122,7 @@ pub fn give_uri(
     has_port: &mut u8,
     port: &mut u16,
 ) -> u8
-    ensures { UriGives answer (record { secure = secure.entry.now; user = user.old; user_length = user_length.old; host = host.old; host_length = host_length.old; has_port = has_port.old; port = port.old }) result (record { secure = secure.exit.now; user = user.new; user_length = user_length.new; host = host.new; host_length = host_length.new; has_port = has_port.new; port = port.new }) }
+    ensures { UriGives answer (record { secure = secure.old; user = user.old; user_length = user_length.old; host = host.old; host_length = host_length.old; has_port = has_port.old; port = port.old }) result (record { secure = secure.new; user = user.new; user_length = user_length.new; host = host.new; host_length = host_length.new; has_port = has_port.new; port = port.new }) }
 {
     match answer {
         UriAnswer::Read(u) => {
@@ -158,7 +158,7 @@ pub fn give_expires(
     seconds: &mut u32,
     refresher: &mut u8,
 ) -> u8
-    ensures { ExpiresGives answer (record { found = found.entry.now; seconds = seconds.old; refresher = refresher.old }) result (record { found = found.exit.now; seconds = seconds.new; refresher = refresher.new }) }
+    ensures { ExpiresGives answer (record { found = found.old; seconds = seconds.old; refresher = refresher.old }) result (record { found = found.new; seconds = seconds.new; refresher = refresher.new }) }
 {
     match answer {
         ExpiresAnswer::Of(n, r) => {
@@ -224,7 +224,7 @@ pub fn give_method(answer: MethodAnswer, method: &mut u8) -> u8
 }
 
 pub fn give_method_lookup(answer: MethodLookup, found: &mut u8, method: &mut u8) -> u8
-    ensures { MethodLookupGives answer (record { found = found.entry.now; method = method.old }) result (record { found = found.exit.now; method = method.new }) }
+    ensures { MethodLookupGives answer (record { found = found.old; method = method.old }) result (record { found = found.new; method = method.new }) }
 {
     match answer {
         MethodLookup::Of(n) => {
@@ -257,7 +257,7 @@ pub fn give_reliable(answer: Reliable, reliable: &mut u8) -> u8
 }
 
 pub fn give_rack(answer: RAckAnswer, rseq: &mut u32, cseq: &mut u32, method: &mut u8) -> u8
-    ensures { RackGives answer (record { rseq = rseq.entry.now; cseq = cseq.old; method = method.old }) result (record { rseq = rseq.exit.now; cseq = cseq.new; method = method.new }) }
+    ensures { RackGives answer (record { rseq = rseq.old; cseq = cseq.old; method = method.old }) result (record { rseq = rseq.new; cseq = cseq.new; method = method.new }) }
 {
     match answer {
         RAckAnswer::Of(a) => {
@@ -295,7 +295,7 @@ pub fn give_validated(answer: Interval, least: &mut u64) -> u8
 }
 
 pub fn give_interval(answer: Interval, interval: &mut u64, least: &mut u64) -> u8
-    ensures { IntervalGives answer (record { interval = interval.entry.now; least = least.old }) result (record { interval = interval.exit.now; least = least.new }) }
+    ensures { IntervalGives answer (record { interval = interval.old; least = least.old }) result (record { interval = interval.new; least = least.new }) }
 {
     match answer {
         Interval::Nanos(n) => {

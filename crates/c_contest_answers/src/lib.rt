@@ -19,7 +19,7 @@ pub fn give_contest(
     only_requested: &mut u8,
     least: &mut u64,
 ) -> u8
-    ensures { ContestGives (outcome_in answer) (record { has_first = has_first.entry.now; first_least = first_least.old; first_most = first_most.old; has_retry = has_retry.old; retry_least = retry_least.old; retry_most = retry_most.old; only_requested = only_requested.old; least = least.old }) result (record { has_first = has_first.exit.now; first_least = first_least.new; first_most = first_most.new; has_retry = has_retry.new; retry_least = retry_least.new; retry_most = retry_most.new; only_requested = only_requested.new; least = least.new }) }
+    ensures { ContestGives (outcome_in answer) (record { has_first = has_first.old; first_least = first_least.old; first_most = first_most.old; has_retry = has_retry.old; retry_least = retry_least.old; retry_most = retry_most.old; only_requested = only_requested.old; least = least.old }) result (record { has_first = has_first.new; first_least = first_least.new; first_most = first_most.new; has_retry = has_retry.new; retry_least = retry_least.new; retry_most = retry_most.new; only_requested = only_requested.new; least = least.new }) }
 {
     match answer {
         ContestAnswer::Of(c) => {

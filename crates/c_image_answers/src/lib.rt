@@ -20,7 +20,7 @@ pub fn give_image_id(
     remote: &mut usize,
     remote_length: &mut usize,
 ) -> u8
-    ensures { ImageIdGives answer (record { call = call.entry.now; call_length = call_length.old; local = local.old; local_length = local_length.old; remote = remote.old; remote_length = remote_length.old }) result (record { call = call.exit.now; call_length = call_length.new; local = local.new; local_length = local_length.new; remote = remote.new; remote_length = remote_length.new }) }
+    ensures { ImageIdGives answer (record { call = call.old; call_length = call_length.old; local = local.old; local_length = local_length.old; remote = remote.old; remote_length = remote_length.old }) result (record { call = call.new; call_length = call_length.new; local = local.new; local_length = local_length.new; remote = remote.new; remote_length = remote_length.new }) }
 {
     match answer {
         ImageAnswer::Of(r) => {
@@ -38,7 +38,7 @@ pub fn give_image_id(
 }
 
 pub fn give_state(answer: ImageAnswer, state: &mut u8, we_are_uac: &mut u8, secure: &mut u8) -> u8
-    ensures { StateGives answer (record { state = state.entry.now; we_are_uac = we_are_uac.old; secure = secure.old }) result (record { state = state.exit.now; we_are_uac = we_are_uac.new; secure = secure.new }) }
+    ensures { StateGives answer (record { state = state.old; we_are_uac = we_are_uac.old; secure = secure.old }) result (record { state = state.new; we_are_uac = we_are_uac.new; secure = secure.new }) }
 {
     match answer {
         ImageAnswer::Of(r) => {
@@ -63,7 +63,7 @@ pub fn give_uris(
     remote_uri: &mut usize,
     remote_uri_length: &mut usize,
 ) -> u8
-    ensures { UrisGives answer (record { target = target.entry.now; target_length = target_length.old; local_uri = local_uri.old; local_uri_length = local_uri_length.old; remote_uri = remote_uri.old; remote_uri_length = remote_uri_length.old }) result (record { target = target.exit.now; target_length = target_length.new; local_uri = local_uri.new; local_uri_length = local_uri_length.new; remote_uri = remote_uri.new; remote_uri_length = remote_uri_length.new }) }
+    ensures { UrisGives answer (record { target = target.old; target_length = target_length.old; local_uri = local_uri.old; local_uri_length = local_uri_length.old; remote_uri = remote_uri.old; remote_uri_length = remote_uri_length.old }) result (record { target = target.new; target_length = target_length.new; local_uri = local_uri.new; local_uri_length = local_uri_length.new; remote_uri = remote_uri.new; remote_uri_length = remote_uri_length.new }) }
 {
     match answer {
         ImageAnswer::Of(r) => {
@@ -90,7 +90,7 @@ pub fn give_numbers(
     seconds: &mut u32,
     refresher: &mut u8,
 ) -> u8
-    ensures { NumbersGives answer (record { local = local.entry.now; remote = remote.old; has_last_ack = has_last_ack.old; last_ack = last_ack.old; has_seconds = has_seconds.old; seconds = seconds.old; refresher = refresher.old }) result (record { local = local.exit.now; remote = remote.new; has_last_ack = has_last_ack.new; last_ack = last_ack.new; has_seconds = has_seconds.new; seconds = seconds.new; refresher = refresher.new }) }
+    ensures { NumbersGives answer (record { local = local.old; remote = remote.old; has_last_ack = has_last_ack.old; last_ack = last_ack.old; has_seconds = has_seconds.old; seconds = seconds.old; refresher = refresher.old }) result (record { local = local.new; remote = remote.new; has_last_ack = has_last_ack.new; last_ack = last_ack.new; has_seconds = has_seconds.new; seconds = seconds.new; refresher = refresher.new }) }
 {
     match answer {
         ImageAnswer::Of(r) => {
@@ -156,7 +156,7 @@ pub fn give_refresh(answer: Refresh, due: &mut u8) -> u8
 }
 
 pub fn give_raised(answer: Raised, used: &mut usize, number: &mut u32) -> u8
-    ensures { RaisedGives answer (record { used = used.entry.now; number = number.old }) result (record { used = used.exit.now; number = number.new }) }
+    ensures { RaisedGives answer (record { used = used.old; number = number.old }) result (record { used = used.new; number = number.new }) }
 {
     match answer {
         Raised::To(n, length) => {
@@ -169,7 +169,7 @@ pub fn give_raised(answer: Raised, used: &mut usize, number: &mut u32) -> u8
 }
 
 pub fn give_set(answer: Written, used: &mut usize, least: &mut u64) -> u8
-    ensures { SetGives answer (record { used = used.entry.now; least = least.old }) result (record { used = used.exit.now; least = least.new }) }
+    ensures { SetGives answer (record { used = used.old; least = least.old }) result (record { used = used.new; least = least.new }) }
 {
     match answer {
         Written::Length(n) => {

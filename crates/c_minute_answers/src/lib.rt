@@ -7,7 +7,7 @@ use worst_minute::Worst;
 
 // How many refusals, whether there is a start, and the start, which keeps its value where there is none.
 pub fn give_worst(answer: Worst, refusals: &mut usize, found: &mut u8, start: &mut u64) -> u8
-    ensures { WorstGives answer (record { refusals = refusals.entry.now; found = found.old; start = start.old }) result (record { refusals = refusals.exit.now; found = found.new; start = start.new }) }
+    ensures { WorstGives answer (record { refusals = refusals.old; found = found.old; start = start.old }) result (record { refusals = refusals.new; found = found.new; start = start.new }) }
 {
     match answer {
         Worst::Of(n, t) => {

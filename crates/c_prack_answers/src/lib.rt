@@ -13,7 +13,7 @@ pub fn give_validated(
     cseq: &mut u32,
     method: &mut u8,
 ) -> u8
-    ensures { ValidatedGives answer (record { used = used.entry.now; rack = rack_of rseq.old cseq.old method.old }) result (record { used = used.exit.now; rack = rack_of rseq.new cseq.new method.new }) }
+    ensures { ValidatedGives answer (record { used = used.old; rack = rack_of rseq.old cseq.old method.old }) result (record { used = used.new; rack = rack_of rseq.new cseq.new method.new }) }
 {
     match answer {
         Validated::Is(k, length) => {
@@ -45,7 +45,7 @@ pub fn give_pracked(answer: Pracked, pracked: &mut u8) -> u8
 
 // How many bytes of the output were written, and the new used length.
 pub fn give_listed(answer: Listed, used: &mut usize, written: &mut usize) -> u8
-    ensures { ListedGives answer (record { used = used.entry.now; written = written.old }) result (record { used = used.exit.now; written = written.new }) }
+    ensures { ListedGives answer (record { used = used.old; written = written.old }) result (record { used = used.new; written = written.new }) }
 {
     match answer {
         Listed::Is(n, length) => {

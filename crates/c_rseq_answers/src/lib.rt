@@ -8,7 +8,7 @@ use rseq_manager::{Counted, Current, Numbered};
 
 // The number, and the new used length.
 pub fn give_numbered(answer: Numbered, used: &mut usize, rseq: &mut u32) -> u8
-    ensures { NumberedGives answer (record { used = used.entry.now; rseq = rseq.old }) result (record { used = used.exit.now; rseq = rseq.new }) }
+    ensures { NumberedGives answer (record { used = used.old; rseq = rseq.old }) result (record { used = used.new; rseq = rseq.new }) }
 {
     match answer {
         Numbered::Is(n, length) => {

@@ -29,7 +29,7 @@ pub fn give_place(answer: Place, place: &mut usize, length: &mut usize) -> u8
 
 // The new used length, and one more counted.
 pub fn give_counted(answer: Written, used: &mut usize, count: &mut u64) -> u8
-    ensures { CountedGives answer (record { used = used.entry.now; count = count.old }) result (record { used = used.exit.now; count = count.new }) }
+    ensures { CountedGives answer (record { used = used.old; count = count.old }) result (record { used = used.new; count = count.new }) }
 {
     match answer {
         Written::Length(n) => {

@@ -27,8 +27,8 @@ pub fn new_uac<'a>(
     remote_uri: &'a [u8],
     out: &mut [u8],
 ) -> Written
-    ensures value { result ≡ written_from (new_image rust_limits uac (record { method = method.entry.now; request = request.now; status = status; response = response.now; local_uri = local_uri.now; remote_uri = remote_uri.now }) (length out.old)) }
-    ensures out_after { out.new ≡ leaves (new_image rust_limits uac (record { method = method.entry.now; request = request.now; status = status; response = response.now; local_uri = local_uri.now; remote_uri = remote_uri.now }) (length out.old)) out.old }
+    ensures value { result ≡ written_from (new_image rust_limits uac (record { method = method.now; request = request.now; status = status; response = response.now; local_uri = local_uri.now; remote_uri = remote_uri.now }) (length out.old)) }
+    ensures out_after { out.new ≡ leaves (new_image rust_limits uac (record { method = method.now; request = request.now; status = status; response = response.now; local_uri = local_uri.now; remote_uri = remote_uri.now }) (length out.old)) out.old }
 {
     create(
         true, method, request, status, response, local_uri, remote_uri, out,
@@ -45,8 +45,8 @@ pub fn new_uas<'a>(
     remote_uri: &'a [u8],
     out: &mut [u8],
 ) -> Written
-    ensures value { result ≡ written_from (new_image rust_limits uas (record { method = method.entry.now; request = request.now; status = status; response = response.now; local_uri = local_uri.now; remote_uri = remote_uri.now }) (length out.old)) }
-    ensures out_after { out.new ≡ leaves (new_image rust_limits uas (record { method = method.entry.now; request = request.now; status = status; response = response.now; local_uri = local_uri.now; remote_uri = remote_uri.now }) (length out.old)) out.old }
+    ensures value { result ≡ written_from (new_image rust_limits uas (record { method = method.now; request = request.now; status = status; response = response.now; local_uri = local_uri.now; remote_uri = remote_uri.now }) (length out.old)) }
+    ensures out_after { out.new ≡ leaves (new_image rust_limits uas (record { method = method.now; request = request.now; status = status; response = response.now; local_uri = local_uri.now; remote_uri = remote_uri.now }) (length out.old)) out.old }
 {
     create(
         false, method, request, status, response, local_uri, remote_uri, out,

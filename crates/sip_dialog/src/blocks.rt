@@ -10,30 +10,27 @@ ghost use Rattle.c_answers.specs.Given.{LookupGives, NextGives, check_number};
 use c_answers::{check_number, give_lookup, give_next};
 
 // The check of a header block: 1, 2.
-#[unsafe(no_mangle)]
-pub extern "C" fn sip_dialog_check_block(block: &[u8]) -> u8
+pub fn sip_dialog_check_block(block: &[u8]) -> u8
     ensures { result ≡ check_number (check_of (block_cause rust_limits block.now)) }
 {
     check_number(msg::check_block(block))
 }
 
 // The value of the first line of a name, letter case ignored: 1, 2.
-#[unsafe(no_mangle)]
-pub extern "C" fn sip_dialog_header(
+pub fn sip_dialog_header(
     block: &[u8],
     name: &[u8],
     found: &mut u8,
     place: &mut usize,
     length: &mut usize,
 ) -> u8
-    ensures { LookupGives (lookup_of (lookup rust_limits block.now name.now)) (record { found = found.entry.now; place = place.old; length = length.old }) result (record { found = found.exit.now; place = place.new; length = length.new }) }
+    ensures { LookupGives (lookup_of (lookup rust_limits block.now name.now)) (record { found = found.old; place = place.old; length = length.old }) result (record { found = found.new; place = place.new; length = length.new }) }
 {
     give_lookup(msg::header(block, name), found, place, length)
 }
 
 // The value of the first line of a name that starts at `from` or after it: 1, 2.
-#[unsafe(no_mangle)]
-pub extern "C" fn sip_dialog_next_header(
+pub fn sip_dialog_next_header(
     block: &[u8],
     name: &[u8],
     from: usize,
@@ -42,7 +39,7 @@ pub extern "C" fn sip_dialog_next_header(
     length: &mut usize,
     next: &mut usize,
 ) -> u8
-    ensures { NextGives (next_of (lookup_from rust_limits block.now name.now from)) (record { found = found.entry.now; place = place.old; length = length.old; next = next.old }) result (record { found = found.exit.now; place = place.new; length = length.new; next = next.new }) }
+    ensures { NextGives (next_of (lookup_from rust_limits block.now name.now from)) (record { found = found.old; place = place.old; length = length.old; next = next.old }) result (record { found = found.new; place = place.new; length = length.new; next = next.new }) }
 {
     give_next(
         msg::next_header(block, name, from),
@@ -54,56 +51,49 @@ pub extern "C" fn sip_dialog_next_header(
 }
 
 // 100 to 199.
-#[unsafe(no_mangle)]
-pub extern "C" fn sip_dialog_is_informational(code: u16) -> bool
+pub fn sip_dialog_is_informational(code: u16) -> bool
     ensures { result ≡ in_class 100 200 code }
 {
     msg::is_informational(code)
 }
 
 // 200 to 299.
-#[unsafe(no_mangle)]
-pub extern "C" fn sip_dialog_is_success(code: u16) -> bool
+pub fn sip_dialog_is_success(code: u16) -> bool
     ensures { result ≡ in_class 200 300 code }
 {
     msg::is_success(code)
 }
 
 // 300 to 399.
-#[unsafe(no_mangle)]
-pub extern "C" fn sip_dialog_is_redirection(code: u16) -> bool
+pub fn sip_dialog_is_redirection(code: u16) -> bool
     ensures { result ≡ in_class 300 400 code }
 {
     msg::is_redirection(code)
 }
 
 // 400 to 499.
-#[unsafe(no_mangle)]
-pub extern "C" fn sip_dialog_is_client_error(code: u16) -> bool
+pub fn sip_dialog_is_client_error(code: u16) -> bool
     ensures { result ≡ in_class 400 500 code }
 {
     msg::is_client_error(code)
 }
 
 // 500 to 599.
-#[unsafe(no_mangle)]
-pub extern "C" fn sip_dialog_is_server_error(code: u16) -> bool
+pub fn sip_dialog_is_server_error(code: u16) -> bool
     ensures { result ≡ in_class 500 600 code }
 {
     msg::is_server_error(code)
 }
 
 // 600 to 699.
-#[unsafe(no_mangle)]
-pub extern "C" fn sip_dialog_is_global_failure(code: u16) -> bool
+pub fn sip_dialog_is_global_failure(code: u16) -> bool
     ensures { result ≡ in_class 600 700 code }
 {
     msg::is_global_failure(code)
 }
 
 // 400 to 699.
-#[unsafe(no_mangle)]
-pub extern "C" fn sip_dialog_is_error(code: u16) -> bool
+pub fn sip_dialog_is_error(code: u16) -> bool
     ensures { result ≡ is_error_code code }
 {
     msg::is_error(code)

@@ -9,8 +9,7 @@ ghost use Rattle.c_image_answers.specs.Given.{SetGives};
 use c_image_answers::give_set;
 
 // The record of a dialog that our request opens, by the response to it: 1, 2, 6, 4, 5, 7, 8, 4, 9, 10, 13 with 90, 14, 18.
-#[unsafe(no_mangle)]
-pub extern "C" fn sip_dialog_new_uac<'a>(
+pub fn sip_dialog_new_uac<'a>(
     method: &[u8],
     request: &'a [u8],
     status: u16,
@@ -21,8 +20,8 @@ pub extern "C" fn sip_dialog_new_uac<'a>(
     written: &mut usize,
     least: &mut u64,
 ) -> u8
-    ensures set_gives { SetGives (written_from (new_image rust_limits uac (record { method = method.entry.now; request = request.now; status = status; response = response.now; local_uri = local_uri.now; remote_uri = remote_uri.now }) (length out.old))) (record { used = written.old; least = least.old }) result (record { used = written.new; least = least.new }) }
-    ensures out_after { out.new ≡ leaves (new_image rust_limits uac (record { method = method.entry.now; request = request.now; status = status; response = response.now; local_uri = local_uri.now; remote_uri = remote_uri.now }) (length out.old)) out.old }
+    ensures set_gives { SetGives (written_from (new_image rust_limits uac (record { method = method.now; request = request.now; status = status; response = response.now; local_uri = local_uri.now; remote_uri = remote_uri.now }) (length out.old))) (record { used = written.old; least = least.old }) result (record { used = written.new; least = least.new }) }
+    ensures out_after { out.new ≡ leaves (new_image rust_limits uac (record { method = method.now; request = request.now; status = status; response = response.now; local_uri = local_uri.now; remote_uri = remote_uri.now }) (length out.old)) out.old }
 {
     give_set(
         dialog_creation::new_uac(
@@ -34,8 +33,7 @@ pub extern "C" fn sip_dialog_new_uac<'a>(
 }
 
 // The record of a dialog that a request to us opens, by our response: the same.
-#[unsafe(no_mangle)]
-pub extern "C" fn sip_dialog_new_uas<'a>(
+pub fn sip_dialog_new_uas<'a>(
     method: &[u8],
     request: &'a [u8],
     status: u16,
@@ -46,8 +44,8 @@ pub extern "C" fn sip_dialog_new_uas<'a>(
     written: &mut usize,
     least: &mut u64,
 ) -> u8
-    ensures set_gives { SetGives (written_from (new_image rust_limits uas (record { method = method.entry.now; request = request.now; status = status; response = response.now; local_uri = local_uri.now; remote_uri = remote_uri.now }) (length out.old))) (record { used = written.old; least = least.old }) result (record { used = written.new; least = least.new }) }
-    ensures out_after { out.new ≡ leaves (new_image rust_limits uas (record { method = method.entry.now; request = request.now; status = status; response = response.now; local_uri = local_uri.now; remote_uri = remote_uri.now }) (length out.old)) out.old }
+    ensures set_gives { SetGives (written_from (new_image rust_limits uas (record { method = method.now; request = request.now; status = status; response = response.now; local_uri = local_uri.now; remote_uri = remote_uri.now }) (length out.old))) (record { used = written.old; least = least.old }) result (record { used = written.new; least = least.new }) }
+    ensures out_after { out.new ≡ leaves (new_image rust_limits uas (record { method = method.now; request = request.now; status = status; response = response.now; local_uri = local_uri.now; remote_uri = remote_uri.now }) (length out.old)) out.old }
 {
     give_set(
         dialog_creation::new_uas(

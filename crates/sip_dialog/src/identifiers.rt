@@ -10,28 +10,21 @@ use c_answers::{check_number, give_id, give_part};
 use dialog_id::DialogId;
 
 // The tag of a From or To value: 1, 2, 4.
-#[unsafe(no_mangle)]
-pub extern "C" fn sip_dialog_extract_tag(value: &[u8], place: &mut usize, length: &mut usize) -> u8
-    ensures { PartGives (part_answer (extract_tag rust_limits value.now)) (record { place = place.entry.now; length = length.old }) result (record { place = place.exit.now; length = length.new }) }
+pub fn sip_dialog_extract_tag(value: &[u8], place: &mut usize, length: &mut usize) -> u8
+    ensures { PartGives (part_answer (extract_tag rust_limits value.now)) (record { place = place.old; length = length.old }) result (record { place = place.new; length = length.new }) }
 {
     give_part(headers::extract_tag(value), place, length)
 }
 
 // The check of an identifier's parts: 1, then 25, 26, 27 of each.
-#[unsafe(no_mangle)]
-pub extern "C" fn sip_dialog_dialog_id_new(
-    call_id: &[u8],
-    local_tag: &[u8],
-    remote_tag: &[u8],
-) -> u8
+pub fn sip_dialog_dialog_id_new(call_id: &[u8], local_tag: &[u8], remote_tag: &[u8]) -> u8
     ensures { result ≡ check_number (check_of (identifier_cause rust_limits call_id.now local_tag.now remote_tag.now)) }
 {
     check_number(DialogId::new(call_id, local_tag, remote_tag))
 }
 
 // The identifier of a request, with the tag of From as local tag: 1, 2, 4.
-#[unsafe(no_mangle)]
-pub extern "C" fn sip_dialog_from_request(
+pub fn sip_dialog_from_request(
     block: &[u8],
     call_id: &mut usize,
     call_id_length: &mut usize,
@@ -54,8 +47,7 @@ pub extern "C" fn sip_dialog_from_request(
 }
 
 // The identifier of a response to a request that we sent: 1, 2, 4.
-#[unsafe(no_mangle)]
-pub extern "C" fn sip_dialog_from_response_uac(
+pub fn sip_dialog_from_response_uac(
     block: &[u8],
     call_id: &mut usize,
     call_id_length: &mut usize,
@@ -78,8 +70,7 @@ pub extern "C" fn sip_dialog_from_response_uac(
 }
 
 // The identifier of a response that we sent: 1, 2, 4.
-#[unsafe(no_mangle)]
-pub extern "C" fn sip_dialog_from_response_uas(
+pub fn sip_dialog_from_response_uas(
     block: &[u8],
     call_id: &mut usize,
     call_id_length: &mut usize,

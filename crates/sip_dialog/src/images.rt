@@ -19,8 +19,7 @@ use c_image_answers::{
 };
 
 // Where the parts of the identifier lie: 3.
-#[unsafe(no_mangle)]
-pub extern "C" fn sip_dialog_image_id(
+pub fn sip_dialog_image_id(
     image: &[u8],
     call_id: &mut usize,
     call_id_length: &mut usize,
@@ -43,21 +42,19 @@ pub extern "C" fn sip_dialog_image_id(
 }
 
 // The state, the side, and whether the dialog is secure: 3.
-#[unsafe(no_mangle)]
-pub extern "C" fn sip_dialog_image_state(
+pub fn sip_dialog_image_state(
     image: &[u8],
     state: &mut u8,
     we_are_uac: &mut u8,
     secure: &mut u8,
 ) -> u8
-    ensures { StateGives (image_answer (one_record image.now)) (record { state = state.entry.now; we_are_uac = we_are_uac.old; secure = secure.old }) result (record { state = state.exit.now; we_are_uac = we_are_uac.new; secure = secure.new }) }
+    ensures { StateGives (image_answer (one_record image.now)) (record { state = state.old; we_are_uac = we_are_uac.old; secure = secure.old }) result (record { state = state.new; we_are_uac = we_are_uac.new; secure = secure.new }) }
 {
     give_state(dialog::read_image(image), state, we_are_uac, secure)
 }
 
 // Where the target, the local and the remote URI lie: 3.
-#[unsafe(no_mangle)]
-pub extern "C" fn sip_dialog_image_uris(
+pub fn sip_dialog_image_uris(
     image: &[u8],
     target: &mut usize,
     target_length: &mut usize,
@@ -66,7 +63,7 @@ pub extern "C" fn sip_dialog_image_uris(
     remote_uri: &mut usize,
     remote_uri_length: &mut usize,
 ) -> u8
-    ensures { UrisGives (image_answer (one_record image.now)) (record { target = target.entry.now; target_length = target_length.old; local_uri = local_uri.old; local_uri_length = local_uri_length.old; remote_uri = remote_uri.old; remote_uri_length = remote_uri_length.old }) result (record { target = target.exit.now; target_length = target_length.new; local_uri = local_uri.new; local_uri_length = local_uri_length.new; remote_uri = remote_uri.new; remote_uri_length = remote_uri_length.new }) }
+    ensures { UrisGives (image_answer (one_record image.now)) (record { target = target.old; target_length = target_length.old; local_uri = local_uri.old; local_uri_length = local_uri_length.old; remote_uri = remote_uri.old; remote_uri_length = remote_uri_length.old }) result (record { target = target.new; target_length = target_length.new; local_uri = local_uri.new; local_uri_length = local_uri_length.new; remote_uri = remote_uri.new; remote_uri_length = remote_uri_length.new }) }
 {
     give_uris(
         dialog::read_image(image),
@@ -80,8 +77,7 @@ pub extern "C" fn sip_dialog_image_uris(
 }
 
 // The numbers: 3.
-#[unsafe(no_mangle)]
-pub extern "C" fn sip_dialog_image_numbers(
+pub fn sip_dialog_image_numbers(
     image: &[u8],
     local: &mut u32,
     remote: &mut u32,
@@ -91,7 +87,7 @@ pub extern "C" fn sip_dialog_image_numbers(
     seconds: &mut u32,
     refresher: &mut u8,
 ) -> u8
-    ensures { NumbersGives (image_answer (one_record image.now)) (record { local = local.entry.now; remote = remote.old; has_last_ack = has_last_ack.old; last_ack = last_ack.old; has_seconds = has_seconds.old; seconds = seconds.old; refresher = refresher.old }) result (record { local = local.exit.now; remote = remote.new; has_last_ack = has_last_ack.new; last_ack = last_ack.new; has_seconds = has_seconds.new; seconds = seconds.new; refresher = refresher.new }) }
+    ensures { NumbersGives (image_answer (one_record image.now)) (record { local = local.old; remote = remote.old; has_last_ack = has_last_ack.old; last_ack = last_ack.old; has_seconds = has_seconds.old; seconds = seconds.old; refresher = refresher.old }) result (record { local = local.new; remote = remote.new; has_last_ack = has_last_ack.new; last_ack = last_ack.new; has_seconds = has_seconds.new; seconds = seconds.new; refresher = refresher.new }) }
 {
     give_numbers(
         dialog::read_image(image),
@@ -106,50 +102,41 @@ pub extern "C" fn sip_dialog_image_numbers(
 }
 
 // How many routes there are: 3.
-#[unsafe(no_mangle)]
-pub extern "C" fn sip_dialog_image_route_count(image: &[u8], count: &mut usize) -> u8
+pub fn sip_dialog_image_route_count(image: &[u8], count: &mut usize) -> u8
     ensures { RouteCountGives (image_answer (one_record image.now)) count.old result count.new }
 {
     give_route_count(dialog::read_image(image), count)
 }
 
 // Where the route at an index from 0 lies: 3.
-#[unsafe(no_mangle)]
-pub extern "C" fn sip_dialog_image_route(
+pub fn sip_dialog_image_route(
     image: &[u8],
     index: usize,
     found: &mut u8,
     place: &mut usize,
     length: &mut usize,
 ) -> u8
-    ensures { LookupGives (lookup_of (image_route image.now index)) (record { found = found.entry.now; place = place.old; length = length.old }) result (record { found = found.exit.now; place = place.new; length = length.new }) }
+    ensures { LookupGives (lookup_of (image_route image.now index)) (record { found = found.old; place = place.old; length = length.old }) result (record { found = found.new; place = place.new; length = length.new }) }
 {
     give_lookup(dialog::image_route(image, index), found, place, length)
 }
 
 // Whether a request belongs to the record: 1, 2, 3.
-#[unsafe(no_mangle)]
-pub extern "C" fn sip_dialog_image_matches_request(
-    block: &[u8],
-    image: &[u8],
-    matches: &mut u8,
-) -> u8
+pub fn sip_dialog_image_matches_request(block: &[u8], image: &[u8], matches: &mut u8) -> u8
     ensures { MatchesGives (matches_answer (matches_request rust_limits block.now image.now)) matches.old result matches.new }
 {
     give_matches(dialog::matches_request(block, image), matches)
 }
 
 // Whether the session is to be refreshed after a time in nanoseconds: 3.
-#[unsafe(no_mangle)]
-pub extern "C" fn sip_dialog_image_needs_refresh(image: &[u8], elapsed: u64, due: &mut u8) -> u8
+pub fn sip_dialog_image_needs_refresh(image: &[u8], elapsed: u64, due: &mut u8) -> u8
     ensures { RefreshGives (refresh_answer (refresh_of image.now elapsed)) due.old result due.new }
 {
     give_refresh(dialog::needs_refresh(image, elapsed), due)
 }
 
 // A request from the peer: 1, 2, 3, 4, 9; ACK: 11; others: 10, 11, 12; 18.
-#[unsafe(no_mangle)]
-pub extern "C" fn sip_dialog_image_update_from_request(
+pub fn sip_dialog_image_update_from_request(
     method: &[u8],
     block: &[u8],
     image: &mut [u8],
@@ -165,8 +152,7 @@ pub extern "C" fn sip_dialog_image_update_from_request(
 }
 
 // A response: 1, 2, 3, 18.
-#[unsafe(no_mangle)]
-pub extern "C" fn sip_dialog_image_update_from_response(
+pub fn sip_dialog_image_update_from_response(
     status: u16,
     block: &[u8],
     image: &mut [u8],
@@ -182,8 +168,7 @@ pub extern "C" fn sip_dialog_image_update_from_response(
 }
 
 // Early becomes Confirmed: 3.
-#[unsafe(no_mangle)]
-pub extern "C" fn sip_dialog_image_confirm(image: &mut [u8], used: &mut usize) -> u8
+pub fn sip_dialog_image_confirm(image: &mut [u8], used: &mut usize) -> u8
     ensures written_gives { WrittenGives (written_from (confirmed image.old used.old)) used.old result used.new }
     ensures image_after { image.new ≡ leaves (confirmed image.old used.old) image.old }
 {
@@ -191,8 +176,7 @@ pub extern "C" fn sip_dialog_image_confirm(image: &mut [u8], used: &mut usize) -
 }
 
 // Every state becomes Terminated: 3.
-#[unsafe(no_mangle)]
-pub extern "C" fn sip_dialog_image_terminate(image: &mut [u8], used: &mut usize) -> u8
+pub fn sip_dialog_image_terminate(image: &mut [u8], used: &mut usize) -> u8
     ensures written_gives { WrittenGives (written_from (terminated image.old used.old)) used.old result used.new }
     ensures image_after { image.new ≡ leaves (terminated image.old used.old) image.old }
 {
@@ -200,27 +184,21 @@ pub extern "C" fn sip_dialog_image_terminate(image: &mut [u8], used: &mut usize)
 }
 
 // The next local number, kept in the image: 3, 18.
-#[unsafe(no_mangle)]
-pub extern "C" fn sip_dialog_image_next_local_cseq(
-    image: &mut [u8],
-    used: &mut usize,
-    number: &mut u32,
-) -> u8
-    ensures raised_gives { RaisedGives (raised_answer (raised_record image.old used.entry.now)) (record { used = used.entry.now; number = number.old }) result (record { used = used.exit.now; number = number.new }) }
+pub fn sip_dialog_image_next_local_cseq(image: &mut [u8], used: &mut usize, number: &mut u32) -> u8
+    ensures raised_gives { RaisedGives (raised_answer (raised_record image.old used.old)) (record { used = used.old; number = number.old }) result (record { used = used.new; number = number.new }) }
     ensures image_after { image.new ≡ leaves (local_raised image.old used.old) image.old }
 {
     give_raised(dialog_changes::next_local_cseq(image, *used), used, number)
 }
 
 // A new session interval in seconds: 3, 13 with the least, 14, 18.
-#[unsafe(no_mangle)]
-pub extern "C" fn sip_dialog_image_set_session_expires(
+pub fn sip_dialog_image_set_session_expires(
     image: &mut [u8],
     used: &mut usize,
     seconds: u64,
     least: &mut u64,
 ) -> u8
-    ensures set_gives { SetGives (written_from (interval_set rust_limits seconds image.old used.entry.now)) (record { used = used.entry.now; least = least.old }) result (record { used = used.exit.now; least = least.new }) }
+    ensures set_gives { SetGives (written_from (interval_set rust_limits seconds image.old used.old)) (record { used = used.old; least = least.old }) result (record { used = used.new; least = least.new }) }
     ensures image_after { image.new ≡ leaves (interval_set rust_limits seconds image.old used.old) image.old }
 {
     give_set(

@@ -12,36 +12,28 @@ use c_answers::{
 };
 
 // The number of a block's CSeq: 1, 2, 4.
-#[unsafe(no_mangle)]
-pub extern "C" fn sip_dialog_cseq_number(block: &[u8], number: &mut u32) -> u8
+pub fn sip_dialog_cseq_number(block: &[u8], number: &mut u32) -> u8
     ensures { NumberGives (number_answer (extract_cseq_number rust_limits block.now)) number.old result number.new }
 {
     give_number(prack_headers::extract_cseq_number(block), number)
 }
 
 // The number of the method of a block's CSeq: 1, 2, 4.
-#[unsafe(no_mangle)]
-pub extern "C" fn sip_dialog_cseq_method(block: &[u8], method: &mut u8) -> u8
+pub fn sip_dialog_cseq_method(block: &[u8], method: &mut u8) -> u8
     ensures { MethodGives (method_answer (extract_cseq_method rust_limits block.now)) method.old result method.new }
 {
     give_method(prack_headers::extract_cseq_method(block), method)
 }
 
 // The number of a block's RSeq: 1, 2, 4.
-#[unsafe(no_mangle)]
-pub extern "C" fn sip_dialog_rseq(block: &[u8], number: &mut u32) -> u8
+pub fn sip_dialog_rseq(block: &[u8], number: &mut u32) -> u8
     ensures { NumberGives (number_answer (extract_rseq rust_limits block.now)) number.old result number.new }
 {
     give_number(prack_headers::extract_rseq(block), number)
 }
 
 // Whether a response is a reliable provisional: 1, 2.
-#[unsafe(no_mangle)]
-pub extern "C" fn sip_dialog_is_reliable_provisional(
-    status: u16,
-    block: &[u8],
-    reliable: &mut u8,
-) -> u8
+pub fn sip_dialog_is_reliable_provisional(status: u16, block: &[u8], reliable: &mut u8) -> u8
     ensures { ReliableGives (reliable_answer (reliable_provisional rust_limits status block.now)) reliable.old result reliable.new }
 {
     give_reliable(
@@ -51,16 +43,14 @@ pub extern "C" fn sip_dialog_is_reliable_provisional(
 }
 
 // The number of a method by its text: 1.
-#[unsafe(no_mangle)]
-pub extern "C" fn sip_dialog_method_number(text: &[u8], found: &mut u8, method: &mut u8) -> u8
-    ensures { MethodLookupGives (method_lookup (method_number rust_limits text.now)) (record { found = found.entry.now; method = method.old }) result (record { found = found.exit.now; method = method.new }) }
+pub fn sip_dialog_method_number(text: &[u8], found: &mut u8, method: &mut u8) -> u8
+    ensures { MethodLookupGives (method_lookup (method_number rust_limits text.now)) (record { found = found.old; method = method.old }) result (record { found = found.new; method = method.new }) }
 {
     give_method_lookup(methods::method_number(text), found, method)
 }
 
 // The text of a method at the front of the lent bytes: 28, 18.
-#[unsafe(no_mangle)]
-pub extern "C" fn sip_dialog_method_text(method: u8, out: &mut [u8], written: &mut usize) -> u8
+pub fn sip_dialog_method_text(method: u8, out: &mut [u8], written: &mut usize) -> u8
     ensures written_gives { WrittenGives (written_from (method_text method (length out.old))) written.old result written.new }
     ensures out_after { out.new ≡ leaves (method_text method (length out.old)) out.old }
 {
@@ -68,21 +58,14 @@ pub extern "C" fn sip_dialog_method_text(method: u8, out: &mut [u8], written: &m
 }
 
 // The three parts of a RAck value: 1, 2, 19.
-#[unsafe(no_mangle)]
-pub extern "C" fn sip_dialog_parse_rack(
-    value: &[u8],
-    rseq: &mut u32,
-    cseq: &mut u32,
-    method: &mut u8,
-) -> u8
-    ensures { RackGives (rack_answer (parse_rack rust_limits value.now)) (record { rseq = rseq.entry.now; cseq = cseq.old; method = method.old }) result (record { rseq = rseq.exit.now; cseq = cseq.new; method = method.new }) }
+pub fn sip_dialog_parse_rack(value: &[u8], rseq: &mut u32, cseq: &mut u32, method: &mut u8) -> u8
+    ensures { RackGives (rack_answer (parse_rack rust_limits value.now)) (record { rseq = rseq.old; cseq = cseq.old; method = method.old }) result (record { rseq = rseq.new; cseq = cseq.new; method = method.new }) }
 {
     give_rack(rack::parse_rack(value), rseq, cseq, method)
 }
 
 // A RAck value at the front of the lent bytes: 28, 18.
-#[unsafe(no_mangle)]
-pub extern "C" fn sip_dialog_format_rack(
+pub fn sip_dialog_format_rack(
     rseq: u32,
     cseq: u32,
     method: u8,

@@ -11,8 +11,7 @@ use c_answers::give_written;
 use c_prack_answers::{give_listed, give_pracked, give_validated};
 
 // PrackValidator::register_reliable_provisional: 1, 28, 3, 18.
-#[unsafe(no_mangle)]
-pub extern "C" fn sip_dialog_prack_register(
+pub fn sip_dialog_prack_register(
     id: &[u8],
     rseq: u32,
     cseq: u32,
@@ -32,8 +31,7 @@ pub extern "C" fn sip_dialog_prack_register(
 }
 
 // PrackValidator::validate_prack: 1, 2, 3, 18, 19 to 24.
-#[unsafe(no_mangle)]
-pub extern "C" fn sip_dialog_prack_validate(
+pub fn sip_dialog_prack_validate(
     id: &[u8],
     block: &[u8],
     time: u64,
@@ -57,8 +55,7 @@ pub extern "C" fn sip_dialog_prack_validate(
 }
 
 // PrackValidator::is_pracked: 1, 3.
-#[unsafe(no_mangle)]
-pub extern "C" fn sip_dialog_prack_is_pracked(
+pub fn sip_dialog_prack_is_pracked(
     id: &[u8],
     rseq: u32,
     store: &[u8],
@@ -72,8 +69,7 @@ pub extern "C" fn sip_dialog_prack_is_pracked(
 }
 
 // PrackValidator::get_pending, at the front of the lent output: 1, 3, 18.
-#[unsafe(no_mangle)]
-pub extern "C" fn sip_dialog_prack_get_pending(
+pub fn sip_dialog_prack_get_pending(
     id: &[u8],
     time: u64,
     store: &mut [u8],
@@ -94,20 +90,14 @@ pub extern "C" fn sip_dialog_prack_get_pending(
 }
 
 // PrackValidator::remove_dialog: 1, 3.
-#[unsafe(no_mangle)]
-pub extern "C" fn sip_dialog_prack_remove_dialog(
-    id: &[u8],
-    store: &mut [u8],
-    used: &mut usize,
-) -> u8
+pub fn sip_dialog_prack_remove_dialog(id: &[u8], store: &mut [u8], used: &mut usize) -> u8
     ensures { Returns (ran rust_limits (remove_dialog id.now) store.old used.old) store.new used.new result }
 {
     give_written(prack_removal::remove_dialog(id, store, *used), used)
 }
 
 // PrackValidator::remove_pracked: 1, 3.
-#[unsafe(no_mangle)]
-pub extern "C" fn sip_dialog_prack_remove_pracked(
+pub fn sip_dialog_prack_remove_pracked(
     id: &[u8],
     rseq: u32,
     store: &mut [u8],

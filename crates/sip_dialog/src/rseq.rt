@@ -11,8 +11,7 @@ use c_answers::give_written;
 use c_rseq_answers::{give_count, give_current, give_empty, give_numbered};
 
 // RSeqManager::next_rseq: 1, 3, 18.
-#[unsafe(no_mangle)]
-pub extern "C" fn sip_dialog_rseq_next(
+pub fn sip_dialog_rseq_next(
     call_id: &[u8],
     local_tag: &[u8],
     remote_tag: &[u8],
@@ -32,8 +31,7 @@ pub extern "C" fn sip_dialog_rseq_next(
 }
 
 // RSeqManager::current_rseq: 1, 3, 15.
-#[unsafe(no_mangle)]
-pub extern "C" fn sip_dialog_rseq_current(
+pub fn sip_dialog_rseq_current(
     call_id: &[u8],
     local_tag: &[u8],
     remote_tag: &[u8],
@@ -51,8 +49,7 @@ pub extern "C" fn sip_dialog_rseq_current(
 }
 
 // RSeqManager::remove: 1, 3.
-#[unsafe(no_mangle)]
-pub extern "C" fn sip_dialog_rseq_remove(
+pub fn sip_dialog_rseq_remove(
     call_id: &[u8],
     local_tag: &[u8],
     remote_tag: &[u8],
@@ -68,8 +65,7 @@ pub extern "C" fn sip_dialog_rseq_remove(
 }
 
 // RSeqManager::len: 3.
-#[unsafe(no_mangle)]
-pub extern "C" fn sip_dialog_rseq_len(store: &[u8], used: usize, count: &mut usize) -> u8
+pub fn sip_dialog_rseq_len(store: &[u8], used: usize, count: &mut usize) -> u8
     ensures returns { Returns (ran rust_limits len store.now used) store.now used result }
     ensures count_after { count.new ≡ value_after (ran rust_limits len store.now used).answer count.old }
 {
@@ -77,8 +73,7 @@ pub extern "C" fn sip_dialog_rseq_len(store: &[u8], used: usize, count: &mut usi
 }
 
 // RSeqManager::is_empty: 3.
-#[unsafe(no_mangle)]
-pub extern "C" fn sip_dialog_rseq_is_empty(store: &[u8], used: usize, empty: &mut u8) -> u8
+pub fn sip_dialog_rseq_is_empty(store: &[u8], used: usize, empty: &mut u8) -> u8
     ensures returns { Returns (ran rust_limits len store.now used) store.now used result }
     ensures empty_after { empty.new ≡ value_after (emptiness (ran rust_limits len store.now used).answer) empty.old }
 {

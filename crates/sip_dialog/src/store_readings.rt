@@ -14,8 +14,7 @@ use c_answers::{give_held, give_written};
 use c_store_answers::give_place;
 
 // DialogManager::get: 1, 3, 15.
-#[unsafe(no_mangle)]
-pub extern "C" fn sip_dialog_get(
+pub fn sip_dialog_get(
     call_id: &[u8],
     local_tag: &[u8],
     remote_tag: &[u8],
@@ -36,8 +35,7 @@ pub extern "C" fn sip_dialog_get(
 }
 
 // DialogManager::find_by_call_id, the first in the store: 1, 3, 15.
-#[unsafe(no_mangle)]
-pub extern "C" fn sip_dialog_find_by_call_id(
+pub fn sip_dialog_find_by_call_id(
     call_id: &[u8],
     store: &[u8],
     used: usize,
@@ -56,8 +54,7 @@ pub extern "C" fn sip_dialog_find_by_call_id(
 }
 
 // DialogManager::find_by_request: 1, 2, 3, 15.
-#[unsafe(no_mangle)]
-pub extern "C" fn sip_dialog_find_by_request(
+pub fn sip_dialog_find_by_request(
     block: &[u8],
     store: &[u8],
     used: usize,
@@ -76,8 +73,7 @@ pub extern "C" fn sip_dialog_find_by_request(
 }
 
 // DialogManager::count: 3.
-#[unsafe(no_mangle)]
-pub extern "C" fn sip_dialog_count(store: &[u8], used: usize, count: &mut usize) -> u8
+pub fn sip_dialog_count(store: &[u8], used: usize, count: &mut usize) -> u8
     ensures returns { Returns (left_by (λ n. read n counting) store.now used) store.now used result }
     ensures count_after { count.new ≡ number_after (left_by (λ n. read n counting) store.now used).answer count.old }
 {
@@ -85,13 +81,7 @@ pub extern "C" fn sip_dialog_count(store: &[u8], used: usize, count: &mut usize)
 }
 
 // DialogManager::all_ids at the front of the lent bytes: 3, 18.
-#[unsafe(no_mangle)]
-pub extern "C" fn sip_dialog_all_ids(
-    store: &[u8],
-    used: usize,
-    out: &mut [u8],
-    written: &mut usize,
-) -> u8
+pub fn sip_dialog_all_ids(store: &[u8], used: usize, out: &mut [u8], written: &mut usize) -> u8
     ensures returns { Returns (left_by (λ n. read n (all_ids (length out.old))) store.now used) store.now used result }
     ensures out_after { out.new ≡ output_after (left_by (λ n. read n (all_ids (length out.old))) store.now used).answer out.old }
     ensures written_after { written.new ≡ length_after (left_by (λ n. read n (all_ids (length out.old))) store.now used).answer written.old }
@@ -100,8 +90,7 @@ pub extern "C" fn sip_dialog_all_ids(
 }
 
 // The handover listing at the front of the lent bytes: 1, 3, 18.
-#[unsafe(no_mangle)]
-pub extern "C" fn sip_dialog_listing(bytes: &[u8], out: &mut [u8], written: &mut usize) -> u8
+pub fn sip_dialog_listing(bytes: &[u8], out: &mut [u8], written: &mut usize) -> u8
     ensures written_gives { WrittenGives (written_from (listing rust_limits bytes.now (length out.old))) written.old result written.new }
     ensures out_after { out.new ≡ leaves (listing rust_limits bytes.now (length out.old)) out.old }
 {

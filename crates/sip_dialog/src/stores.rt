@@ -11,13 +11,7 @@ use c_image_answers::{give_raised, give_set};
 use c_store_answers::give_counted;
 
 // DialogManager::insert of one record image, and the created count: 3, 16, 17, 18. An image that is lent is made of bytes.
-#[unsafe(no_mangle)]
-pub extern "C" fn sip_dialog_put(
-    image: &[u8],
-    store: &mut [u8],
-    used: &mut usize,
-    created: &mut u64,
-) -> u8
+pub fn sip_dialog_put(image: &[u8], store: &mut [u8], used: &mut usize, created: &mut u64) -> u8
     ensures returns { Returns (left_by (λ n. put n image.now) store.old used.old) store.new used.new result }
     ensures created_after { created.new ≡ count_after (left_by (λ n. put n image.now) store.old used.old).answer created.old }
     ensures all { All (λ b. b < 256) image.now }
@@ -26,21 +20,14 @@ pub extern "C" fn sip_dialog_put(
 }
 
 // The request entry: 1, 2, 3, 15, 4, 9; ACK: 11; others: 10, 11, 12; 18.
-#[unsafe(no_mangle)]
-pub extern "C" fn sip_dialog_request(
-    method: &[u8],
-    block: &[u8],
-    store: &mut [u8],
-    used: &mut usize,
-) -> u8
+pub fn sip_dialog_request(method: &[u8], block: &[u8], store: &mut [u8], used: &mut usize) -> u8
     ensures { Returns (left_by (λ n. update n (request method.now block.now)) store.old used.old) store.new used.new result }
 {
     give_written(store_requests::request(method, block, store, *used), used)
 }
 
 // Dialog::update_from_response of the record of an identifier: 1, 2, 3, 15, 18.
-#[unsafe(no_mangle)]
-pub extern "C" fn sip_dialog_response(
+pub fn sip_dialog_response(
     call_id: &[u8],
     local_tag: &[u8],
     remote_tag: &[u8],
@@ -58,8 +45,7 @@ pub extern "C" fn sip_dialog_response(
 }
 
 // Dialog::terminate of the record of an identifier: 1, 3, 15.
-#[unsafe(no_mangle)]
-pub extern "C" fn sip_dialog_terminate(
+pub fn sip_dialog_terminate(
     call_id: &[u8],
     local_tag: &[u8],
     remote_tag: &[u8],
@@ -75,8 +61,7 @@ pub extern "C" fn sip_dialog_terminate(
 }
 
 // Dialog::next_local_cseq of the record of an identifier: 1, 3, 15, 18.
-#[unsafe(no_mangle)]
-pub extern "C" fn sip_dialog_next_local_cseq(
+pub fn sip_dialog_next_local_cseq(
     call_id: &[u8],
     local_tag: &[u8],
     remote_tag: &[u8],
@@ -95,8 +80,7 @@ pub extern "C" fn sip_dialog_next_local_cseq(
 }
 
 // Dialog::set_session_expires of the record of an identifier: 1, 3, 15, 13 with the least, 14, 18.
-#[unsafe(no_mangle)]
-pub extern "C" fn sip_dialog_set_session_expires(
+pub fn sip_dialog_set_session_expires(
     call_id: &[u8],
     local_tag: &[u8],
     remote_tag: &[u8],
@@ -116,8 +100,7 @@ pub extern "C" fn sip_dialog_set_session_expires(
 }
 
 // DialogManager::remove, and the terminated count: 1, 3, 15.
-#[unsafe(no_mangle)]
-pub extern "C" fn sip_dialog_remove(
+pub fn sip_dialog_remove(
     call_id: &[u8],
     local_tag: &[u8],
     remote_tag: &[u8],
@@ -136,8 +119,7 @@ pub extern "C" fn sip_dialog_remove(
 }
 
 // DialogManager::cleanup_terminated: 3.
-#[unsafe(no_mangle)]
-pub extern "C" fn sip_dialog_sweep(store: &mut [u8], used: &mut usize) -> u8
+pub fn sip_dialog_sweep(store: &mut [u8], used: &mut usize) -> u8
     ensures { Returns (left_by (λ n. sweep n) store.old used.old) store.new used.new result }
 {
     give_written(store_edits::sweep(store, *used), used)

@@ -10,8 +10,7 @@ ghost use Rattle.c_answers.specs.Given.{ValidatedGives, IntervalGives, RoleGives
 use c_answers::{give_interval, give_role, give_validated, seconds_if, time_if};
 
 // An interval in nanoseconds against a minimum: 13 with the least.
-#[unsafe(no_mangle)]
-pub extern "C" fn sip_dialog_validate_session_expires(
+pub fn sip_dialog_validate_session_expires(
     interval: u64,
     has_minimum: bool,
     minimum: u64,
@@ -26,8 +25,7 @@ pub extern "C" fn sip_dialog_validate_session_expires(
 }
 
 // The interval that both sides can accept, in nanoseconds: 13 with the least.
-#[unsafe(no_mangle)]
-pub extern "C" fn sip_dialog_negotiate_session_expires(
+pub fn sip_dialog_negotiate_session_expires(
     requested: u64,
     local_minimum: u64,
     has_remote_minimum: bool,
@@ -37,7 +35,7 @@ pub extern "C" fn sip_dialog_negotiate_session_expires(
     interval: &mut u64,
     least: &mut u64,
 ) -> u8
-    ensures { IntervalGives (interval_from (negotiated requested local_minimum (time_of (optional_time has_remote_minimum remote_minimum)) (time_of (optional_time has_preference preference)))) (record { interval = interval.entry.now; least = least.old }) result (record { interval = interval.exit.now; least = least.new }) }
+    ensures { IntervalGives (interval_from (negotiated requested local_minimum (time_of (optional_time has_remote_minimum remote_minimum)) (time_of (optional_time has_preference preference)))) (record { interval = interval.old; least = least.old }) result (record { interval = interval.new; least = least.new }) }
 {
     give_interval(
         session_timer_manager::negotiate_session_expires(
@@ -52,32 +50,28 @@ pub extern "C" fn sip_dialog_negotiate_session_expires(
 }
 
 // When the side that doesn't refresh gives a session up, in nanoseconds.
-#[unsafe(no_mangle)]
-pub extern "C" fn sip_dialog_non_refresher_expiry(interval: u64) -> u64
+pub fn sip_dialog_non_refresher_expiry(interval: u64) -> u64
     ensures { result ≡ non_refresher_expiry interval }
 {
     session_timer_manager::non_refresher_expiry(interval)
 }
 
 // When a session is refreshed, in nanoseconds.
-#[unsafe(no_mangle)]
-pub extern "C" fn sip_dialog_calculate_refresh_time(interval: u64) -> u64
+pub fn sip_dialog_calculate_refresh_time(interval: u64) -> u64
     ensures { result ≡ refresh_time interval }
 {
     session_timer_manager::calculate_refresh_time(interval)
 }
 
 // Whether a session of so many seconds is to be refreshed after a time in nanoseconds.
-#[unsafe(no_mangle)]
-pub extern "C" fn sip_dialog_needs_refresh(has_interval: bool, seconds: u32, elapsed: u64) -> bool
+pub fn sip_dialog_needs_refresh(has_interval: bool, seconds: u32, elapsed: u64) -> bool
     ensures { result ≡ refresh_due (seconds_of (optional_seconds has_interval seconds)) elapsed }
 {
     session_timer_manager::needs_refresh(seconds_if(has_interval, seconds), elapsed)
 }
 
 // Whether we refresh: 1.
-#[unsafe(no_mangle)]
-pub extern "C" fn sip_dialog_determine_refresher_role(
+pub fn sip_dialog_determine_refresher_role(
     given: bool,
     text: &[u8],
     is_uac: bool,
@@ -92,16 +86,14 @@ pub extern "C" fn sip_dialog_determine_refresher_role(
 }
 
 // The count of created dialogs with one more.
-#[unsafe(no_mangle)]
-pub extern "C" fn sip_dialog_record_created(created: u64) -> u64
+pub fn sip_dialog_record_created(created: u64) -> u64
     ensures { result ≡ counted created }
 {
     metrics::count_one(created)
 }
 
 // The count of terminated dialogs with one more.
-#[unsafe(no_mangle)]
-pub extern "C" fn sip_dialog_record_terminated(terminated: u64) -> u64
+pub fn sip_dialog_record_terminated(terminated: u64) -> u64
     ensures { result ≡ counted terminated }
 {
     metrics::count_one(terminated)

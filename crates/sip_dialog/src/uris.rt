@@ -9,8 +9,7 @@ ghost use Rattle.c_answers.specs.Given.{UriGives, EstimateGives, LookupGives};
 use c_answers::{give_estimate, give_lookup, give_uri};
 
 // The parts of a URI: 1, 6. Without a user part its length is 0 and its place the host's.
-#[unsafe(no_mangle)]
-pub extern "C" fn sip_dialog_sip_uri(
+pub fn sip_dialog_sip_uri(
     text: &[u8],
     secure: &mut u8,
     user: &mut usize,
@@ -20,7 +19,7 @@ pub extern "C" fn sip_dialog_sip_uri(
     has_port: &mut u8,
     port: &mut u16,
 ) -> u8
-    ensures { UriGives (uri_answer (read_uri rust_limits text.now)) (record { secure = secure.entry.now; user = user.old; user_length = user_length.old; host = host.old; host_length = host_length.old; has_port = has_port.old; port = port.old }) result (record { secure = secure.exit.now; user = user.new; user_length = user_length.new; host = host.new; host_length = host_length.new; has_port = has_port.new; port = port.new }) }
+    ensures { UriGives (uri_answer (read_uri rust_limits text.now)) (record { secure = secure.old; user = user.old; user_length = user_length.old; host = host.old; host_length = host_length.old; has_port = has_port.old; port = port.old }) result (record { secure = secure.new; user = user.new; user_length = user_length.new; host = host.new; host_length = host_length.new; has_port = has_port.new; port = port.new }) }
 {
     give_uri(
         uri::sip_uri(text),
@@ -35,22 +34,20 @@ pub extern "C" fn sip_dialog_sip_uri(
 }
 
 // The estimate of a URI: 1, 6, 7.
-#[unsafe(no_mangle)]
-pub extern "C" fn sip_dialog_uri_estimate(text: &[u8], estimate: &mut usize) -> u8
+pub fn sip_dialog_uri_estimate(text: &[u8], estimate: &mut usize) -> u8
     ensures { EstimateGives (estimate_answer (read_estimate rust_limits text.now)) estimate.old result estimate.new }
 {
     give_estimate(uri::uri_estimate(text), estimate)
 }
 
 // The text of the URI in a header value, if it is readable: 1, 2.
-#[unsafe(no_mangle)]
-pub extern "C" fn sip_dialog_parse_uri_from_header(
+pub fn sip_dialog_parse_uri_from_header(
     value: &[u8],
     found: &mut u8,
     place: &mut usize,
     length: &mut usize,
 ) -> u8
-    ensures { LookupGives (lookup_of (uri_from_header rust_limits value.now)) (record { found = found.entry.now; place = place.old; length = length.old }) result (record { found = found.exit.now; place = place.new; length = length.new }) }
+    ensures { LookupGives (lookup_of (uri_from_header rust_limits value.now)) (record { found = found.old; place = place.old; length = length.old }) result (record { found = found.new; place = place.new; length = length.new }) }
 {
     give_lookup(uri::parse_uri_from_header(value), found, place, length)
 }

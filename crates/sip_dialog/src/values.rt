@@ -10,8 +10,7 @@ ghost use Rattle.c_answers.specs.Given.{NextGives, LookupGives, CountGives, Expi
 use c_answers::{give_count, give_expires, give_lookup, give_next};
 
 // The next element of a value from a place on: 1, 2.
-#[unsafe(no_mangle)]
-pub extern "C" fn sip_dialog_next_header_value(
+pub fn sip_dialog_next_header_value(
     value: &[u8],
     from: usize,
     found: &mut u8,
@@ -19,7 +18,7 @@ pub extern "C" fn sip_dialog_next_header_value(
     length: &mut usize,
     next: &mut usize,
 ) -> u8
-    ensures { NextGives (next_of (next_header_value rust_limits value.now from)) (record { found = found.entry.now; place = place.old; length = length.old; next = next.old }) result (record { found = found.exit.now; place = place.new; length = length.new; next = next.new }) }
+    ensures { NextGives (next_of (next_header_value rust_limits value.now from)) (record { found = found.old; place = place.old; length = length.old; next = next.old }) result (record { found = found.new; place = place.new; length = length.new; next = next.new }) }
 {
     give_next(
         route_set::next_header_value(value, from),
@@ -31,29 +30,21 @@ pub extern "C" fn sip_dialog_next_header_value(
 }
 
 // The text of the URI of the first Contact line, if it is readable: 1, 2.
-#[unsafe(no_mangle)]
-pub extern "C" fn sip_dialog_contact(
-    block: &[u8],
-    found: &mut u8,
-    place: &mut usize,
-    length: &mut usize,
-) -> u8
-    ensures { LookupGives (lookup_of (contact rust_limits block.now)) (record { found = found.entry.now; place = place.old; length = length.old }) result (record { found = found.exit.now; place = place.new; length = length.new }) }
+pub fn sip_dialog_contact(block: &[u8], found: &mut u8, place: &mut usize, length: &mut usize) -> u8
+    ensures { LookupGives (lookup_of (contact rust_limits block.now)) (record { found = found.old; place = place.old; length = length.old }) result (record { found = found.new; place = place.new; length = length.new }) }
 {
     give_lookup(route_set::read_contact(block), found, place, length)
 }
 
 // How many routes the Record-Route lines give: 1, 2, then 7 or 8.
-#[unsafe(no_mangle)]
-pub extern "C" fn sip_dialog_route_count(block: &[u8], count: &mut usize) -> u8
+pub fn sip_dialog_route_count(block: &[u8], count: &mut usize) -> u8
     ensures { CountGives (count_of (route_count rust_limits block.now)) count.old result count.new }
 {
     give_count(route_set::route_count(block), count)
 }
 
 // The text of the route at an index, as received or reversed: 1, 2, then 7 or 8.
-#[unsafe(no_mangle)]
-pub extern "C" fn sip_dialog_route(
+pub fn sip_dialog_route(
     block: &[u8],
     reversed: bool,
     index: usize,
@@ -61,7 +52,7 @@ pub extern "C" fn sip_dialog_route(
     place: &mut usize,
     length: &mut usize,
 ) -> u8
-    ensures { LookupGives (lookup_of (route_at rust_limits reversed block.now index)) (record { found = found.entry.now; place = place.old; length = length.old }) result (record { found = found.exit.now; place = place.new; length = length.new }) }
+    ensures { LookupGives (lookup_of (route_at rust_limits reversed block.now index)) (record { found = found.old; place = place.old; length = length.old }) result (record { found = found.new; place = place.new; length = length.new }) }
 {
     give_lookup(
         route_set::route(block, reversed, index),
@@ -72,14 +63,13 @@ pub extern "C" fn sip_dialog_route(
 }
 
 // The interval of a Session-Expires value: 1, 2.
-#[unsafe(no_mangle)]
-pub extern "C" fn sip_dialog_parse_session_expires(
+pub fn sip_dialog_parse_session_expires(
     value: &[u8],
     found: &mut u8,
     seconds: &mut u32,
     refresher: &mut u8,
 ) -> u8
-    ensures { ExpiresGives (expires_answer (parse_expires rust_limits value.now)) (record { found = found.entry.now; seconds = seconds.old; refresher = refresher.old }) result (record { found = found.exit.now; seconds = seconds.new; refresher = refresher.new }) }
+    ensures { ExpiresGives (expires_answer (parse_expires rust_limits value.now)) (record { found = found.old; seconds = seconds.old; refresher = refresher.old }) result (record { found = found.new; seconds = seconds.new; refresher = refresher.new }) }
 {
     give_expires(
         headers::parse_session_expires(value),
@@ -90,14 +80,13 @@ pub extern "C" fn sip_dialog_parse_session_expires(
 }
 
 // The interval of a block's first Session-Expires line: 1, 2.
-#[unsafe(no_mangle)]
-pub extern "C" fn sip_dialog_session_expires(
+pub fn sip_dialog_session_expires(
     block: &[u8],
     found: &mut u8,
     seconds: &mut u32,
     refresher: &mut u8,
 ) -> u8
-    ensures { ExpiresGives (expires_answer (block_expires rust_limits block.now)) (record { found = found.entry.now; seconds = seconds.old; refresher = refresher.old }) result (record { found = found.exit.now; seconds = seconds.new; refresher = refresher.new }) }
+    ensures { ExpiresGives (expires_answer (block_expires rust_limits block.now)) (record { found = found.old; seconds = seconds.old; refresher = refresher.old }) result (record { found = found.new; seconds = seconds.new; refresher = refresher.new }) }
 {
     give_expires(headers::session_expires(block), found, seconds, refresher)
 }

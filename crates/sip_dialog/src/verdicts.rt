@@ -9,13 +9,7 @@ use c_answers::give_written;
 use c_minute_answers::give_worst;
 
 // A verdict at the end of the run: 3, 18.
-#[unsafe(no_mangle)]
-pub extern "C" fn sip_dialog_add_verdict(
-    time: u64,
-    number: u8,
-    run: &mut [u8],
-    used: &mut usize,
-) -> u8
+pub fn sip_dialog_add_verdict(time: u64, number: u8, run: &mut [u8], used: &mut usize) -> u8
     ensures written_gives { WrittenGives (written_from (added (record { time = time; number = number }) run.old used.old)) used.old result used.new }
     ensures run_after { run.new ≡ leaves (added (record { time = time; number = number }) run.old used.old) run.old }
     ensures time_bound { time < 18446744073709551616 }
@@ -24,15 +18,14 @@ pub extern "C" fn sip_dialog_add_verdict(
 }
 
 // The most refusals in 60 s that start at a verdict, and the earliest start that has them: 3.
-#[unsafe(no_mangle)]
-pub extern "C" fn sip_dialog_worst_minute(
+pub fn sip_dialog_worst_minute(
     run: &[u8],
     used: usize,
     refusals: &mut usize,
     found: &mut u8,
     start: &mut u64,
 ) -> u8
-    ensures { MinuteGives (worst_in run.now used) (record { refusals = refusals.entry.now; found = found.old; start = start.old }) result (record { refusals = refusals.exit.now; found = found.new; start = start.new }) }
+    ensures { MinuteGives (worst_in run.now used) (record { refusals = refusals.old; found = found.old; start = start.old }) result (record { refusals = refusals.new; found = found.new; start = start.new }) }
 {
     give_worst(
         worst_minute::worst_minute(run, used),

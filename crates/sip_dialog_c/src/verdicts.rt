@@ -1,0 +1,36 @@
+// A run of request verdicts in lent bytes, given with how many of them are used, and its worst minute.
+// Made by `tools/face write` from crates/sip_dialog/src, not by hand.
+ghost use Rattle.std.specs.Prelude.{◌≡◌, ◌<◌};
+ghost use Rattle.output.specs.Output.{leaves, written_from};
+ghost use Rattle.worst_minute.specs.Calls.{added, worst_in};
+ghost use Rattle.c_answers.specs.Given.{WrittenGives};
+ghost use Rattle.c_minute_answers.specs.Given.{MinuteGives};
+
+// A verdict at the end of the run: 3, 18.
+#[unsafe(no_mangle)]
+pub extern "C" fn sip_dialog_add_verdict(
+    time: u64,
+    number: u8,
+    run: &mut [u8],
+    used: &mut usize,
+) -> u8
+    ensures written_gives { WrittenGives (written_from (added (record { time = time; number = number }) run.old used.old)) used.old result used.new }
+    ensures run_after { run.new ≡ leaves (added (record { time = time; number = number }) run.old used.old) run.old }
+    ensures time_bound { time < 18446744073709551616 }
+{
+    sip_dialog::verdicts::sip_dialog_add_verdict(time, number, run, used)
+}
+
+// The most refusals in 60 s that start at a verdict, and the earliest start that has them: 3.
+#[unsafe(no_mangle)]
+pub extern "C" fn sip_dialog_worst_minute(
+    run: &[u8],
+    used: usize,
+    refusals: &mut usize,
+    found: &mut u8,
+    start: &mut u64,
+) -> u8
+    ensures { MinuteGives (worst_in run.now used) (record { refusals = refusals.old; found = found.old; start = start.old }) result (record { refusals = refusals.new; found = found.new; start = start.new }) }
+{
+    sip_dialog::verdicts::sip_dialog_worst_minute(run, used, refusals, found, start)
+}
