@@ -50,9 +50,14 @@ pub fn print(rt: &(impl Print + Eprint + AllocGlobal), text: &[u8]) -> io::Resul
 // A line on standard error: what failed, and why, as the system words it.
 pub fn report(rt: &(impl Eprint + AllocGlobal), what: &str, error: io::Error) -> io::Result<()> {
     let text = error.to_string(rt.alloc())?;
-    let why = match text.split_once(" (os error ") {
-        Some((words, _number)) => words,
-        None => text.as_str(),
-    };
+    let why = words(text.as_str());
     eprintln!(rt; "{what}: {why}")
+}
+
+// What the system says, without the error's number.
+fn words(text: &str) -> &str {
+    match text.split_once(" (os error ") {
+        Some((words, _number)) => words,
+        None => text,
+    }
 }

@@ -23,15 +23,20 @@ fn list_file(rt: &(impl Files + Print + Eprint + AllocGlobal), path: &str) -> io
         Ok(file) => {
             print(rt, path.as_bytes())?;
             print(rt, b"\n")?;
-            list_opened(rt, file)
+            list_opened(rt, path, file)
         }
         Err(error) => report(rt, path, error),
     }
 }
 
-// An open file.
-fn list_opened(rt: &(impl Print + Eprint + AllocGlobal), file: impl Read + Drop) -> io::Result<()> {
+fn list_opened(
+    rt: &(impl Print + Eprint + AllocGlobal),
+    path: &str,
+    file: impl Read + Drop,
+) -> io::Result<()> {
     let mut store = Vec::new(rt.alloc());
-    file.take(MOST).read_to_end(&mut store)?;
-    print_listing(rt, store.as_slice())
+    match file.take(MOST).read_to_end(&mut store) {
+        Ok(_) => print_listing(rt, store.as_slice()),
+        Err(error) => report(rt, path, error),
+    }
 }
