@@ -47,8 +47,11 @@ pub fn print(rt: &(impl Print + Eprint + AllocGlobal), text: &[u8]) -> io::Resul
     }
 }
 
-// A line on standard error: what failed, and why, as the system words it.
+// A line on standard error: what failed, and why, as the system words it. An error that isn't the system's, as of memory, is handed back.
 pub fn report(rt: &(impl Eprint + AllocGlobal), what: &str, error: io::Error) -> io::Result<()> {
+    if error.raw_os_error().is_none() {
+        return Err(error);
+    }
     let text = error.to_string(rt.alloc())?;
     let why = words(text.as_str());
     eprintln!(rt; "{what}: {why}")
