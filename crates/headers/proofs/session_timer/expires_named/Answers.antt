@@ -1,0 +1,27 @@
+-- `headers::expires_named` meets its contract: the value that the look-up found. Assumes nothing.
+use mathlib.Core.Path.{sym, ap, ◌∙◌}
+use Rattle.msg.specs.Block.{first_named, lines_of}
+use Rattle.msg.proofs.LookupLaws.{Says, found_at, said_fits, no_line}
+use Rattle.headers.specs.SessionExpires.{expires_name, expires_named, expires_from}
+use Rattle.headers.proofs.ExpiresLaws.{interval_in_lem}
+use native.Mathlib.Omega.{arith}
+use Rattle.headers.proofs.session_timer.expires_named.Goals as goal
+use Rattle.headers.proofs.session_timer.expires_named.Goals.{In-At}
+
+-- what the look-up said of the block
+found : (c : In-At) → Says c.args.block.now (first_named expires_name (lines_of c.args.block.now)) c.in-At.v c.in-At.field-1
+found c = found_at c.args.block.now expires_name 0 _ _ (omega arith) (sym c.find.ensures ∙ c.in-At.is)
+
+pub returns-in_default : goal.returns-in_default
+unfolding expires_named
+returns-in_default c = rw (no_line (first_named expires_name (lines_of c.args.block.now)) (sym c.find.ensures ∙ c.in_default.is))
+
+pub overflow_add-e : goal.overflow_add-e
+overflow_add-e c = omega (arith, said_fits _ _ _ _ (found (goal.at.overflow_add-e c).In-At))
+
+pub slice_bounds-read_expires-end : goal.slice_bounds-read_expires-end
+slice_bounds-read_expires-end c = omega (arith, said_fits _ _ _ _ (found (goal.at.slice_bounds-read_expires-end c).In-At))
+
+pub returns : goal.returns
+unfolding expires_named
+returns c = c.read_expires.ensures ∙ ap expires_from (sym (interval_in_lem _ _ _ _ (found (goal.at.returns c).In-At)))
