@@ -8,16 +8,16 @@ ghost use Rattle.output.specs.Output.{written_from};
 ghost use Rattle.output.specs.declared.Written.TheVariants.{Refused};
 ghost use Rattle.listing_lines.specs.Listing.{listing};
 
-use libc::STDOUT_FILENO;
 use limits::Refusal;
 use output::Written;
+use std::io;
 
 // A line for each record of a store and their number, or `refused` and its number.
-pub fn print_listing(store: &[u8]) {
+pub fn print_listing(rt: &(impl Print + Eprint + AllocGlobal), store: &[u8]) -> io::Result<()> {
     let mut text = [0u8; 131072];
     match list_any(store, &mut text) {
-        Written::Length(n) => print(&text[..n]),
-        Written::Refused(cause) => print_refused(cause),
+        Written::Length(n) => print(rt, &text[..n]),
+        Written::Refused(cause) => print_refused(rt, cause),
     }
 }
 
@@ -31,17 +31,36 @@ fn list_any(store: &[u8], out: &mut [u8]) -> Written
 }
 
 // `refused` and the number, which isn't 18.
-fn print_refused(cause: Refusal)
+fn print_refused(rt: &(impl Print + Eprint + AllocGlobal), cause: Refusal) -> io::Result<()>
     requires { cause ≢ NoRoom }
 {
     let mut text = [0u8; 192];
     let n = listing_text::write_refused(&mut text, cause);
-    print(&text[..n]);
+    print(rt, &text[..n])
 }
 
-// A text as it is.
-pub fn print(text: &[u8]) {
-    if !io::write_all(STDOUT_FILENO, text) {
-        os::fail(b"standard output");
+// A text as it is. Where it can't be written, standard error says so.
+pub fn print(rt: &(impl Print + Eprint + AllocGlobal), text: &[u8]) -> io::Result<()> {
+    match rt.write_all(text) {
+        Ok(()) => Ok(()),
+        Err(error) => report(rt, "standard output", error),
+    }
+}
+
+// A line on standard error: what failed, and why, as the system words it. An error that isn't the system's, as of memory, is handed back.
+pub fn report(rt: &(impl Eprint + AllocGlobal), what: &str, error: io::Error) -> io::Result<()> {
+    if error.raw_os_error().is_none() {
+        return Err(error);
+    }
+    let text = error.to_string(rt.alloc())?;
+    let why = words(text.as_str());
+    eprintln!(rt; "{what}: {why}")
+}
+
+// What the system says, without the error's number.
+fn words(text: &str) -> &str {
+    match text.split_once(" (os error ") {
+        Some((words, _number)) => words,
+        None => text,
     }
 }

@@ -2,35 +2,41 @@
 // The stores and what is to be printed are made by tests/stores.py.
 #![tactic(auto)]
 
-use listing_output::{print, print_listing};
+use listing_output::{print, print_listing, report};
+use std::io::Read;
+use std::rt::Files;
+use std::{env, fs, io};
 
-fn main() {
-    let count = os::arg_count();
-    let mut i = 1;
-    while i < count {
-        list_file(i);
-        i += 1;
+// One byte more than a listed store may have, as in `listing`.
+const MOST: u64 = 65537;
+
+fn main(rt: HostRuntime) -> io::Result<()> {
+    for path in env::args(&rt)?.skip(1) {
+        list_file(&rt, path.as_str())?;
+    }
+    Ok(())
+}
+
+// The file at a path.
+fn list_file(rt: &(impl Files + Print + Eprint + AllocGlobal), path: &str) -> io::Result<()> {
+    match fs::open(rt, path) {
+        Ok(file) => {
+            print(rt, path.as_bytes())?;
+            print(rt, b"\n")?;
+            list_opened(rt, path, file)
+        }
+        Err(error) => report(rt, path, error),
     }
 }
 
-// The file that argument i names.
-fn list_file(i: usize) {
-    let mut path = io::buffer();
-    let n = os::arg(i, &mut path);
-    let fd = os::open_read(&path[..n]);
-    if fd < 0 {
-        os::fail(&path[..n]);
-        return;
+fn list_opened(
+    rt: &(impl Print + Eprint + AllocGlobal),
+    path: &str,
+    file: impl Read + Drop,
+) -> io::Result<()> {
+    let mut store = Vec::new(rt.alloc());
+    match file.take(MOST).read_to_end(&mut store) {
+        Ok(_) => print_listing(rt, store.as_slice()),
+        Err(error) => report(rt, path, error),
     }
-    print(&path[..n]);
-    print(b"\n");
-    list_descriptor(fd);
-    libc::close(fd);
-}
-
-fn list_descriptor(fd: i32) {
-    // One byte more than a listed store may have, as in `listing`.
-    let mut store = [0u8; 65537];
-    let n = io::read_full(fd, &mut store);
-    print_listing(&store[..n]);
 }

@@ -55,7 +55,7 @@ fn replay_call(
     if 65536 < out_lent {
         return Outcome::Unreadable;
     }
-    let mut out = io::large_buffer();
+    let mut out = [0u8; 65536];
     let mut o = [0u64; 8];
     fill_outs(shape, items, equals, &mut o);
     copy_at(text(bytes, items, place_of(shape, 111)), &mut out, 0);

@@ -1,29 +1,33 @@
 // The counts, and what is printed of them. For the row r: how many calls at r, how many of them differ at 84 + r, the first one's line at 168 + r; at 252 how many lines
 // can't be read.
 use crate::Outcome;
-use libc::STDOUT_FILENO;
 use replay_lines::{find_row, part, word};
+use std::io;
 
 // Counts what became of a line; how many bytes the memory then has.
-pub fn take(outcome: Outcome, line: usize, tallies: &mut [u64; 253], size: usize) -> usize {
+pub fn take(
+    rt: &impl Print,
+    outcome: Outcome,
+    line: usize,
+    tallies: &mut [u64; 253],
+    size: usize,
+) -> io::Result<usize> {
     match outcome {
-        Outcome::Passed => size,
-        Outcome::Memory(n) => n,
+        Outcome::Passed => Ok(size),
+        Outcome::Memory(n) => Ok(n),
         Outcome::Same(row) => {
             add(tallies, row);
-            size
+            Ok(size)
         }
         Outcome::Differs(row) => {
             add(tallies, row);
             add_differing(tallies, row, line);
-            size
+            Ok(size)
         }
         Outcome::Unreadable => {
-            show(b"line ");
-            show_decimal(line as u64);
-            show(b" can't be read\n");
+            println!(rt; "line {line} can't be read")?;
             add(tallies, 252);
-            size
+            Ok(size)
         }
     }
 }
@@ -46,42 +50,32 @@ fn add_differing(tallies: &mut [u64; 253], row: usize, line: usize) {
 }
 
 // A line for each operation, and the verdict.
-pub fn report(rows: &[u8], tallies: &[u64; 253]) {
+pub fn report(rt: &impl Print, rows: &[u8], tallies: &[u64; 253]) -> io::Result<()> {
     let mut row = 0;
     while row < 84 {
         let at = find_row(rows, b"", row).name;
-        show(part(rows, at, word(rows, at)));
-        show(b": ");
-        show_decimal(tallies[row]);
-        show(b" calls");
-        show_differing(tallies[84 + row], tallies[168 + row]);
+        show(rt, part(rows, at, word(rows, at)))?;
+        print!(rt; ": {} calls", tallies[row])?;
+        show_differing(rt, tallies[84 + row], tallies[168 + row])?;
         row += 1;
     }
     let differ = total(tallies, 84);
-    show_decimal(total(tallies, 0));
+    show_decimal(rt, total(tallies, 0))?;
     if differ == 0 && tallies[252] == 0 {
-        show(b" calls, all as recorded\n");
-        return;
+        return show(rt, b" calls, all as recorded\n");
     }
-    show(b" calls, ");
-    show_decimal(differ);
-    show(b" differ");
+    print!(rt; " calls, {differ} differ")?;
     if tallies[252] != 0 {
-        show(b", ");
-        show_decimal(tallies[252]);
-        show(b" lines can't be read");
+        print!(rt; ", {} lines can't be read", tallies[252])?;
     }
-    show(b"\n");
+    show(rt, b"\n")
 }
 
-fn show_differing(differ: u64, line: u64) {
+fn show_differing(rt: &impl Print, differ: u64, line: u64) -> io::Result<()> {
     if differ != 0 {
-        show(b", ");
-        show_decimal(differ);
-        show(b" differ, the first in line ");
-        show_decimal(line);
+        print!(rt; ", {differ} differ, the first in line {line}")?;
     }
-    show(b"\n");
+    show(rt, b"\n")
 }
 
 // The sum of 84 counts.
@@ -104,10 +98,10 @@ fn tally(tallies: &[u64; 253], from: usize, i: usize) -> u64 {
     0
 }
 
-pub fn show(s: &[u8]) {
-    io::write_all(STDOUT_FILENO, s);
+pub fn show(rt: &impl Print, s: &[u8]) -> io::Result<()> {
+    rt.write_all(s)
 }
 
-fn show_decimal(n: u64) {
-    io::print_decimal(STDOUT_FILENO, n);
+fn show_decimal(rt: &impl Print, n: u64) -> io::Result<()> {
+    rt.print(n)
 }

@@ -11,12 +11,14 @@ mod sizes;
 mod statuses;
 mod tags;
 
-fn main() {
-    numbers::numbers();
-    sizes::sizes();
-    blocks::blocks();
-    statuses::statuses();
-    tags::tags();
-    identifiers::identifiers();
-    flows::flows();
+use std::io;
+
+fn main(rt: HostRuntime) -> io::Result<()> {
+    numbers::numbers(&rt)?;
+    sizes::sizes(&rt)?;
+    blocks::blocks(&rt)?;
+    statuses::statuses(&rt)?;
+    tags::tags(&rt)?;
+    identifiers::identifiers(&rt)?;
+    flows::flows(&rt)
 }

@@ -1,41 +1,42 @@
 // Numbers as Rust reads a u32, and the number and method of CSeq.
 use sheet_lines::{ask, ask_block, end_line, show, show_method, show_number, show_sequence};
+use std::io;
 
-pub fn numbers() {
+pub fn numbers(rt: &impl Print) -> io::Result<()> {
     let sheet: &[u8] = b"01 sheet P";
     let cseq_rule: &[u8] = b"01 CSeq";
     let after_8_1_1_5: &[u8] = b"RFC 3261 after 8.1.1.5";
     let after_20_16: &[u8] = b"RFC 3261 after 20.16";
-    cseq(sheet, b"CSeq: +5 INVITE\r\n");
-    cseq(sheet, b"CSeq: -0 INVITE\r\n");
-    number(cseq_rule, b"+5");
-    number(cseq_rule, b"-0");
-    number(cseq_rule, b"++5");
-    number(cseq_rule, b"+");
-    number(cseq_rule, b"0000000000007");
-    number(cseq_rule, b"4294967295");
-    number(cseq_rule, b"4294967296");
-    cseq(b"RFC 3261 8.1.1.5", b"CSeq: 4711 INVITE\r\n");
-    cseq(b"RFC 3261 20.16", b"CSeq: 4711 INVITE\r\n");
-    cseq(after_8_1_1_5, b"CSeq: 2147483647 INVITE\r\n");
-    cseq(after_8_1_1_5, b"CSeq: 4294967295 INVITE\r\n");
-    cseq(after_8_1_1_5, b"CSeq: 4294967296 INVITE\r\n");
-    cseq(after_20_16, b"CSeq: 4711 invite\r\n");
-    cseq(after_20_16, b"CSeq: 4711 EXAMPLE\r\n");
-    cseq(after_20_16, b"CSeq: 4711\r\n");
-    cseq(after_20_16, b"Subject: no CSeq\r\n");
+    cseq(rt, sheet, b"CSeq: +5 INVITE\r\n")?;
+    cseq(rt, sheet, b"CSeq: -0 INVITE\r\n")?;
+    number(rt, cseq_rule, b"+5")?;
+    number(rt, cseq_rule, b"-0")?;
+    number(rt, cseq_rule, b"++5")?;
+    number(rt, cseq_rule, b"+")?;
+    number(rt, cseq_rule, b"0000000000007")?;
+    number(rt, cseq_rule, b"4294967295")?;
+    number(rt, cseq_rule, b"4294967296")?;
+    cseq(rt, b"RFC 3261 8.1.1.5", b"CSeq: 4711 INVITE\r\n")?;
+    cseq(rt, b"RFC 3261 20.16", b"CSeq: 4711 INVITE\r\n")?;
+    cseq(rt, after_8_1_1_5, b"CSeq: 2147483647 INVITE\r\n")?;
+    cseq(rt, after_8_1_1_5, b"CSeq: 4294967295 INVITE\r\n")?;
+    cseq(rt, after_8_1_1_5, b"CSeq: 4294967296 INVITE\r\n")?;
+    cseq(rt, after_20_16, b"CSeq: 4711 invite\r\n")?;
+    cseq(rt, after_20_16, b"CSeq: 4711 EXAMPLE\r\n")?;
+    cseq(rt, after_20_16, b"CSeq: 4711\r\n")?;
+    cseq(rt, after_20_16, b"Subject: no CSeq\r\n")
 }
 
-fn number(place: &[u8], s: &[u8]) {
-    ask(place, b"number ", s);
-    show_number(text::read_u32(s));
-    end_line();
+fn number(rt: &impl Print, place: &[u8], s: &[u8]) -> io::Result<()> {
+    ask(rt, place, b"number ", s)?;
+    show_number(rt, text::read_u32(s))?;
+    end_line(rt)
 }
 
-fn cseq(place: &[u8], block: &[u8]) {
-    ask_block(place, b"CSeq", block);
-    show_sequence(prack_headers::extract_cseq_number(block));
-    show(b", method ");
-    show_method(prack_headers::extract_cseq_method(block));
-    end_line();
+fn cseq(rt: &impl Print, place: &[u8], block: &[u8]) -> io::Result<()> {
+    ask_block(rt, place, b"CSeq", block)?;
+    show_sequence(rt, prack_headers::extract_cseq_number(block))?;
+    show(rt, b", method ")?;
+    show_method(rt, prack_headers::extract_cseq_method(block))?;
+    end_line(rt)
 }

@@ -3,93 +3,94 @@ use headers::PartAnswer;
 use sheet_lines::{
     ask_size, end_line, first, put, show, show_check, show_expires, show_refusal, show_size,
 };
+use std::io;
 use text::Lookup;
 use uri::UriAnswer;
 
-pub fn sizes() {
+pub fn sizes(rt: &impl Print) -> io::Result<()> {
     let mut block = [b'a'; 8193];
     put(&mut block, 1, b':');
     put(&mut block, 8190, b'\r');
     put(&mut block, 8191, b'\n');
-    block_of(first(&block, 8192));
-    block_of(&block);
-    tags();
-    uris();
-    intervals();
+    block_of(rt, first(&block, 8192))?;
+    block_of(rt, &block)?;
+    tags(rt)?;
+    uris(rt)?;
+    intervals(rt)
 }
 
-fn tags() {
+fn tags(rt: &impl Print) -> io::Result<()> {
     let mut value = [b'a'; 8193];
     put(&mut value, 0, b't');
     put(&mut value, 2, b'g');
     put(&mut value, 3, b'=');
-    tag_of(first(&value, 8192));
-    tag_of(&value);
+    tag_of(rt, first(&value, 8192))?;
+    tag_of(rt, &value)
 }
 
-fn uris() {
+fn uris(rt: &impl Print) -> io::Result<()> {
     let mut uri = [b'a'; 8193];
     put(&mut uri, 0, b's');
     put(&mut uri, 1, b'i');
     put(&mut uri, 2, b'p');
     put(&mut uri, 3, b':');
-    uri_of(first(&uri, 8192));
-    uri_of(&uri);
+    uri_of(rt, first(&uri, 8192))?;
+    uri_of(rt, &uri)
 }
 
-fn intervals() {
+fn intervals(rt: &impl Print) -> io::Result<()> {
     let zeros = [b'0'; 8193];
-    expires_of(first(&zeros, 8192));
-    expires_of(&zeros);
+    expires_of(rt, first(&zeros, 8192))?;
+    expires_of(rt, &zeros)
 }
 
-fn block_of(block: &[u8]) {
-    ask_size(b"01 sheet", b"block", block);
-    show_check(msg::check_block(block));
-    end_line();
-    ask_size(b"01 sheet", b"value in a block", block);
+fn block_of(rt: &impl Print, block: &[u8]) -> io::Result<()> {
+    ask_size(rt, b"01 sheet", b"block", block)?;
+    show_check(rt, msg::check_block(block))?;
+    end_line(rt)?;
+    ask_size(rt, b"01 sheet", b"value in a block", block)?;
     match msg::header(block, b"a") {
         Lookup::At(part) => {
-            show_size(part);
+            show_size(rt, part)?;
         }
         Lookup::Nothing => {
-            show(b"nothing");
+            show(rt, b"nothing")?;
         }
         Lookup::Refused(x) => {
-            show_refusal(x);
+            show_refusal(rt, x)?;
         }
     }
-    end_line();
+    end_line(rt)
 }
 
-fn tag_of(value: &[u8]) {
-    ask_size(b"01 sheet", b"tag in a value", value);
+fn tag_of(rt: &impl Print, value: &[u8]) -> io::Result<()> {
+    ask_size(rt, b"01 sheet", b"tag in a value", value)?;
     match headers::extract_tag(value) {
         PartAnswer::At(part) => {
-            show_size(part);
+            show_size(rt, part)?;
         }
         PartAnswer::Refused(x) => {
-            show_refusal(x);
+            show_refusal(rt, x)?;
         }
     }
-    end_line();
+    end_line(rt)
 }
 
-fn uri_of(s: &[u8]) {
-    ask_size(b"01 sheet", b"host in a URI", s);
+fn uri_of(rt: &impl Print, s: &[u8]) -> io::Result<()> {
+    ask_size(rt, b"01 sheet", b"host in a URI", s)?;
     match uri::sip_uri(s) {
         UriAnswer::Read(parts) => {
-            show_size(parts.host);
+            show_size(rt, parts.host)?;
         }
         UriAnswer::Refused(x) => {
-            show_refusal(x);
+            show_refusal(rt, x)?;
         }
     }
-    end_line();
+    end_line(rt)
 }
 
-fn expires_of(value: &[u8]) {
-    ask_size(b"01 sheet", b"Session-Expires", value);
-    show_expires(headers::parse_session_expires(value));
-    end_line();
+fn expires_of(rt: &impl Print, value: &[u8]) -> io::Result<()> {
+    ask_size(rt, b"01 sheet", b"Session-Expires", value)?;
+    show_expires(rt, headers::parse_session_expires(value))?;
+    end_line(rt)
 }

@@ -1,56 +1,51 @@
 // The classes of a response's status code.
 use sheet_lines::{ask_number, end_line, show};
+use std::io;
 
-pub fn statuses() {
+pub fn statuses(rt: &impl Print) -> io::Result<()> {
     let after_7_2: &[u8] = b"RFC 3261 after 7.2";
-    class(after_7_2, 99);
-    class(b"RFC 3261 21.1.1", 100);
-    class(b"RFC 3261 21.1.2", 180);
-    class(after_7_2, 199);
-    class(b"RFC 3261 21.2.1", 200);
-    class(after_7_2, 299);
-    class(b"RFC 3261 21.3.3", 302);
-    class(b"RFC 3261 21.4.5", 404);
-    class(b"RFC 4028 6", 422);
-    class(b"RFC 3261 21.5.4", 503);
-    class(b"RFC 3261 21.6.1", 600);
-    class(after_7_2, 699);
-    class(after_7_2, 700);
+    class(rt, after_7_2, 99)?;
+    class(rt, b"RFC 3261 21.1.1", 100)?;
+    class(rt, b"RFC 3261 21.1.2", 180)?;
+    class(rt, after_7_2, 199)?;
+    class(rt, b"RFC 3261 21.2.1", 200)?;
+    class(rt, after_7_2, 299)?;
+    class(rt, b"RFC 3261 21.3.3", 302)?;
+    class(rt, b"RFC 3261 21.4.5", 404)?;
+    class(rt, b"RFC 4028 6", 422)?;
+    class(rt, b"RFC 3261 21.5.4", 503)?;
+    class(rt, b"RFC 3261 21.6.1", 600)?;
+    class(rt, after_7_2, 699)?;
+    class(rt, after_7_2, 700)
 }
 
-fn class(place: &[u8], code: u16) {
-    ask_number(place, b"class of ", code as u64);
-    show_class(code);
+fn class(rt: &impl Print, place: &[u8], code: u16) -> io::Result<()> {
+    ask_number(rt, place, b"class of ", code as u64)?;
+    show_class(rt, code)?;
     if msg::is_error(code) {
-        show(b", error");
+        show(rt, b", error")?;
     }
-    end_line();
+    end_line(rt)
 }
 
-fn show_class(code: u16) {
+fn show_class(rt: &impl Print, code: u16) -> io::Result<()> {
     if msg::is_informational(code) {
-        show(b"informational");
-        return;
+        return show(rt, b"informational");
     }
     if msg::is_success(code) {
-        show(b"success");
-        return;
+        return show(rt, b"success");
     }
     if msg::is_redirection(code) {
-        show(b"redirection");
-        return;
+        return show(rt, b"redirection");
     }
     if msg::is_client_error(code) {
-        show(b"client error");
-        return;
+        return show(rt, b"client error");
     }
     if msg::is_server_error(code) {
-        show(b"server error");
-        return;
+        return show(rt, b"server error");
     }
     if msg::is_global_failure(code) {
-        show(b"global failure");
-        return;
+        return show(rt, b"global failure");
     }
-    show(b"none");
+    show(rt, b"none")
 }

@@ -1,19 +1,33 @@
 // Early records and the 2xx that confirms them, and the ACK to it.
 use crate::calls::{confirm, request, response, uac, uas};
+use std::io;
 
-pub fn confirmation<'a>(invite: &'a [u8], answer: &'a [u8], caller: &'a [u8], callee: &'a [u8]) {
+pub fn confirmation<'a>(
+    rt: &impl Print,
+    invite: &'a [u8],
+    answer: &'a [u8],
+    caller: &'a [u8],
+    callee: &'a [u8],
+) -> io::Result<()> {
     let routes: &[u8] =
         b"Contact: <sip:callee@u2.domain.com>\r\nRecord-Route: <sip:p2.domain.com;lr>, <sip:p1.example.com;lr>\r\n";
-    late_routes(invite, routes, caller, callee);
-    early_routes(invite, answer, caller, callee);
-    acknowledged(invite, answer, caller, callee);
-    answered(invite, answer, routes, caller, callee);
+    late_routes(rt, invite, routes, caller, callee)?;
+    early_routes(rt, invite, answer, caller, callee)?;
+    acknowledged(rt, invite, answer, caller, callee)?;
+    answered(rt, invite, answer, routes, caller, callee)
 }
 
 // The routes come with the 2xx.
-fn late_routes<'a>(invite: &'a [u8], routes: &'a [u8], caller: &'a [u8], callee: &'a [u8]) {
+fn late_routes<'a>(
+    rt: &impl Print,
+    invite: &'a [u8],
+    routes: &'a [u8],
+    caller: &'a [u8],
+    callee: &'a [u8],
+) -> io::Result<()> {
     let mut bytes = [0u8; 512];
     let n = uac(
+        rt,
         b"RFC 3261 after 12.1.2",
         b"INVITE 4711 and 180 without Contact and Record-Route",
         invite,
@@ -22,15 +36,23 @@ fn late_routes<'a>(invite: &'a [u8], routes: &'a [u8], caller: &'a [u8], callee:
         caller,
         callee,
         &mut bytes,
-    );
-    let n = response(b"RFC 3261 after 13.2.2.1", 183, routes, &mut bytes, n);
-    response(b"RFC 3261 after 13.2.2.4", 200, routes, &mut bytes, n);
+    )?;
+    let n = response(rt, b"RFC 3261 after 13.2.2.1", 183, routes, &mut bytes, n)?;
+    response(rt, b"RFC 3261 after 13.2.2.4", 200, routes, &mut bytes, n)?;
+    Ok(())
 }
 
 // The routes came before the 2xx, which has none.
-fn early_routes<'a>(invite: &'a [u8], answer: &'a [u8], caller: &'a [u8], callee: &'a [u8]) {
+fn early_routes<'a>(
+    rt: &impl Print,
+    invite: &'a [u8],
+    answer: &'a [u8],
+    caller: &'a [u8],
+    callee: &'a [u8],
+) -> io::Result<()> {
     let mut bytes = [0u8; 512];
     let n = uac(
+        rt,
         b"RFC 3261 after 12.1.2",
         b"INVITE 4711 and 180",
         invite,
@@ -39,21 +61,30 @@ fn early_routes<'a>(invite: &'a [u8], answer: &'a [u8], caller: &'a [u8], callee
         caller,
         callee,
         &mut bytes,
-    );
+    )?;
     response(
+        rt,
         b"RFC 3261 after 13.2.2.4",
         200,
         b"Contact: <sip:callee@u3.domain.com>\r\n",
         &mut bytes,
         n,
-    );
+    )?;
+    Ok(())
 }
 
 // The ACK has the INVITE's number.
-fn acknowledged<'a>(invite: &'a [u8], answer: &'a [u8], caller: &'a [u8], callee: &'a [u8]) {
+fn acknowledged<'a>(
+    rt: &impl Print,
+    invite: &'a [u8],
+    answer: &'a [u8],
+    caller: &'a [u8],
+    callee: &'a [u8],
+) -> io::Result<()> {
     let place: &[u8] = b"RFC 3261 after 13.2.2.4";
     let mut bytes = [0u8; 512];
     let n = uas(
+        rt,
         b"RFC 3261 after 12.1.1",
         b"INVITE 4711 and 180",
         invite,
@@ -62,22 +93,25 @@ fn acknowledged<'a>(invite: &'a [u8], answer: &'a [u8], caller: &'a [u8], callee
         callee,
         caller,
         &mut bytes,
-    );
-    let n = confirm(place, &mut bytes, n);
-    let n = request(place, b"ACK", b"CSeq: 4712 ACK\r\n", &mut bytes, n);
-    request(place, b"ACK", b"CSeq: 4711 ACK\r\n", &mut bytes, n);
+    )?;
+    let n = confirm(rt, place, &mut bytes, n)?;
+    let n = request(rt, place, b"ACK", b"CSeq: 4712 ACK\r\n", &mut bytes, n)?;
+    request(rt, place, b"ACK", b"CSeq: 4711 ACK\r\n", &mut bytes, n)?;
+    Ok(())
 }
 
 // The callee's own 2xx given as a response.
 fn answered<'a>(
+    rt: &impl Print,
     invite: &'a [u8],
     answer: &'a [u8],
     routes: &'a [u8],
     caller: &'a [u8],
     callee: &'a [u8],
-) {
+) -> io::Result<()> {
     let mut bytes = [0u8; 512];
     let n = uas(
+        rt,
         b"RFC 3261 after 12.1.1",
         b"INVITE 4711 and 199",
         invite,
@@ -86,6 +120,7 @@ fn answered<'a>(
         callee,
         caller,
         &mut bytes,
-    );
-    response(b"RFC 3261 after 13.3.1.4", 200, routes, &mut bytes, n);
+    )?;
+    response(rt, b"RFC 3261 after 13.3.1.4", 200, routes, &mut bytes, n)?;
+    Ok(())
 }

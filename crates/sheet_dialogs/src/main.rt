@@ -11,22 +11,24 @@ mod numbers;
 mod records;
 mod timers;
 
-fn main() {
-    numbers::numbers();
-    trapezoid();
-    flow::flow();
-    timers::timers();
+use std::io;
+
+fn main(rt: HostRuntime) -> io::Result<()> {
+    numbers::numbers(&rt)?;
+    trapezoid(&rt)?;
+    flow::flow(&rt)?;
+    timers::timers(&rt)
 }
 
 // The messages of RFC 3261 16.12.1.1 with the other fields that a dialog needs, and the number of 8.1.1.5.
-fn trapezoid() {
+fn trapezoid(rt: &impl Print) -> io::Result<()> {
     let invite: &[u8] =
         b"From: <sip:caller@example.com>;tag=a\r\nTo: <sip:callee@domain.com>\r\nCall-ID: 1\r\nCSeq: 4711 INVITE\r\nContact: sip:caller@u1.example.com\r\nRecord-Route: <sip:p2.domain.com;lr>\r\nRecord-Route: <sip:p1.example.com;lr>\r\n";
     let answer: &[u8] =
         b"From: <sip:caller@example.com>;tag=a\r\nTo: <sip:callee@domain.com>;tag=b\r\nCall-ID: 1\r\nCSeq: 4711 INVITE\r\nContact: sip:callee@u2.domain.com\r\nRecord-Route: <sip:p2.domain.com;lr>\r\nRecord-Route: <sip:p1.example.com;lr>\r\n";
     let caller: &[u8] = b"sip:caller@example.com";
     let callee: &[u8] = b"sip:callee@domain.com";
-    creation::creation(invite, answer, caller, callee);
-    dialogs::dialogs(invite, answer, caller, callee);
-    confirmation::confirmation(invite, answer, caller, callee);
+    creation::creation(rt, invite, answer, caller, callee)?;
+    dialogs::dialogs(rt, invite, answer, caller, callee)?;
+    confirmation::confirmation(rt, invite, answer, caller, callee)
 }

@@ -5,122 +5,110 @@ use image::UrisAt;
 use limits::Refusal;
 use record::{Numbers, Optional, Refresher, State};
 use sheet_lines::{show, show_bracketed, show_decimal, show_part, show_refusal, show_seconds};
+use std::io;
 use text::Lookup;
 
-pub fn show_record(image: &[u8]) {
+pub fn show_record(rt: &impl Print, image: &[u8]) -> io::Result<()> {
     let ImageAnswer::Of(r) = read_image(image) else {
-        show(b"no record");
-        return;
+        return show(rt, b"no record");
     };
     let numbers = r.numbers;
     let uris = r.uris;
-    show_state(numbers);
-    show_side(r.we_are_uac);
-    show_numbers(numbers);
-    show_target(image, uris);
-    show_routes(image, r.route_count);
+    show_state(rt, numbers)?;
+    show_side(rt, r.we_are_uac)?;
+    show_numbers(rt, numbers)?;
+    show_target(rt, image, uris)?;
+    show_routes(rt, image, r.route_count)
 }
 
-fn show_state(numbers: Numbers) {
+fn show_state(rt: &impl Print, numbers: Numbers) -> io::Result<()> {
     let state = numbers.state;
     match state {
-        State::Early => {
-            show(b"E");
-        }
-        State::Confirmed => {
-            show(b"C");
-        }
-        State::Terminated => {
-            show(b"T");
-        }
+        State::Early => show(rt, b"E"),
+        State::Confirmed => show(rt, b"C"),
+        State::Terminated => show(rt, b"T"),
     }
 }
 
-fn show_side(we_are_uac: bool) {
+fn show_side(rt: &impl Print, we_are_uac: bool) -> io::Result<()> {
     if we_are_uac {
-        show(b" uac ");
+        show(rt, b" uac ")
     } else {
-        show(b" uas ");
+        show(rt, b" uas ")
     }
 }
 
-fn show_numbers(numbers: Numbers) {
+fn show_numbers(rt: &impl Print, numbers: Numbers) -> io::Result<()> {
     let last_ack = numbers.last_ack;
     let seconds = numbers.seconds;
     let refresher = numbers.refresher;
-    show_decimal(numbers.local as u64);
-    show(b" ");
-    show_decimal(numbers.remote as u64);
-    show_optional(last_ack);
-    show_optional(seconds);
-    show_refresher(refresher);
+    show_decimal(rt, numbers.local as u64)?;
+    show(rt, b" ")?;
+    show_decimal(rt, numbers.remote as u64)?;
+    show_optional(rt, last_ack)?;
+    show_optional(rt, seconds)?;
+    show_refresher(rt, refresher)
 }
 
-fn show_optional(n: Optional) {
+fn show_optional(rt: &impl Print, n: Optional) -> io::Result<()> {
     match n {
         Optional::Number(v) => {
-            show(b" ");
-            show_decimal(v as u64);
+            show(rt, b" ")?;
+            show_decimal(rt, v as u64)
         }
-        Optional::Absent => {
-            show(b" -");
-        }
+        Optional::Absent => show(rt, b" -"),
     }
 }
 
-fn show_refresher(r: Refresher) {
+fn show_refresher(rt: &impl Print, r: Refresher) -> io::Result<()> {
     match r {
-        Refresher::Uac => {
-            show(b" uac");
-        }
-        Refresher::Uas => {
-            show(b" uas");
-        }
-        Refresher::Unspecified => {
-            show(b" -");
-        }
+        Refresher::Uac => show(rt, b" uac"),
+        Refresher::Uas => show(rt, b" uas"),
+        Refresher::Unspecified => show(rt, b" -"),
     }
 }
 
-fn show_target(image: &[u8], uris: UrisAt) {
+fn show_target(rt: &impl Print, image: &[u8], uris: UrisAt) -> io::Result<()> {
     if uris.local_secure {
-        show(b", secure");
+        show(rt, b", secure")?;
     } else if uris.remote_secure {
-        show(b", secure");
+        show(rt, b", secure")?;
     }
-    show(b", target ");
-    show_part(image, uris.target);
+    show(rt, b", target ")?;
+    show_part(rt, image, uris.target)
 }
 
-fn show_routes(image: &[u8], count: usize) {
+fn show_routes(rt: &impl Print, image: &[u8], count: usize) -> io::Result<()> {
     if count == 0 {
-        show(b", no routes");
-        return;
+        return show(rt, b", no routes");
     }
-    show(b", routes");
-    show_each(image, count);
+    show(rt, b", routes")?;
+    show_each(rt, image, count)
 }
 
-fn show_each(image: &[u8], count: usize) {
+fn show_each(rt: &impl Print, image: &[u8], count: usize) -> io::Result<()> {
     let mut i = 0;
     while i < count {
-        show_route(image, i);
+        show_route(rt, image, i)?;
         i += 1;
     }
+    Ok(())
 }
 
-fn show_route(image: &[u8], index: usize) {
+fn show_route(rt: &impl Print, image: &[u8], index: usize) -> io::Result<()> {
     if let Lookup::At(part) = image_route(image, index) {
-        show(b" ");
-        show_bracketed(image, part);
+        show(rt, b" ")?;
+        show_bracketed(rt, image, part)?;
     }
+    Ok(())
 }
 
 // The number of a refusal, and the least interval where it names one.
-pub fn show_cause(x: Refusal) {
-    show_refusal(x);
+pub fn show_cause(rt: &impl Print, x: Refusal) -> io::Result<()> {
+    show_refusal(rt, x)?;
     if let Refusal::SessionExpiresTooSmall(least) = x {
-        show(b" with ");
-        show_seconds(least);
+        show(rt, b" with ")?;
+        show_seconds(rt, least)?;
     }
+    Ok(())
 }

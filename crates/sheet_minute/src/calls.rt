@@ -1,74 +1,88 @@
 // Each call on a run of verdicts, and its line. `add` hands out the new used length.
 use output::Written;
 use sheet_lines::{show, show_decimal, show_refusal};
+use std::io;
 use worst_minute::Worst;
 
 // A verdict, and what was answered.
-pub fn add(time: u64, number: u8, run: &mut [u8], used: usize) -> usize {
-    tell(b"add_verdict at ", time);
-    tell(b", number ", number as u64);
-    show(b": ");
+pub fn add(
+    rt: &impl Print,
+    time: u64,
+    number: u8,
+    run: &mut [u8],
+    used: usize,
+) -> io::Result<usize> {
+    tell(rt, b"add_verdict at ", time)?;
+    tell(rt, b", number ", number as u64)?;
+    show(rt, b": ")?;
     let w = worst_minute::add_verdict(time, number, run, used);
-    changed(w, run, used)
+    changed(rt, w, run, used)
 }
 
 // So many verdicts alike: a line for all of them, or for the first that is refused.
-pub fn add_many(count: u64, time: u64, number: u8, run: &mut [u8], used: usize) -> usize {
-    tell(b"add_verdict at ", time);
-    tell(b", number ", number as u64);
-    tell(b", times ", count);
-    show(b": ");
+pub fn add_many(
+    rt: &impl Print,
+    count: u64,
+    time: u64,
+    number: u8,
+    run: &mut [u8],
+    used: usize,
+) -> io::Result<usize> {
+    tell(rt, b"add_verdict at ", time)?;
+    tell(rt, b", number ", number as u64)?;
+    tell(rt, b", times ", count)?;
+    show(rt, b": ")?;
     let mut n = used;
     let mut i = 0;
     while i < count {
         match worst_minute::add_verdict(time, number, run, n) {
             Written::Length(length) => n = length,
-            Written::Refused(x) => return changed(Written::Refused(x), run, n),
+            Written::Refused(x) => return changed(rt, Written::Refused(x), run, n),
         }
         i += 1;
     }
-    changed(Written::Length(n), run, n)
+    changed(rt, Written::Length(n), run, n)
 }
 
 // The worst minute.
-pub fn worst(run: &[u8], used: usize) {
-    show(b"worst_minute: ");
+pub fn worst(rt: &impl Print, run: &[u8], used: usize) -> io::Result<()> {
+    show(rt, b"worst_minute: ")?;
     match worst_minute::worst_minute(run, used) {
         Worst::Of(n, start) => {
-            show_decimal(n as u64);
-            tell(b" from ", start);
+            show_decimal(rt, n as u64)?;
+            tell(rt, b" from ", start)?;
         }
-        Worst::Empty => show(b"0"),
-        Worst::Refused(x) => show_refusal(x),
+        Worst::Empty => show(rt, b"0")?,
+        Worst::Refused(x) => show_refusal(rt, x)?,
     }
-    end(run, used);
+    end(rt, run, used)
 }
 
 // What was answered to an `add`; the used length afterwards.
-fn changed(w: Written, run: &[u8], used: usize) -> usize {
+fn changed(rt: &impl Print, w: Written, run: &[u8], used: usize) -> io::Result<usize> {
     match w {
         Written::Length(n) => {
-            show(b"taken");
-            end(run, n);
-            n
+            show(rt, b"taken")?;
+            end(rt, run, n)?;
+            Ok(n)
         }
         Written::Refused(x) => {
-            show_refusal(x);
-            end(run, used);
-            used
+            show_refusal(rt, x)?;
+            end(rt, run, used)?;
+            Ok(used)
         }
     }
 }
 
 // A number of which the line says what it is.
-fn tell(what: &[u8], n: u64) {
-    show(what);
-    show_decimal(n);
+fn tell(rt: &impl Print, what: &[u8], n: u64) -> io::Result<()> {
+    show(rt, what)?;
+    show_decimal(rt, n)
 }
 
 // The end of a line: how many of the lent bytes are used.
-fn end(run: &[u8], used: usize) {
-    tell(b"; ", used as u64);
-    tell(b" of ", run.len() as u64);
-    show(b" bytes\n");
+fn end(rt: &impl Print, run: &[u8], used: usize) -> io::Result<()> {
+    tell(rt, b"; ", used as u64)?;
+    tell(rt, b" of ", run.len() as u64)?;
+    show(rt, b" bytes\n")
 }

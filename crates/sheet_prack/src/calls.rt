@@ -5,47 +5,49 @@ use rack::RAckAnswer;
 use sheet_lines::{
     end_line, first, show, show_block, show_decimal, show_rack, show_refusal, show_time, show_yes,
 };
+use std::io;
 
 // The beginning of a line: where the example stands, the call, and the dialog.
-pub fn begin(place: &[u8], call: &[u8], id: &[u8]) {
-    show(place);
-    show(b"  ");
-    show(call);
-    show(b" ");
-    show(id);
+pub fn begin(rt: &impl Print, place: &[u8], call: &[u8], id: &[u8]) -> io::Result<()> {
+    show(rt, place)?;
+    show(rt, b"  ")?;
+    show(rt, call)?;
+    show(rt, b" ")?;
+    show(rt, id)
 }
 
 // A number of which the line says what it is.
-pub fn tell(what: &[u8], n: u64) {
-    show(what);
-    show_decimal(n);
+pub fn tell(rt: &impl Print, what: &[u8], n: u64) -> io::Result<()> {
+    show(rt, what)?;
+    show_decimal(rt, n)
 }
 
 // The end of a line: how many of the lent bytes are used.
-pub fn end(bytes: &[u8], used: usize) {
-    tell(b"; ", used as u64);
-    tell(b" of ", bytes.len() as u64);
-    show(b" bytes\n");
+pub fn end(rt: &impl Print, bytes: &[u8], used: usize) -> io::Result<()> {
+    tell(rt, b"; ", used as u64)?;
+    tell(rt, b" of ", bytes.len() as u64)?;
+    show(rt, b" bytes\n")
 }
 
 // What a call answered that hands out no more than its new used length.
-pub fn changed(w: Written, bytes: &[u8], used: usize) -> usize {
+pub fn changed(rt: &impl Print, w: Written, bytes: &[u8], used: usize) -> io::Result<usize> {
     match w {
         Written::Length(n) => {
-            show(b"taken");
-            end(bytes, n);
-            n
+            show(rt, b"taken")?;
+            end(rt, bytes, n)?;
+            Ok(n)
         }
         Written::Refused(x) => {
-            show_refusal(x);
-            end(bytes, used);
-            used
+            show_refusal(rt, x)?;
+            end(rt, bytes, used)?;
+            Ok(used)
         }
     }
 }
 
 // A response to an INVITE.
 pub fn register(
+    rt: &impl Print,
     place: &[u8],
     id: &[u8],
     rseq: u32,
@@ -54,106 +56,135 @@ pub fn register(
     time: u64,
     bytes: &mut [u8],
     used: usize,
-) -> usize {
-    begin(place, b"register", id);
-    tell(b", ", code as u64);
-    tell(b" with RSeq ", rseq as u64);
-    tell(b" and CSeq ", cseq as u64);
-    show_moment(b" INVITE, at ", time);
+) -> io::Result<usize> {
+    begin(rt, place, b"register", id)?;
+    tell(rt, b", ", code as u64)?;
+    tell(rt, b" with RSeq ", rseq as u64)?;
+    tell(rt, b" and CSeq ", cseq as u64)?;
+    show_moment(rt, b" INVITE, at ", time)?;
     let w = prack_validator::register(id, rseq, cseq, 1, code, time, bytes, used);
-    changed(w, bytes, used)
+    changed(rt, w, bytes, used)
 }
 
 // The PRACK of a block.
 pub fn validate(
+    rt: &impl Print,
     place: &[u8],
     id: &[u8],
     block: &[u8],
     time: u64,
     bytes: &mut [u8],
     used: usize,
-) -> usize {
-    begin(place, b"validate", id);
-    show(b", {");
-    show_block(block);
-    show_moment(b"}, at ", time);
+) -> io::Result<usize> {
+    begin(rt, place, b"validate", id)?;
+    show(rt, b", {")?;
+    show_block(rt, block)?;
+    show_moment(rt, b"}, at ", time)?;
     match prack_validator::validate(id, block, time, bytes, used) {
         Validated::Is(k, n) => {
-            show_rack(RAckAnswer::Of(k));
-            end(bytes, n);
-            n
+            show_rack(rt, RAckAnswer::Of(k))?;
+            end(rt, bytes, n)?;
+            Ok(n)
         }
         Validated::Refused(x, n) => {
-            show_refusal(x);
-            end(bytes, n);
-            n
+            show_refusal(rt, x)?;
+            end(rt, bytes, n)?;
+            Ok(n)
         }
     }
 }
 
 // How many responses wait, and the RSeq and the code of each.
-pub fn pending(place: &[u8], id: &[u8], time: u64, bytes: &mut [u8], used: usize) -> usize {
-    begin(place, b"get_pending", id);
-    show_moment(b", at ", time);
+pub fn pending(
+    rt: &impl Print,
+    place: &[u8],
+    id: &[u8],
+    time: u64,
+    bytes: &mut [u8],
+    used: usize,
+) -> io::Result<usize> {
+    begin(rt, place, b"get_pending", id)?;
+    show_moment(rt, b", at ", time)?;
     let mut out = [0u8; 60];
     match prack_validator::get_pending(id, time, bytes, used, &mut out) {
         Listed::Is(length, n) => {
-            show_waiting(first(&out, length));
-            end(bytes, n);
-            n
+            show_waiting(rt, first(&out, length))?;
+            end(rt, bytes, n)?;
+            Ok(n)
         }
         Listed::Refused(x) => {
-            show_refusal(x);
-            end(bytes, used);
-            used
+            show_refusal(rt, x)?;
+            end(rt, bytes, used)?;
+            Ok(used)
         }
     }
 }
 
-pub fn pracked(place: &[u8], id: &[u8], rseq: u32, bytes: &[u8], used: usize) {
-    begin(place, b"is_pracked", id);
-    tell(b", RSeq ", rseq as u64);
-    show(b": ");
+pub fn pracked(
+    rt: &impl Print,
+    place: &[u8],
+    id: &[u8],
+    rseq: u32,
+    bytes: &[u8],
+    used: usize,
+) -> io::Result<()> {
+    begin(rt, place, b"is_pracked", id)?;
+    tell(rt, b", RSeq ", rseq as u64)?;
+    show(rt, b": ")?;
     match prack_validator::is_pracked(id, rseq, bytes, used) {
         Pracked::Is(b) => {
-            show_yes(b);
+            show_yes(rt, b)?;
         }
         Pracked::Refused(x) => {
-            show_refusal(x);
+            show_refusal(rt, x)?;
         }
     }
-    end_line();
+    end_line(rt)
 }
 
-pub fn remove_pracked(place: &[u8], id: &[u8], rseq: u32, bytes: &mut [u8], used: usize) -> usize {
-    begin(place, b"remove_pracked", id);
-    tell(b", RSeq ", rseq as u64);
-    show(b": ");
+pub fn remove_pracked(
+    rt: &impl Print,
+    place: &[u8],
+    id: &[u8],
+    rseq: u32,
+    bytes: &mut [u8],
+    used: usize,
+) -> io::Result<usize> {
+    begin(rt, place, b"remove_pracked", id)?;
+    tell(rt, b", RSeq ", rseq as u64)?;
+    show(rt, b": ")?;
     let w = prack_removal::remove_pracked(id, rseq, bytes, used);
-    changed(w, bytes, used)
+    changed(rt, w, bytes, used)
 }
 
-pub fn remove_dialog(place: &[u8], id: &[u8], bytes: &mut [u8], used: usize) -> usize {
-    begin(place, b"remove_dialog", id);
-    show(b": ");
+pub fn remove_dialog(
+    rt: &impl Print,
+    place: &[u8],
+    id: &[u8],
+    bytes: &mut [u8],
+    used: usize,
+) -> io::Result<usize> {
+    begin(rt, place, b"remove_dialog", id)?;
+    show(rt, b": ")?;
     let w = prack_removal::remove_dialog(id, bytes, used);
-    changed(w, bytes, used)
+    changed(rt, w, bytes, used)
 }
 
-fn show_moment(before: &[u8], time: u64) {
-    show(before);
-    show_time(time);
-    show(b": ");
+fn show_moment(rt: &impl Print, before: &[u8], time: u64) -> io::Result<()> {
+    show(rt, before)?;
+    show_time(rt, time)?;
+    show(rt, b": ")
 }
 
 // What `get_pending` wrote: six bytes for each response.
-fn show_waiting(out: &[u8]) {
-    show_decimal((out.len() / 6) as u64);
+fn show_waiting(rt: &impl Print, out: &[u8]) -> io::Result<()> {
+    show_decimal(rt, (out.len() / 6) as u64)?;
     let mut at = 0;
     while out.len() - at >= 6 {
-        tell(b" [", codec::read_four(out, at) as u64);
-        tell(b" ", codec::read_two(out, at + 4) as u64);
-        show(b"]");
+        tell(rt, b" [", codec::read_four(out, at) as u64)?;
+        tell(rt, b" ", codec::read_two(out, at + 4) as u64)?;
+        show(rt, b"]")?;
         at += 6;
     }
+    Ok(())
 }

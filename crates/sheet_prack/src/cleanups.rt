@@ -1,5 +1,6 @@
 // Cleanups: when one is due, what it drops, and where its time has no room.
 use crate::calls::{pending, register, validate};
+use std::io;
 
 const DUE: u64 = 300000000000;
 
@@ -12,33 +13,35 @@ const LATER: u64 = 599999999999;
 
 // At exactly 300 s what is acknowledged goes, and a response of exactly 300 s stays. The next is due 300 s after that one, and not where the
 // time goes back. A nanosecond over 300 s a response goes.
-pub fn cleanups() {
+pub fn cleanups(rt: &impl Print) -> io::Result<()> {
     let place: &[u8] = b"01 PRACK";
     let d: &[u8] = b"d";
     let e: &[u8] = b"e";
     let one: &[u8] = b"RAck: 1 1 INVITE\r\n";
     let two: &[u8] = b"RAck: 2 1 INVITE\r\n";
     let mut bytes = [0u8; 256];
-    let n = register(place, d, 1, 1, 180, 0, &mut bytes, 0);
-    let n = validate(place, d, one, 0, &mut bytes, n);
-    let n = register(place, d, 2, 1, 183, 0, &mut bytes, n);
-    let n = validate(place, d, one, BEFORE, &mut bytes, n);
-    let n = validate(place, d, one, DUE, &mut bytes, n);
-    let n = pending(place, d, DUE, &mut bytes, n);
-    let n = validate(place, d, two, LATER, &mut bytes, n);
-    let n = validate(place, d, two, 0, &mut bytes, n);
-    let n = register(place, e, 2, 1, 180, 0, &mut bytes, n);
-    validate(place, e, two, AFTER, &mut bytes, n);
+    let n = register(rt, place, d, 1, 1, 180, 0, &mut bytes, 0)?;
+    let n = validate(rt, place, d, one, 0, &mut bytes, n)?;
+    let n = register(rt, place, d, 2, 1, 183, 0, &mut bytes, n)?;
+    let n = validate(rt, place, d, one, BEFORE, &mut bytes, n)?;
+    let n = validate(rt, place, d, one, DUE, &mut bytes, n)?;
+    let n = pending(rt, place, d, DUE, &mut bytes, n)?;
+    let n = validate(rt, place, d, two, LATER, &mut bytes, n)?;
+    let n = validate(rt, place, d, two, 0, &mut bytes, n)?;
+    let n = register(rt, place, e, 2, 1, 180, 0, &mut bytes, n)?;
+    validate(rt, place, e, two, AFTER, &mut bytes, n)?;
+    Ok(())
 }
 
 // A new text of one byte takes 12 bytes with its time, and with a response 33.
-pub fn rooms() {
+pub fn rooms(rt: &impl Print) -> io::Result<()> {
     let place: &[u8] = b"01 row 18";
     let d: &[u8] = b"d";
     let block: &[u8] = b"CSeq: 2 PRACK\r\n";
     let mut short = [0u8; 11];
     let mut exact = [0u8; 12];
-    validate(place, d, block, 0, &mut short, 0);
-    let n = validate(place, d, block, 0, &mut exact, 0);
-    register(place, d, 1, 1, 180, 0, &mut exact, n);
+    validate(rt, place, d, block, 0, &mut short, 0)?;
+    let n = validate(rt, place, d, block, 0, &mut exact, 0)?;
+    register(rt, place, d, 1, 1, 180, 0, &mut exact, n)?;
+    Ok(())
 }

@@ -7,11 +7,13 @@ mod cleanups;
 mod numbers;
 mod responses;
 
-fn main() {
-    numbers::numbers();
-    responses::acknowledgement();
-    responses::equal_numbers();
-    responses::eleventh();
-    cleanups::cleanups();
-    cleanups::rooms();
+use std::io;
+
+fn main(rt: HostRuntime) -> io::Result<()> {
+    numbers::numbers(&rt)?;
+    responses::acknowledgement(&rt)?;
+    responses::equal_numbers(&rt)?;
+    responses::eleventh(&rt)?;
+    cleanups::cleanups(&rt)?;
+    cleanups::rooms(&rt)
 }

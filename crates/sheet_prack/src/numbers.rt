@@ -2,75 +2,96 @@
 use crate::calls::{begin, changed, end, tell};
 use rseq_manager::{Counted, Current, Numbered};
 use sheet_lines::{ask, end_line, put, show, show_decimal, show_refusal};
+use std::io;
 
-pub fn numbers() {
+pub fn numbers(rt: &impl Print) -> io::Result<()> {
     let rule: &[u8] = b"RFC 3262 after 3";
     let rseq: &[u8] = b"01 RSeq";
     let mut bytes = [0u8; 64];
-    count(rseq, b"is_empty", rseq_manager::is_empty(&bytes, 0));
-    let n = next(b"RFC 3262 after 7.1", b"b", 988789, &mut bytes, 0);
-    let n = next(rule, b"b", 0, &mut bytes, n);
-    current(rule, b"b", &bytes, n);
-    let n = next(rseq, b"c", 0, &mut bytes, n);
-    let n = next(rseq, b"d", 2147483648, &mut bytes, n);
-    count(rseq, b"len", rseq_manager::len(&bytes, n));
-    count(rseq, b"is_empty", rseq_manager::is_empty(&bytes, n));
-    let n = remove(rseq, b"c", &mut bytes, n);
-    current(rseq, b"c", &bytes, n);
-    let n = next(rule, b"c", 2147483647, &mut bytes, n);
+    count(rt, rseq, b"is_empty", rseq_manager::is_empty(&bytes, 0))?;
+    let n = next(rt, b"RFC 3262 after 7.1", b"b", 988789, &mut bytes, 0)?;
+    let n = next(rt, rule, b"b", 0, &mut bytes, n)?;
+    current(rt, rule, b"b", &bytes, n)?;
+    let n = next(rt, rseq, b"c", 0, &mut bytes, n)?;
+    let n = next(rt, rseq, b"d", 2147483648, &mut bytes, n)?;
+    count(rt, rseq, b"len", rseq_manager::len(&bytes, n))?;
+    count(rt, rseq, b"is_empty", rseq_manager::is_empty(&bytes, n))?;
+    let n = remove(rt, rseq, b"c", &mut bytes, n)?;
+    current(rt, rseq, b"c", &bytes, n)?;
+    let n = next(rt, rule, b"c", 2147483647, &mut bytes, n)?;
     // The number of c, of which the four bytes lie at 22: 7FFFFFFF becomes FFFFFFFE.
     put(&mut bytes, 22, 255);
     put(&mut bytes, 25, 254);
-    let n = next(b"01 RSeq at 4294967294", b"c", 0, &mut bytes, n);
-    next(b"01 RSeq at 4294967295", b"c", 0, &mut bytes, n);
+    let n = next(rt, b"01 RSeq at 4294967294", b"c", 0, &mut bytes, n)?;
+    next(rt, b"01 RSeq at 4294967295", b"c", 0, &mut bytes, n)?;
+    Ok(())
 }
 
-fn next(place: &[u8], local_tag: &[u8], n: u32, bytes: &mut [u8], used: usize) -> usize {
-    begin(place, b"next_rseq", local_tag);
-    tell(b", n ", n as u64);
-    show(b": ");
+fn next(
+    rt: &impl Print,
+    place: &[u8],
+    local_tag: &[u8],
+    n: u32,
+    bytes: &mut [u8],
+    used: usize,
+) -> io::Result<usize> {
+    begin(rt, place, b"next_rseq", local_tag)?;
+    tell(rt, b", n ", n as u64)?;
+    show(rt, b": ")?;
     match rseq_manager::next_rseq(b"1", local_tag, b"a", n, bytes, used) {
         Numbered::Is(number, after) => {
-            show_decimal(number as u64);
-            end(bytes, after);
-            after
+            show_decimal(rt, number as u64)?;
+            end(rt, bytes, after)?;
+            Ok(after)
         }
         Numbered::Refused(x) => {
-            show_refusal(x);
-            end(bytes, used);
-            used
+            show_refusal(rt, x)?;
+            end(rt, bytes, used)?;
+            Ok(used)
         }
     }
 }
 
-fn current(place: &[u8], local_tag: &[u8], bytes: &[u8], used: usize) {
-    ask(place, b"current_rseq ", local_tag);
+fn current(
+    rt: &impl Print,
+    place: &[u8],
+    local_tag: &[u8],
+    bytes: &[u8],
+    used: usize,
+) -> io::Result<()> {
+    ask(rt, place, b"current_rseq ", local_tag)?;
     match rseq_manager::current_rseq(b"1", local_tag, b"a", bytes, used) {
         Current::Is(number) => {
-            show_decimal(number as u64);
+            show_decimal(rt, number as u64)?;
         }
         Current::Refused(x) => {
-            show_refusal(x);
+            show_refusal(rt, x)?;
         }
     }
-    end_line();
+    end_line(rt)
 }
 
-fn remove(place: &[u8], local_tag: &[u8], bytes: &mut [u8], used: usize) -> usize {
-    ask(place, b"remove ", local_tag);
+fn remove(
+    rt: &impl Print,
+    place: &[u8],
+    local_tag: &[u8],
+    bytes: &mut [u8],
+    used: usize,
+) -> io::Result<usize> {
+    ask(rt, place, b"remove ", local_tag)?;
     let w = rseq_manager::remove(b"1", local_tag, b"a", bytes, used);
-    changed(w, bytes, used)
+    changed(rt, w, bytes, used)
 }
 
-fn count(place: &[u8], what: &[u8], c: Counted) {
-    ask(place, what, b"");
+fn count(rt: &impl Print, place: &[u8], what: &[u8], c: Counted) -> io::Result<()> {
+    ask(rt, place, what, b"")?;
     match c {
         Counted::Is(n) => {
-            show_decimal(n as u64);
+            show_decimal(rt, n as u64)?;
         }
         Counted::Refused(x) => {
-            show_refusal(x);
+            show_refusal(rt, x)?;
         }
     }
-    end_line();
+    end_line(rt)
 }

@@ -10,12 +10,14 @@ mod racks;
 mod routes;
 mod uris;
 
-fn main() {
-    uris::uris();
-    routes::routes();
-    expires::expires();
-    intervals::intervals();
-    contests::contests();
-    racks::racks();
-    counts::counts();
+use std::io;
+
+fn main(rt: HostRuntime) -> io::Result<()> {
+    uris::uris(&rt)?;
+    routes::routes(&rt)?;
+    expires::expires(&rt)?;
+    intervals::intervals(&rt)?;
+    contests::contests(&rt)?;
+    racks::racks(&rt)?;
+    counts::counts(&rt)
 }

@@ -3,139 +3,140 @@ use sheet_lines::{
     ask, ask_block, ask_number, end_line, show, show_block, show_decimal, show_method_number,
     show_rack, show_reliable, show_sequence, show_written,
 };
+use std::io;
 
-pub fn racks() {
-    methods();
-    method_names();
-    sequences();
-    provisionals();
-    readings();
-    writings();
+pub fn racks(rt: &impl Print) -> io::Result<()> {
+    methods(rt)?;
+    method_names(rt)?;
+    sequences(rt)?;
+    provisionals(rt)?;
+    readings(rt)?;
+    writings(rt)
 }
 
-fn methods() {
+fn methods(rt: &impl Print) -> io::Result<()> {
     let section_7_1: &[u8] = b"RFC 3261 7.1";
     let row: &[u8] = b"01 row 28";
     let after_25_1: &[u8] = b"RFC 3261 after 25.1";
-    method(section_7_1, b"INVITE");
-    method(section_7_1, b"ACK");
-    method(section_7_1, b"BYE");
-    method(section_7_1, b"CANCEL");
-    method(section_7_1, b"REGISTER");
-    method(section_7_1, b"OPTIONS");
-    method(b"RFC 3262 6", b"PRACK");
-    method(row, b"INFO");
-    method(row, b"UPDATE");
-    method(row, b"MESSAGE");
-    method(row, b"REFER");
-    method(row, b"SUBSCRIBE");
-    method(row, b"NOTIFY");
-    method(row, b"PUBLISH");
-    method(after_25_1, b"invite");
-    method(after_25_1, b"EXAMPLE");
+    method(rt, section_7_1, b"INVITE")?;
+    method(rt, section_7_1, b"ACK")?;
+    method(rt, section_7_1, b"BYE")?;
+    method(rt, section_7_1, b"CANCEL")?;
+    method(rt, section_7_1, b"REGISTER")?;
+    method(rt, section_7_1, b"OPTIONS")?;
+    method(rt, b"RFC 3262 6", b"PRACK")?;
+    method(rt, row, b"INFO")?;
+    method(rt, row, b"UPDATE")?;
+    method(rt, row, b"MESSAGE")?;
+    method(rt, row, b"REFER")?;
+    method(rt, row, b"SUBSCRIBE")?;
+    method(rt, row, b"NOTIFY")?;
+    method(rt, row, b"PUBLISH")?;
+    method(rt, after_25_1, b"invite")?;
+    method(rt, after_25_1, b"EXAMPLE")
 }
 
-fn method_names() {
+fn method_names(rt: &impl Print) -> io::Result<()> {
     let place: &[u8] = b"01 row 28";
-    name(place, 0);
-    name(place, 1);
-    name(place, 10);
-    name(place, 14);
-    name(place, 15);
+    name(rt, place, 0)?;
+    name(rt, place, 1)?;
+    name(rt, place, 10)?;
+    name(rt, place, 14)?;
+    name(rt, place, 15)
 }
 
-fn sequences() {
+fn sequences(rt: &impl Print) -> io::Result<()> {
     let after_3: &[u8] = b"RFC 3262 after 3";
     let after_7_1: &[u8] = b"RFC 3262 after 7.1";
-    rseq(b"RFC 3262 7.1", b"RSeq: 988789\r\n");
-    rseq(after_3, b"RSeq: 1\r\n");
-    rseq(after_3, b"RSeq: 2147483647\r\n");
-    rseq(after_7_1, b"RSeq: 4294967295\r\n");
-    rseq(after_7_1, b"RSeq: 4294967296\r\n");
-    rseq(after_7_1, b"RSeq: 988789 1\r\n");
-    rseq(after_7_1, b"CSeq: 988789 INVITE\r\n");
+    rseq(rt, b"RFC 3262 7.1", b"RSeq: 988789\r\n")?;
+    rseq(rt, after_3, b"RSeq: 1\r\n")?;
+    rseq(rt, after_3, b"RSeq: 2147483647\r\n")?;
+    rseq(rt, after_7_1, b"RSeq: 4294967295\r\n")?;
+    rseq(rt, after_7_1, b"RSeq: 4294967296\r\n")?;
+    rseq(rt, after_7_1, b"RSeq: 988789 1\r\n")?;
+    rseq(rt, after_7_1, b"CSeq: 988789 INVITE\r\n")
 }
 
-fn provisionals() {
+fn provisionals(rt: &impl Print) -> io::Result<()> {
     let place: &[u8] = b"RFC 3262 after 3";
-    reliable(place, 100, b"RSeq: 988789\r\n");
-    reliable(place, 101, b"RSeq: 988789\r\n");
-    reliable(place, 180, b"Require: 100rel\r\nRSeq: 988789\r\n");
-    reliable(place, 180, b"CSeq: 1 INVITE\r\n");
-    reliable(place, 199, b"RSeq: 988789\r\n");
-    reliable(place, 200, b"RSeq: 988789\r\n");
+    reliable(rt, place, 100, b"RSeq: 988789\r\n")?;
+    reliable(rt, place, 101, b"RSeq: 988789\r\n")?;
+    reliable(rt, place, 180, b"Require: 100rel\r\nRSeq: 988789\r\n")?;
+    reliable(rt, place, 180, b"CSeq: 1 INVITE\r\n")?;
+    reliable(rt, place, 199, b"RSeq: 988789\r\n")?;
+    reliable(rt, place, 200, b"RSeq: 988789\r\n")
 }
 
-fn readings() {
+fn readings(rt: &impl Print) -> io::Result<()> {
     let after_7_2: &[u8] = b"RFC 3262 after 7.2";
     let row: &[u8] = b"01 row 19";
-    rack(b"RFC 3262 7.2", b"776656 1 INVITE");
-    rack(after_7_2, b"776656 1 invite");
-    rack(after_7_2, b"4294967295 2147483647 INVITE");
-    rack(row, b"776656  +1  INVITE");
-    rack(row, b"776656 1");
-    rack(row, b"776656 1 INVITE 2");
-    rack(row, b"776656 one INVITE");
-    rack(row, b"776656 1 EXAMPLE");
-    rack(row, b"");
+    rack(rt, b"RFC 3262 7.2", b"776656 1 INVITE")?;
+    rack(rt, after_7_2, b"776656 1 invite")?;
+    rack(rt, after_7_2, b"4294967295 2147483647 INVITE")?;
+    rack(rt, row, b"776656  +1  INVITE")?;
+    rack(rt, row, b"776656 1")?;
+    rack(rt, row, b"776656 1 INVITE 2")?;
+    rack(rt, row, b"776656 one INVITE")?;
+    rack(rt, row, b"776656 1 EXAMPLE")?;
+    rack(rt, row, b"")
 }
 
-fn writings() {
+fn writings(rt: &impl Print) -> io::Result<()> {
     let row: &[u8] = b"01 row 28";
-    written(b"RFC 3262 7.2", 776656, 1, 1);
-    written(b"RFC 3262 after 7.2", 4294967295, 4294967295, 12);
-    written(row, 776656, 1, 0);
-    written(row, 776656, 1, 15);
+    written(rt, b"RFC 3262 7.2", 776656, 1, 1)?;
+    written(rt, b"RFC 3262 after 7.2", 4294967295, 4294967295, 12)?;
+    written(rt, row, 776656, 1, 0)?;
+    written(rt, row, 776656, 1, 15)
 }
 
-fn method(place: &[u8], s: &[u8]) {
-    ask(place, b"number of ", s);
-    show_method_number(methods::method_number(s));
-    end_line();
+fn method(rt: &impl Print, place: &[u8], s: &[u8]) -> io::Result<()> {
+    ask(rt, place, b"number of ", s)?;
+    show_method_number(rt, methods::method_number(s))?;
+    end_line(rt)
 }
 
-fn name(place: &[u8], number: u8) {
-    ask_number(place, b"method ", number as u64);
+fn name(rt: &impl Print, place: &[u8], number: u8) -> io::Result<()> {
+    ask_number(rt, place, b"method ", number as u64)?;
     let mut out = [0u8; 16];
     let w = methods::method_text(number, &mut out);
-    show_written(&out, w);
-    end_line();
+    show_written(rt, &out, w)?;
+    end_line(rt)
 }
 
-fn rseq(place: &[u8], block: &[u8]) {
-    ask_block(place, b"RSeq", block);
-    show_sequence(prack_headers::extract_rseq(block));
-    end_line();
+fn rseq(rt: &impl Print, place: &[u8], block: &[u8]) -> io::Result<()> {
+    ask_block(rt, place, b"RSeq", block)?;
+    show_sequence(rt, prack_headers::extract_rseq(block))?;
+    end_line(rt)
 }
 
-fn reliable(place: &[u8], status: u16, block: &[u8]) {
-    show(place);
-    show(b"  reliable, ");
-    show_decimal(status as u64);
-    show(b" of {");
-    show_block(block);
-    show(b"}: ");
-    show_reliable(prack_headers::is_reliable_provisional(status, block));
-    end_line();
+fn reliable(rt: &impl Print, place: &[u8], status: u16, block: &[u8]) -> io::Result<()> {
+    show(rt, place)?;
+    show(rt, b"  reliable, ")?;
+    show_decimal(rt, status as u64)?;
+    show(rt, b" of {")?;
+    show_block(rt, block)?;
+    show(rt, b"}: ")?;
+    show_reliable(rt, prack_headers::is_reliable_provisional(status, block))?;
+    end_line(rt)
 }
 
-fn rack(place: &[u8], value: &[u8]) {
-    ask(place, b"RAck ", value);
-    show_rack(rack::parse_rack(value));
-    end_line();
+fn rack(rt: &impl Print, place: &[u8], value: &[u8]) -> io::Result<()> {
+    ask(rt, place, b"RAck ", value)?;
+    show_rack(rt, rack::parse_rack(value))?;
+    end_line(rt)
 }
 
-fn written(place: &[u8], rseq: u32, cseq: u32, method: u8) {
-    show(place);
-    show(b"  RAck of ");
-    show_decimal(rseq as u64);
-    show(b", ");
-    show_decimal(cseq as u64);
-    show(b" and method ");
-    show_decimal(method as u64);
-    show(b": ");
+fn written(rt: &impl Print, place: &[u8], rseq: u32, cseq: u32, method: u8) -> io::Result<()> {
+    show(rt, place)?;
+    show(rt, b"  RAck of ")?;
+    show_decimal(rt, rseq as u64)?;
+    show(rt, b", ")?;
+    show_decimal(rt, cseq as u64)?;
+    show(rt, b" and method ")?;
+    show_decimal(rt, method as u64)?;
+    show(rt, b": ")?;
     let mut out = [0u8; 40];
     let w = rack::format_rack(rseq, cseq, method, &mut out);
-    show_written(&out, w);
-    end_line();
+    show_written(rt, &out, w)?;
+    end_line(rt)
 }

@@ -1,144 +1,171 @@
 // Contact and Record-Route: the remote target, and the route set as received and reversed.
 use sheet_lines::{ask_block, end_line, show, show_bracketed, show_count, show_lookup};
+use std::io;
 use text::Lookup;
 
 // No example has more.
 const MOST_ROUTES: usize = 10;
 
-pub fn routes() {
+pub fn routes(rt: &impl Print) -> io::Result<()> {
     received(
+        rt,
         b"01 sheet",
         b"Record-Route: \"a<b\" <sip:p@h>, <sip:q@h>\r\n",
-    );
-    trapezoid();
-    strict_router();
-    rewritten();
-    fields();
+    )?;
+    trapezoid(rt)?;
+    strict_router(rt)?;
+    rewritten(rt)?;
+    fields(rt)
 }
 
 // The callee takes the routes of the request in order, the caller those of the response reversed (12.1.1, 12.1.2).
-fn trapezoid() {
+fn trapezoid(rt: &impl Print) -> io::Result<()> {
     let place: &[u8] = b"RFC 3261 16.12.1.1";
-    contact(place, b"Contact: sip:caller@u1.example.com\r\n");
-    received(place, b"Contact: sip:caller@u1.example.com\r\n");
+    contact(rt, place, b"Contact: sip:caller@u1.example.com\r\n")?;
+    received(rt, place, b"Contact: sip:caller@u1.example.com\r\n")?;
     received(
+        rt,
         place,
         b"Contact: sip:caller@u1.example.com\r\nRecord-Route: <sip:p1.example.com;lr>\r\n",
-    );
+    )?;
     received(
+        rt,
         place,
         b"Contact: sip:caller@u1.example.com\r\nRecord-Route: <sip:p2.domain.com;lr>\r\nRecord-Route: <sip:p1.example.com;lr>\r\n",
-    );
+    )?;
     contact(
+        rt,
         place,
         b"Contact: sip:callee@u2.domain.com\r\nRecord-Route: <sip:p2.domain.com;lr>\r\nRecord-Route: <sip:p1.example.com;lr>\r\n",
-    );
+    )?;
     reversed(
+        rt,
         place,
         b"Contact: sip:callee@u2.domain.com\r\nRecord-Route: <sip:p2.domain.com;lr>\r\nRecord-Route: <sip:p1.example.com;lr>\r\n",
-    );
+    )
 }
 
-fn strict_router() {
+fn strict_router(rt: &impl Print) -> io::Result<()> {
     received(
+        rt,
         b"RFC 3261 16.12.1.2",
         b"Contact: sip:caller@u1.example.com\r\nRecord-Route: <sip:p4.domain.com;lr>\r\nRecord-Route: <sip:p3.middle.com>\r\nRecord-Route: <sip:p2.example.com;lr>\r\nRecord-Route: <sip:p1.example.com;lr>\r\n",
-    );
+    )?;
     reversed(
+        rt,
         b"RFC 3261 after 16.12.1.2",
         b"Record-Route: <sip:p4.domain.com;lr>\r\nRecord-Route: <sip:p3.middle.com>\r\nRecord-Route: <sip:p2.example.com;lr>\r\nRecord-Route: <sip:p1.example.com;lr>\r\n",
-    );
+    )
 }
 
-fn rewritten() {
+fn rewritten(rt: &impl Print) -> io::Result<()> {
     let place: &[u8] = b"RFC 3261 16.12.1.3";
     contact(
+        rt,
         place,
         b"Contact: <sip:caller@u1.leftprivatespace.com>\r\nRecord-Route: <sip:gateway.rightprivatespace.com;lr>\r\n",
-    );
+    )?;
     received(
+        rt,
         place,
         b"Contact: <sip:caller@u1.leftprivatespace.com>\r\nRecord-Route: <sip:gateway.rightprivatespace.com;lr>\r\n",
-    );
+    )?;
     contact(
+        rt,
         place,
         b"Contact: <sip:callee@u2.rightprivatespace.com>\r\nRecord-Route: <sip:gateway.leftprivatespace.com;lr>\r\n",
-    );
+    )?;
     reversed(
+        rt,
         place,
         b"Contact: <sip:callee@u2.rightprivatespace.com>\r\nRecord-Route: <sip:gateway.leftprivatespace.com;lr>\r\n",
-    );
+    )
 }
 
-fn fields() {
+fn fields(rt: &impl Print) -> io::Result<()> {
     let after_20_30: &[u8] = b"RFC 3261 after 20.30";
     let section_7_3_1: &[u8] = b"RFC 3261 7.3.1";
     let after_20_10: &[u8] = b"RFC 3261 after 20.10";
     received(
+        rt,
         b"RFC 3261 20.30",
         b"Record-Route: <sip:server10.biloxi.com;lr>,\r\n              <sip:bigbox3.site3.atlanta.com;lr>\r\n",
-    );
+    )?;
     received(
+        rt,
         after_20_30,
         b"Record-Route: <sip:server10.biloxi.com;lr>, <sip:bigbox3.site3.atlanta.com;lr>\r\n",
-    );
+    )?;
     reversed(
+        rt,
         after_20_30,
         b"Record-Route: <sip:server10.biloxi.com;lr>, <sip:bigbox3.site3.atlanta.com;lr>\r\n",
-    );
+    )?;
     contact(
+        rt,
         section_7_3_1,
         b"Contact: <sip:alice@atlanta.com>;expires=3600\r\n",
-    );
+    )?;
     contact(
+        rt,
         section_7_3_1,
         b"CONTACT: <sip:alice@atlanta.com>;ExPiReS=3600\r\n",
-    );
+    )?;
     contact(
+        rt,
         after_20_10,
         b"Contact: \"Mr. Watson\" <sip:watson@worcester.bell-telephone.com> ;q=0.7; expires=3600, \"Mr. Watson\" <mailto:watson@bell-telephone.com> ;q=0.1\r\n",
-    );
-    contact(b"RFC 3261 20.10", b"m: <sips:bob@192.0.2.4>;expires=60\r\n");
-    contact(after_20_10, b"Contact: <sips:bob@192.0.2.4>;expires=60\r\n");
-    contact(after_20_10, b"Contact: *\r\n");
+    )?;
+    contact(
+        rt,
+        b"RFC 3261 20.10",
+        b"m: <sips:bob@192.0.2.4>;expires=60\r\n",
+    )?;
+    contact(
+        rt,
+        after_20_10,
+        b"Contact: <sips:bob@192.0.2.4>;expires=60\r\n",
+    )?;
+    contact(rt, after_20_10, b"Contact: *\r\n")
 }
 
-fn contact(place: &[u8], block: &[u8]) {
-    ask_block(place, b"Contact", block);
-    show_lookup(block, route_set::read_contact(block));
-    end_line();
+fn contact(rt: &impl Print, place: &[u8], block: &[u8]) -> io::Result<()> {
+    ask_block(rt, place, b"Contact", block)?;
+    show_lookup(rt, block, route_set::read_contact(block))?;
+    end_line(rt)
 }
 
-fn received(place: &[u8], block: &[u8]) {
-    ask_block(place, b"routes", block);
-    show_routes(block, false);
-    end_line();
+fn received(rt: &impl Print, place: &[u8], block: &[u8]) -> io::Result<()> {
+    ask_block(rt, place, b"routes", block)?;
+    show_routes(rt, block, false)?;
+    end_line(rt)
 }
 
-fn reversed(place: &[u8], block: &[u8]) {
-    ask_block(place, b"routes, reversed,", block);
-    show_routes(block, true);
-    end_line();
+fn reversed(rt: &impl Print, place: &[u8], block: &[u8]) -> io::Result<()> {
+    ask_block(rt, place, b"routes, reversed,", block)?;
+    show_routes(rt, block, true)?;
+    end_line(rt)
 }
 
 // How many routes there are, and each in brackets.
-fn show_routes(block: &[u8], reversed: bool) {
-    show_count(route_set::route_count(block));
+fn show_routes(rt: &impl Print, block: &[u8], reversed: bool) -> io::Result<()> {
+    show_count(rt, route_set::route_count(block))?;
     let mut i = 0;
     while i < MOST_ROUTES {
-        if !show_route(block, reversed, i) {
-            return;
+        if !show_route(rt, block, reversed, i)? {
+            return Ok(());
         }
         i += 1;
     }
+    Ok(())
 }
 
 // The route at an index, if there is one.
-fn show_route(block: &[u8], reversed: bool, index: usize) -> bool {
+fn show_route(rt: &impl Print, block: &[u8], reversed: bool, index: usize) -> io::Result<bool> {
     let Lookup::At(part) = route_set::route(block, reversed, index) else {
-        return false;
+        return Ok(false);
     };
-    show(b" ");
-    show_bracketed(block, part);
-    true
+    show(rt, b" ")?;
+    show_bracketed(rt, block, part)?;
+    Ok(true)
 }
