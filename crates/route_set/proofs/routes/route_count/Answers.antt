@@ -1,0 +1,28 @@
+-- `route_set::route_count` meets its contract: the causes in their order, then what the scan says of the number. Assumes nothing.
+use mathlib.Core.Path.{◌≡◌, sym, ap, ◌∙◌}
+use Rattle.limits.proofs.Laws.{passed, stopped}
+use Rattle.limits.specs.Limits.{rust_limits}
+use Rattle.msg.specs.Block.{block_cause}
+use Rattle.route_set.specs.Routes.{route_count, count_of}
+use Rattle.route_set.proofs.CountLaws.{number_in, count_clear, count_stopped}
+use Rattle.route_set.proofs.routes.route_count.Goals as goal
+use Rattle.route_set.proofs.routes.route_count.Goals.{After-scan_routes}
+
+-- past the check, the number that the scan says
+said : (c : After-scan_routes) → route_count rust_limits c.args.block.now ≡ number_in c.scan_routes.result
+said c = count_clear c.args.block.now (passed (block_cause rust_limits c.args.block.now) (sym c.check_block.ensures ∙ c.in_default.is)) ∙ ap number_in (sym c.scan_routes.ensures)
+
+pub returns-in-Refused : goal.returns-in-Refused
+returns-in-Refused c = ap count_of (sym (count_stopped c.args.block.now _ (stopped (block_cause rust_limits c.args.block.now) (sym c.check_block.ensures ∙ c.in-Refused.is))))
+
+pub returns-in-All : goal.returns-in-All
+returns-in-All c = ap count_of (sym (said (goal.at.returns-in-All c).After-scan_routes ∙ ap number_in c.in-All.is))
+
+pub returns-in-Route : goal.returns-in-Route
+returns-in-Route c = ap count_of (sym (said (goal.at.returns-in-Route c).After-scan_routes ∙ ap number_in c.in-Route.is))
+
+pub returns-in-TooMany : goal.returns-in-TooMany
+returns-in-TooMany c = ap count_of (sym (said (goal.at.returns-in-TooMany c).After-scan_routes ∙ ap number_in c.in-TooMany.is))
+
+pub returns-in-TooLong : goal.returns-in-TooLong
+returns-in-TooLong c = ap count_of (sym (said (goal.at.returns-in-TooLong c).After-scan_routes ∙ ap number_in c.in-TooLong.is))
