@@ -1,0 +1,6 @@
+-- `worst_minute::entries::time_at` meets its contract. Assumes nothing.
+use Rattle.worst_minute.proofs.NumberLaws.{time_told}
+use Rattle.worst_minute.proofs.entries.time_at.Goals as goal
+
+pub returns : goal.returns
+returns c = let a = c.args in time_told a.run.now a.at c.requires c.word_at.ensures.0 c.word_at-2.ensures.0
