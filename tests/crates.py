@@ -33,11 +33,12 @@ def code(name):
 
 
 def in_code(name):
-    """The crates that the code names. A module of its own may have the name of a library."""
+    """The crates that the code names. A module of its own, or one of std, may have the name of a library."""
     own = {file[:-3] for file in os.listdir(os.path.join(folder, name, "src")) if file.endswith(".rt")}
     used = set()
     for text in code(name):
-        used.update(set(re.findall(r"\b([a-z_][a-z_0-9]*)::", text)) - own)
+        own_here = own | {path.split("::")[-1] for path in imports(text) if path.startswith("std::")}
+        used.update(set(re.findall(r"(?<!::)\b([a-z_][a-z_0-9]*)::", text)) - own_here)
     return {other for other in used if other in names or other in KIT} - {name}
 
 
