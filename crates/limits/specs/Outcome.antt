@@ -1,6 +1,6 @@
 -- What a call comes to: refused for a cause of the table in document 01, "Turned back", or a value. Causes are tried in an order; the first that is true
 -- refuses the call.
-use Rattle.std.specs.Prelude.{ℕ, Bool, true, false, cond}
+use Rattle.std.specs.Prelude.{ℕ, Bool, cond}
 use Rattle.std.proofs.Math.Option.{Option, none, some}
 use Rattle.limits.specs.Refusal.{number_of}
 use Rattle.limits.specs.declared.Refusal.{Refusal}
