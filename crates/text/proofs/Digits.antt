@@ -1,10 +1,10 @@
 -- Number reading, over its bound and so over its width. `scan` is the loop of `digits_below` as a definition: what is left of
 -- the digits, after those so far said `v`; `scan_is` says what it computes. Assumes nothing.
-use Prim.Native.Nat.{ℕ, zero, suc, ◌+◌, ◌-◌, ◌*◌, ◌^◌, ◌≤◌, ◌<◌}
+use Prim.Native.Nat.{ℕ, suc, ◌+◌, ◌-◌, ◌*◌, ◌^◌, ◌≤◌, ◌<◌}
 use native.Mathlib.Nat.{add-zero, mul-one, pow-zero, pow-succ', add-mul, mul_assoc, add_assoc, le-add_right, le_trans, le-mul_of_pos_right, zero-mul, zero-add, one-le-pow, not-suc-le-zero}
 use native.Mathlib.Numerals.{add-one, sub-one}
 use native.Mathlib.Omega.{arith}
-use mathlib.Core.Path.{◌≡◌, refl, sym, ap, ◌∙◌}
+use mathlib.Core.Path.{◌≡◌, refl}
 use mathlib.Core.Bool.{Bool, true, false, cond, ◌&&◌, and-false}
 use mathlib.Core.List.{List, [], ◌∷◌}
 use mathlib.Core.Option.{Option, none, some}
@@ -13,7 +13,7 @@ use lib.Seq.{drop-cons, take-length}
 use lib.Dec.{leb, ltb, lit<}
 use borrow.Author.Tests.{lt-ltb, le-ltb, le-leb, lt-leb, ltb-true, ltb-false, eq-eqb, ne_eqb}
 use Rattle.text.specs.Text.{is_digit, all}
-use Rattle.text.specs.Number.{value, non_empty, digits_below, without_plus}
+use Rattle.text.specs.Number.{value, digits_below, without_plus}
 
 unfoldable pub scan : ℕ → ℕ → List ℕ → Option ℕ
 scan w v [] = some v

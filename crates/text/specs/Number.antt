@@ -1,6 +1,6 @@
 -- What a run of bytes says as a decimal number below a bound; the bound is a power of two, so each reading has a width.
 -- Document 01, "CSeq": read "as Rust reads u32: one `+` and leading zeros allowed".
-use Rattle.std.specs.Prelude.{ℕ, zero, suc, ◌+◌, ◌-◌, ◌*◌, ◌^◌, Bool, true, false, cond, ◌&&◌, List, [], ◌∷◌, length, ltb, eqb}
+use Rattle.std.specs.Prelude.{ℕ, ◌+◌, ◌-◌, ◌*◌, ◌^◌, Bool, true, false, cond, ◌&&◌, List, [], ◌∷◌, length, ltb, eqb}
 use Rattle.std.proofs.Math.Option.{Option, none, some}
 use Rattle.text.specs.Text.{is_digit, all}
 use Rattle.text.specs.declared.number.Number.{Number}

@@ -1,7 +1,7 @@
 -- Texts as lists of bytes: classes of bytes, runs, blanks at both ends, letter case, segments and words.
 -- Document 01, "Block": "values of bytes 9 and 32 to 126, space and tab trimmed at both ends"; the Rust's `trim` and
 -- `split_whitespace` see no other white space in such bytes.
-use Rattle.std.specs.Prelude.{ℕ, zero, suc, ◌+◌, ◌-◌, Bool, true, false, cond, not, ◌&&◌, ◌||◌, List, [], ◌∷◌, reverse, length, take, drop, leb, eqb}
+use Rattle.std.specs.Prelude.{ℕ, suc, ◌+◌, ◌-◌, Bool, true, false, cond, not, ◌&&◌, ◌||◌, List, [], ◌∷◌, reverse, length, take, drop, leb, eqb}
 use Rattle.std.proofs.Math.Option.{Option, none, some}
 use Rattle.text.specs.declared.Span.{Span}
 

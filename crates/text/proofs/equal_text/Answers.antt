@@ -1,5 +1,4 @@
 -- `text::equal_text` meets its contract: at each turn the whole comparison is that of the rests. Assumes nothing.
-use Prim.Native.Nat.{◌-◌}
 use mathlib.Core.Path.{sym, ◌∙◌}
 use Rattle.text.proofs.Alike.{alike_length, alike_done, alike_differ, alike_next}
 use native.Mathlib.Omega.{arith}

@@ -1,6 +1,5 @@
 -- `text::find` meets its contract: at each turn the whole run is the bytes passed and the run of the rest.
 -- Assumes nothing.
-use Prim.Native.Nat.{◌-◌}
 use mathlib.Core.Path.{sym, ap, ◌∙◌}
 use native.Mathlib.Omega.{arith}
 use mathlib.Core.Bool.{not}

@@ -1,10 +1,8 @@
 -- `text::leading` meets its contract: at each turn the whole run is the bytes passed and the run of the rest.
 -- Assumes nothing.
-use Prim.Native.Nat.{◌-◌}
 use mathlib.Core.Path.{sym, ◌∙◌}
 use native.Mathlib.Omega.{arith}
 use borrow.Author.Tests.{not-true, not-false}
-use Rattle.text.specs.Text.{is_blank}
 use Rattle.text.proofs.Runs.{span_done, span_stop, span_next}
 use Rattle.text.proofs.leading.Goals as goal
 

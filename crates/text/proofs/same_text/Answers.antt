@@ -1,5 +1,4 @@
 -- `text::same_text` meets its contract: at each turn the whole comparison is that of the rests. Assumes nothing.
-use Prim.Native.Nat.{◌-◌}
 use mathlib.Core.Path.{sym, ◌∙◌}
 use borrow.Author.Tests.{eqb-true, eqb-false, not-true, not-false}
 use Rattle.text.specs.Text.{lower}

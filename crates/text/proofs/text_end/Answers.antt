@@ -1,7 +1,5 @@
 -- `text::text_end` meets its contract. Assumes nothing.
-use Prim.Native.Nat.{◌-◌}
 use mathlib.Core.Path.{sym, ◌∙◌}
-use Rattle.text.specs.Text.{is_blank}
 use Rattle.text.proofs.Trimming.{end_stop, end_next}
 use borrow.Author.Tests.{not-true, not-false}
 use native.Mathlib.Omega.{arith}

@@ -1,6 +1,5 @@
 -- `text::visible_length` meets its contract: at each turn the whole run is the bytes passed and the run of the rest.
 -- Assumes nothing.
-use Prim.Native.Nat.{◌-◌}
 use mathlib.Core.Path.{sym, ◌∙◌}
 use native.Mathlib.Omega.{arith}
 use borrow.Author.Tests.{not-true, not-false}

@@ -1,10 +1,8 @@
 -- `text::word_length` meets its contract: at each turn the whole run is the bytes passed and the run of the rest.
 -- Assumes nothing.
-use Prim.Native.Nat.{◌-◌}
 use mathlib.Core.Path.{sym, ap, ◌∙◌}
 use native.Mathlib.Omega.{arith}
 use mathlib.Core.Bool.{not}
-use Rattle.text.specs.Text.{is_blank}
 use Rattle.text.proofs.Runs.{span_done, span_stop, span_next}
 use Rattle.text.proofs.word_length.Goals as goal
 

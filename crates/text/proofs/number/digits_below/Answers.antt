@@ -1,6 +1,5 @@
 -- `text::digits_below` meets its contract: at each turn the whole reading is that of the rest after the number so far.
 -- Assumes nothing.
-use Prim.Native.Nat.{◌-◌}
 use mathlib.Core.Path.{sym, ap, ◌∙◌}
 use native.Mathlib.Omega.{arith}
 use Rattle.text.specs.Number.{number_from}
