@@ -1,0 +1,67 @@
+-- `image::read_routes` meets its contract: at each turn the whole reading is that of the routes left, gone on with. Assumes nothing.
+use Prim.Native.Nat.{◌-◌}
+use native.Mathlib.Omega.{arith}
+use mathlib.Core.Path.{sym, ◌∙◌}
+use lib.ListN.{drop}
+use borrow.Author.Tests.{not-true, not-false}
+use Rattle.record.specs.Record.{uri_text}
+use Rattle.image.proofs.AnswerLaws.{UriGot, uri_got, uri_not}
+use Rattle.image.proofs.RouteLaws.{turn, stop, done, routes_absent, routes_none, no_count, many, start}
+use Rattle.image.proofs.parts.read_routes.Goals as goal
+use Rattle.image.proofs.parts.read_routes.Goals.{In-At}
+
+-- the route that a turn reads
+route : (c : In-At) → UriGot (c.args.bytes.now) c.loop-read.end c.in-At.t c.in-At.field-1
+route c = uri_got (c.args.bytes.now) c.loop-read.end c.loop-read.invariant.1.0 (sym c.read_uri_text.ensures ∙ c.in-At.is)
+
+pub returns-then-not-stands : goal.returns-then-not-stands
+returns-then-not-stands c = let a = c.args in routes_absent a.bytes.now a.at (not-true a.stands c.if-not-stands.true-raw)
+
+pub returns-then-bytes-at : goal.returns-then-bytes-at
+returns-then-bytes-at c =
+    let a = c.args in
+    routes_none a.bytes.now a.at (not-false a.stands c.if-not-stands.false-raw) c.if-bytes-at.true
+
+pub bounds-bytes-at : goal.bounds-bytes-at
+bounds-bytes-at c = omega arith
+
+pub returns-then-count-eq0 : goal.returns-then-count-eq0
+returns-then-count-eq0 c =
+    let a = c.args in
+    no_count a.bytes.now a.at (not-false a.stands c.if-not-stands.false-raw) (omega arith) c.wide-count.ensures.0 c.if-count-eq0.true
+
+pub returns-then-count-gt-MOST_ROUTES : goal.returns-then-count-gt-MOST_ROUTES
+returns-then-count-gt-MOST_ROUTES c =
+    let a = c.args in
+    many a.bytes.now a.at (not-false a.stands c.if-not-stands.false-raw) (omega arith) c.wide-count.ensures.0 c.if-count-gt-MOST_ROUTES.true
+
+pub overflow_add-end : goal.overflow_add-end
+overflow_add-end c = omega arith
+
+pub loop-read-init : goal.loop-read-init
+loop-read-init c =
+    let a = c.args in
+    (omega arith, (omega arith, start a.bytes.now a.at (not-false a.stands c.if-not-stands.false-raw) (omega arith) c.wide-count.ensures.0 (omega arith) c.if-count-gt-MOST_ROUTES.false))
+
+pub read_uri_text-requires : goal.read_uri_text-requires
+read_uri_text-requires c = c.loop-read.invariant.1.0
+
+pub returns-in_default : goal.returns-in_default
+returns-in_default c =
+    sym (c.loop-read.invariant.1.1 ∙ stop (c.args.bytes.now) c.loop-read.read (c.wide-count.result) c.loop-read.end c.loop-read-test.true (uri_not c.loop-read.end (uri_text.read (drop c.loop-read.end (c.args.bytes.now))) (sym c.read_uri_text.ensures ∙ c.in_default.is)))
+
+pub overflow_add-end-in-loop-read : goal.overflow_add-end-in-loop-read
+overflow_add-end-in-loop-read c = omega (arith, (route (goal.at.overflow_add-end-in-loop-read c).In-At).got.within)
+
+pub overflow_add-read : goal.overflow_add-read
+overflow_add-read c = omega arith
+
+pub loop-read-smaller : goal.loop-read-smaller
+loop-read-smaller c = omega arith
+
+pub loop-read-preserved : goal.loop-read-preserved
+loop-read-preserved c =
+    (omega arith, ((route (goal.at.loop-read-preserved c).In-At).got.within, c.loop-read.invariant.1.1 ∙ turn (c.args.bytes.now) c.loop-read.read (c.wide-count.result) c.loop-read.end c.loop-read-test.true (route (goal.at.loop-read-preserved c).In-At)))
+
+pub returns : goal.returns
+returns c = sym (c.loop-read.invariant.1.1 ∙ done (c.args.bytes.now) c.loop-read.read (c.wide-count.result) c.loop-read.end (omega arith))
