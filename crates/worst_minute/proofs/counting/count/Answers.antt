@@ -1,5 +1,4 @@
 -- `worst_minute::counting::count` meets its contract: the worst over the starts before the window, and the refusals of the window. Assumes nothing.
-use Prim.Native.Nat.{◌-◌}
 use native.Mathlib.Omega.{arith}
 use mathlib.Core.Path.{◌≡◌, refl, ap, sym, ◌∙◌}
 use mathlib.Core.Option.{some}
@@ -28,13 +27,15 @@ ready c =
     let e = c.time_at-t.ensures in
     let f = c.if-t-last.false in
     elim c.if-t-w-ge-MINUTE.branch [
-      then-t-w-ge-MINUTE k ↦
-        let worse : ◌≡◌ {A = Minute} (record { start = k.if-most-w.start; refusals = k.if-most-w.most }) (or_more best m) =
-            elim k.if-most-w.branch [
-              then-most-w q ↦ has_more best m (omega (arith, q.if-most-w.true)) q.most-is q.start-is
-            | else-most-w q ↦ has_no_more best m (omega (arith, q.if-most-w.false)) q.most-is q.start-is ] in
-        ready_as s (record { start = k.if-most-w.start; refusals = k.if-most-w.most }) (moved_on s p.1 p.0 l.invariant h e f (omega (arith, k.if-t-w-ge-MINUTE.true)) k.moved-w.ensures worse) k.w-is k.most-is k.start-is
-    | else-t-w-ge-MINUTE k ↦ ready_as s best (stays s p.1 p.0 l.invariant h e f (omega (arith, k.if-t-w-ge-MINUTE.false))) k.w-is k.most-is k.start-is ]
+      | then-t-w-ge-MINUTE k ↦
+          let worse : ◌≡◌ {A = Minute} (record { start = k.if-most-w.start; refusals = k.if-most-w.most }) (or_more best m) =
+          elim k.if-most-w.branch [
+            | then-most-w q ↦ has_more best m (omega (arith, q.if-most-w.true)) q.most-is q.start-is
+            | else-most-w q ↦ has_no_more best m (omega (arith, q.if-most-w.false)) q.most-is q.start-is
+          ] in
+          ready_as s (record { start = k.if-most-w.start; refusals = k.if-most-w.most }) (moved_on s p.1 p.0 l.invariant h e f (omega (arith, k.if-t-w-ge-MINUTE.true)) k.moved-w.ensures worse) k.w-is k.most-is k.start-is
+      | else-t-w-ge-MINUTE k ↦ ready_as s best (stays s p.1 p.0 l.invariant h e f (omega (arith, k.if-t-w-ge-MINUTE.false))) k.w-is k.most-is k.start-is
+    ]
 
 -- at the end the answer is the worst so far with the window
 ended : (c : After-loop-at) {m : Minute}
@@ -94,8 +95,9 @@ loop-at-preserved c =
     let e = c.time_at-t.ensures in
     let r = ready (goal.at.loop-at-preserved c).Joined-t-w-ge-MINUTE in
     elim c.if-run-at-ne0.branch [
-      then-run-at-ne0 k ↦ counting_as s (a_refusal s p.1 p.0 r k.if-run-at-ne0.true e) k.w-is
-    | else-run-at-ne0 k ↦ counting_as s (no_refusal s p.1 p.0 r k.if-run-at-ne0.false e) k.w-is ]
+      | then-run-at-ne0 k ↦ counting_as s (a_refusal s p.1 p.0 r k.if-run-at-ne0.true e) k.w-is
+      | else-run-at-ne0 k ↦ counting_as s (no_refusal s p.1 p.0 r k.if-run-at-ne0.false e) k.w-is
+    ]
 
 pub returns-then-w-most : goal.returns-then-w-most
 returns-then-w-most c =

@@ -1,5 +1,4 @@
 -- `worst_minute::counting::moved` meets its contract. Assumes nothing.
-use Prim.Native.Nat.{◌-◌}
 use native.Mathlib.Omega.{arith}
 use mathlib.Core.Path.{◌∙◌}
 use Rattle.worst_minute.proofs.WindowLaws.{refused_there, accepted_there, moved_on, moved_all}

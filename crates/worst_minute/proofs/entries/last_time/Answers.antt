@@ -1,5 +1,4 @@
 -- `worst_minute::entries::last_time` meets its contract: the entries before the place are read, and the last of them has the time. Assumes nothing.
-use Prim.Native.Nat.{◌-◌}
 use mathlib.Core.Path.{◌≡◌, ap, sym, ◌∙◌}
 use mathlib.Core.Bool.{true}
 use lib.ListN.{length}
