@@ -7,11 +7,11 @@ use mathlib.Core.Path.{◌≡◌, refl, sym, ap, ap₂, subst, ◌∙◌}
 use mathlib.Core.Bool.{Bool, true, false, cond}
 use mathlib.Core.List.{List, [], ◌∷◌}
 use mathlib.Core.Option.{Option, none, some}
-use lib.ListN.{length, get_or, take, drop, drop_of_length-le, length-drop, length-take}
+use lib.ListN.{length, take, drop, drop_of_length-le, length-drop, length-take}
 use lib.Seq.{drop-cons, drop-drop}
 use lib.Dec.{ltb}
 use borrow.Author.Tests.{lt-ltb, le-ltb, ltb-true, ltb-false}
-use Rattle.text.specs.Text.{blanks, trimmed, trimmed_span, same, Piece}
+use Rattle.text.specs.Text.{trimmed_span, same, Piece}
 use Rattle.limits.specs.Limits.{LimitSet}
 use Rattle.limits.specs.Outcome.{given}
 use Rattle.limits.specs.declared.Refusal.TheVariants.{TextTooLong}
@@ -21,7 +21,7 @@ use Rattle.text.specs.declared.Next.TheVariants as step
 use Rattle.text.specs.declared.Span.{Span}
 use Rattle.text.proofs.Runs.{drop_part}
 use Rattle.text.proofs.Trimming.{trimmed_at, trimmed_part}
-use Rattle.msg.specs.Block.{line_at, lines_after, is_block, HeaderLine, line_of, with_line, tail_of, lines_from, lines_of, lines_since, first_named, value_of, text_of, part_of, part_place, stop_of, found_of, block_cause, lookup_cause}
+use Rattle.msg.specs.Block.{line_at, lines_after, HeaderLine, line_of, with_line, tail_of, lines_from, lines_since, first_named, value_of, text_of, part_of, part_place, stop_of, found_of, block_cause, lookup_cause}
 use Rattle.msg.specs.declared.Line.{Line}
 use Rattle.msg.specs.declared.Line.TheVariants.{Of, Malformed}
 use Rattle.msg.specs.declared.Found.TheVariants.{At, Nothing}

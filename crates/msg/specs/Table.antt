@@ -1,6 +1,6 @@
 -- One reading of a block of document 01, "Block": the first line of each name that a request, a response or a creation looks up
 -- ("Identifier", "CSeq", "Contact", "Routes" and "Intervals, PRACK, RSeq" say of which). Each is the look-up of Block.antt.
-use Rattle.std.specs.Prelude.{ℕ, zero, suc, ◌+◌, Bool, true, false, cond, List, [], ◌∷◌, length, take, drop, eqb}
+use Rattle.std.specs.Prelude.{ℕ, zero, suc, ◌+◌, Bool, cond, List, [], ◌∷◌, take, drop, eqb}
 use Rattle.std.proofs.Math.Option.{Option, none, some}
 use Rattle.limits.specs.declared.Refusal.{Refusal}
 use Rattle.text.specs.Text.{Piece}

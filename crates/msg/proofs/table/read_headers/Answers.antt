@@ -2,7 +2,6 @@
 -- lines read, completed by the lines left. Assumes nothing.
 use Prim.Native.Nat.{◌+◌, ◌-◌, ◌≤◌}
 use mathlib.Core.Path.{◌≡◌, refl, sym, ap, ◌∙◌}
-use mathlib.Core.Logic.{⊎_elim}
 use lib.ListN.{length, take, drop, length-take, length-drop}
 use lib.Seq.{length-take-le}
 use borrow.Author.Tests.{ltb-false}
@@ -65,8 +64,9 @@ loop-at-preserved c =
       omega (arith, inside (goal.at.loop-at-preserved c).In-Of),
       l.invariant.1 ∙ block_next _ l.at _ _ (line_is (goal.at.loop-at-preserved c).In-Of),
       l.invariant.2 ∙ elim c.if-k-lt8.branch [
-          then-k-lt8 w ↦ left_noted _ l.at l.t _ _ (line_is (goal.at.loop-at-preserved c).In-Of) _ w.line_found.result c.if-k-lt8.t c.slot_of-k.ensures w.line_found.ensures (w.t-is ∙ w.note-t.ensures)
-        | else-k-lt8 w ↦ left_skipped _ l.at l.t _ _ (line_is (goal.at.loop-at-preserved c).In-Of) _ c.if-k-lt8.t c.slot_of-k.ensures w.if-k-lt8.false w.t-is ],
+        | then-k-lt8 w ↦ left_noted _ l.at l.t _ _ (line_is (goal.at.loop-at-preserved c).In-Of) _ w.line_found.result c.if-k-lt8.t c.slot_of-k.ensures w.line_found.ensures (w.t-is ∙ w.note-t.ensures)
+        | else-k-lt8 w ↦ left_skipped _ l.at l.t _ _ (line_is (goal.at.loop-at-preserved c).In-Of) _ c.if-k-lt8.t c.slot_of-k.ensures w.if-k-lt8.false w.t-is
+      ],
     )
 
 pub returns : goal.returns
