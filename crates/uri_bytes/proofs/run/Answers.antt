@@ -1,5 +1,4 @@
 -- `uri_bytes::run` meets its contract: at each turn the whole run is the bytes passed and the run of the rest. Assumes nothing.
-use Prim.Native.Nat.{◌-◌}
 use mathlib.Core.Path.{◌≡◌, sym, ap, ◌∙◌}
 use borrow.Author.Tests.{not-true, not-false}
 use Rattle.text.specs.Text.{span}
