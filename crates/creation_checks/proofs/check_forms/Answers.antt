@@ -1,0 +1,10 @@
+-- `creation_checks::check_forms` meets its contract: the request, then the response. Assumes nothing.
+use mathlib.Core.Path.{sym, ◌∙◌}
+use Rattle.creation_checks.proofs.CheckLaws.{request_stopped, request_passed}
+use Rattle.creation_checks.proofs.check_forms.Goals as goal
+
+pub returns-in-Refused : goal.returns-in-Refused
+returns-in-Refused c = let a = c.args in request_stopped a.request.now a.response.now c.requires.0 (sym c.check_block.ensures ∙ c.in-Refused.is)
+
+pub returns : goal.returns
+returns c = let a = c.args in request_passed a.request.now a.response.now c.requires.0 c.requires.1 (sym c.check_block.ensures ∙ c.in_default.is) c.check_block-2.ensures
