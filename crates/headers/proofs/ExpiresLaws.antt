@@ -1,10 +1,10 @@
 -- The parts of a Session-Expires value: the turns of the loop of `find_refresher`, and the first part. Assumes nothing.
-use Prim.Native.Nat.{ℕ, suc, ◌+◌, ◌-◌, ◌≤◌, ◌<◌}
+use Prim.Native.Nat.{ℕ, ◌+◌, ◌-◌, ◌≤◌, ◌<◌}
 use native.Mathlib.Numerals.{add-one}
 use native.Mathlib.Omega.{arith}
-use mathlib.Core.Path.{◌≡◌, refl, sym, ap, ◌∙◌}
+use mathlib.Core.Path.{◌≡◌, refl, ◌∙◌}
 use mathlib.Core.Bool.{Bool, true, false}
-use mathlib.Core.List.{List, [], ◌∷◌}
+use mathlib.Core.List.{List, []}
 use mathlib.Core.Option.{Option, none, some}
 use lib.ListN.{length, take, drop}
 use lib.Seq.{take_all, length-take-le}
@@ -16,7 +16,7 @@ use Rattle.text.specs.declared.number.Number.TheVariants.{Value, Unreadable}
 use Rattle.text.proofs.Runs.{drop_part, part_length}
 use Rattle.text.proofs.Words.{split_at, split_last, left, left_done, left_cons, segment_fits}
 use Rattle.limits.specs.Outcome.{given}
-use Rattle.msg.specs.Block.{HeaderLine, value_of, text_of}
+use Rattle.msg.specs.Block.{HeaderLine, value_of}
 use Rattle.msg.proofs.LookupLaws.{Says, said_text}
 use Rattle.text.specs.declared.Span.{Span}
 use Rattle.headers.specs.SessionExpires.{refresher_uac, refresher_uas, refresher_in, Interval, with_refresher, session_expires, interval_of, expires_from, expires_answer}

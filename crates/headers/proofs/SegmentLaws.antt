@@ -1,6 +1,6 @@
 -- Segments of a value, cut outside quotes and angle brackets: the turns of the loops of `segment_length` and `find_tag`, and that
 -- a value in which no semicolon is held is cut as by the Rust. Assumes nothing.
-use Prim.Native.Nat.{ℕ, zero, suc, ◌+◌, ◌-◌, ◌≤◌, ◌<◌}
+use Prim.Native.Nat.{ℕ, suc, ◌+◌, ◌-◌, ◌≤◌, ◌<◌}
 use native.Mathlib.Nat.{add-zero, add-suc, suc-add, le_of_suc-le-suc}
 use native.Mathlib.Numerals.{add-one}
 use native.Mathlib.Omega.{arith}
@@ -11,7 +11,7 @@ use lib.ListN.{length, get_or, take, drop, drop_of_length-le, length-drop, lengt
 use lib.Seq.{take_all, drop-drop, drop-cons}
 use lib.Dec.{ltb, leb, eqb}
 use borrow.Author.Tests.{ltb-true, ltb-false, le-leb, lt-leb, eqb-true}
-use Rattle.text.specs.Text.{is, split, on_head}
+use Rattle.text.specs.Text.{is, split}
 use Rattle.text.proofs.Runs.{drop_part}
 use Rattle.headers.specs.declared.tag.Mode.{Mode}
 use Rattle.headers.specs.declared.tag.Mode.TheVariants.{Outside, Quoted, Escaped, Bracketed}

@@ -1,7 +1,7 @@
 -- The Session-Expires value (RFC 4028 section 4), as document 01, "Response", has its stand-in for `parse_session_expires`:
 -- "digits fitting u32 before the first `;`, then the first `;` part that is `refresher=` with `uac` or `uas`, case ignored,
 -- else none; parts are trimmed". RFC 4028 allows white space around the `=`; here it is no refresher.
-use Rattle.std.specs.Prelude.{ℕ, Bool, cond, List, [], ◌∷◌}
+use Rattle.std.specs.Prelude.{ℕ, cond, List, [], ◌∷◌}
 use Rattle.std.proofs.Math.Option.{Option, none, some}
 use Rattle.limits.specs.Limits.{LimitSet}
 use Rattle.limits.specs.Outcome.{Outcome, refused, given, refuse_by}

@@ -1,5 +1,4 @@
 -- `headers::find_refresher` meets its contract: at each turn the refresher is that of the parts left. Assumes nothing.
-use Prim.Native.Nat.{◌-◌}
 use mathlib.Core.Path.{sym, ◌∙◌}
 use Rattle.headers.proofs.ExpiresLaws.{is_uac_lem, is_uas_lem, is_other_lem, parts_done}
 use native.Mathlib.Omega.{arith}

@@ -1,6 +1,6 @@
 -- `headers::segment_length` meets its contract: at each turn the bytes passed and those of the rest before the cut. Assumes nothing.
 use native.Mathlib.Omega.{arith}
-use Prim.Native.Nat.{◌+◌, ◌-◌}
+use Prim.Native.Nat.{◌+◌}
 use mathlib.Core.Path.{sym, ap, ◌∙◌}
 use lib.ListN.{drop}
 use Rattle.headers.specs.Tag.{cut_length}
