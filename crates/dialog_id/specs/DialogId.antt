@@ -1,7 +1,7 @@
 -- A dialog's identifier: Call-ID, local tag and remote tag (RFC 3261 section 12).
 -- Document 01, "Identifier" and refusals 4 and 25 to 27: `DialogId::new` takes 1 to 256 bytes of Call-ID and 1 to 128 of tag,
 -- none of them a byte 0 to 31 or over 126; the readings from a block take any.
-use Rattle.std.specs.Prelude.{ℕ, ◌+◌, Bool, not, List, [], ◌∷◌, length, ltb, eqb}
+use Rattle.std.specs.Prelude.{ℕ, Bool, not, List, [], ◌∷◌, length, ltb, eqb}
 use Rattle.std.proofs.Math.Option.{Option, none, some}
 use Rattle.limits.specs.Limits.{LimitSet}
 use Rattle.limits.specs.Outcome.{Outcome, refused, given, refuse_by, or_refuse, cause_if, or_else}

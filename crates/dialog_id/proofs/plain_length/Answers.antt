@@ -1,10 +1,8 @@
 -- `dialog_id::plain_length` meets its contract: at each turn the whole run is the bytes passed and the run of the rest.
 -- Assumes nothing.
-use Prim.Native.Nat.{◌-◌}
 use mathlib.Core.Path.{sym, ◌∙◌}
 use native.Mathlib.Omega.{arith}
 use borrow.Author.Tests.{not-true, not-false}
-use Rattle.dialog_id.specs.DialogId.{is_plain}
 use Rattle.text.proofs.Runs.{span_done, span_stop, span_next}
 use Rattle.dialog_id.proofs.plain_length.Goals as goal
 
