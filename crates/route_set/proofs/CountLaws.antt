@@ -7,14 +7,14 @@ use mathlib.Core.Bool.{Bool, true, false, cond}
 use mathlib.Core.List.{List, [], ◌∷◌, ◌++◌, reverse, reverse-cons}
 use mathlib.Core.Option.{Option, none, some}
 use lib.ListN.{length, get_elem?, length-reverse}
-use lib.Dec.{leb, eqb, ltb}
-use borrow.Author.Tests.{eq-eqb, ne_eqb, leb-true, leb-false, ltb-true, ltb-false}
-use Rattle.limits.specs.Limits.{LimitSet, rust_limits}
+use lib.Dec.{leb, ltb}
+use borrow.Author.Tests.{eq-eqb, ne_eqb, leb-false, ltb-true, ltb-false}
+use Rattle.limits.specs.Limits.{rust_limits}
 use Rattle.limits.specs.Outcome.{Outcome, refused, given, refuse_by, and_then}
 use Rattle.limits.specs.declared.Refusal.{Refusal}
 use Rattle.limits.specs.declared.Refusal.TheVariants.{RouteSetTooLarge, UriTooLong}
 use Rattle.text.specs.Text.{Piece, moved_piece}
-use Rattle.text.specs.Answers.{span_of, lookup_of}
+use Rattle.text.specs.Answers.{lookup_of}
 use Rattle.text.specs.declared.Lookup.TheVariants as lookup
 use Rattle.msg.specs.Block.{block_cause}
 use Rattle.uri.specs.SipUri.{over_estimate}

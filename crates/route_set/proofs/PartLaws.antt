@@ -1,17 +1,17 @@
 -- Segments between cuts: the loop of `part_length`, and the turns of the loop of `next_part`. Assumes nothing.
-use Prim.Native.Nat.{ℕ, zero, suc, ◌+◌, ◌-◌, ◌≤◌, ◌<◌}
+use Prim.Native.Nat.{ℕ, suc, ◌+◌, ◌-◌, ◌≤◌, ◌<◌}
 use native.Mathlib.Nat.{add-zero, add-suc, suc-add, le_of_suc-le-suc}
 use native.Mathlib.Numerals.{add-one}
 use native.Mathlib.Omega.{arith}
-use mathlib.Core.Path.{◌≡◌, refl, sym, ap, ◌∙◌}
+use mathlib.Core.Path.{◌≡◌, refl, ap}
 use mathlib.Core.Bool.{Bool, true, false, cond}
 use mathlib.Core.List.{List, [], ◌∷◌}
 use mathlib.Core.Option.{Option, none, some}
-use lib.ListN.{length, get_or, take, drop, drop_of_length-le, length-drop, length-take}
+use lib.ListN.{length, get_or, take, drop, drop_of_length-le, length-drop}
 use lib.Seq.{drop-cons, take_all, drop-drop, length-take-le}
-use lib.Dec.{leb, ltb}
+use lib.Dec.{ltb}
 use borrow.Author.Tests.{le-leb, lt-leb, ltb-true, ltb-false}
-use Rattle.text.specs.Text.{on_head, trimmed, trimmed_span, Piece}
+use Rattle.text.specs.Text.{trimmed, trimmed_span}
 use Rattle.text.specs.Number.{non_empty}
 use Rattle.limits.specs.Outcome.{given}
 use Rattle.text.specs.Answers.{Stop, span_of, next_of}

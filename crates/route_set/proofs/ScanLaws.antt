@@ -1,5 +1,5 @@
 -- The turns of the two loops of `scan_routes`. Assumes nothing.
-use Prim.Native.Nat.{ℕ, zero, suc, ◌+◌, ◌-◌, ◌≤◌, ◌<◌}
+use Prim.Native.Nat.{ℕ, ◌+◌, ◌-◌, ◌≤◌, ◌<◌}
 use native.Mathlib.Omega.{arith}
 use mathlib.Core.Path.{◌≡◌, refl, sym, ap, subst, ◌∙◌}
 use mathlib.Core.Bool.{Bool, true, false, cond}
@@ -11,18 +11,18 @@ use Rattle.limits.specs.Limits.{rust_limits}
 use Rattle.text.specs.Text.{Piece, moved_piece}
 use Rattle.text.specs.Answers.{span_of}
 use Rattle.text.specs.declared.Span.{Span}
-use Rattle.msg.specs.Block.{HeaderLine, first_named}
+use Rattle.msg.specs.Block.{first_named}
 use Rattle.msg.proofs.LookupLaws.{lines_left, Says, said_text}
 use Rattle.uri.specs.SipUri.{over_estimate}
 use Rattle.uri.specs.HeaderUri.{ReadUri, header_uri}
-use Rattle.route_set.specs.Parts.{header_values, segments, segments_from, elements}
-use Rattle.route_set.specs.Routes.{elements_of, elements_in}
+use Rattle.route_set.specs.Parts.{header_values}
+use Rattle.route_set.specs.Routes.{elements_in}
 use Rattle.route_set.specs.Scan.{scan_element, scan, moved_span, element_from, InValue}
 use Rattle.route_set.specs.declared.routes.Element.{Element}
 use Rattle.route_set.specs.declared.routes.Element.TheVariants as element
 use Rattle.route_set.specs.declared.routes.Scan.{Scan}
 use Rattle.route_set.specs.declared.routes.Scan.TheVariants.{All, Route, TooMany, TooLong}
-use Rattle.route_set.proofs.WalkLaws.{elements_left, Told, named_left, FirstLine, line_told, no_line_left, elements_done}
+use Rattle.route_set.proofs.WalkLaws.{elements_left, Told, named_left, FirstLine, line_told, no_line_left}
 
 -- ---- one element
 

@@ -2,20 +2,20 @@
 -- go by. Assumes nothing.
 use Prim.Native.Nat.{ℕ, zero, suc, ◌+◌, ◌-◌, ◌≤◌, ◌<◌}
 use native.Mathlib.Omega.{arith}
-use mathlib.Core.Path.{◌≡◌, refl, sym, ap, subst, ◌∙◌}
-use mathlib.Core.Bool.{Bool, true, false, cond}
+use mathlib.Core.Path.{◌≡◌, refl, ap, subst}
+use mathlib.Core.Bool.{Bool, true, false}
 use mathlib.Core.List.{List, [], ◌∷◌}
 use mathlib.Core.Option.{Option, none, some}
 use lib.ListN.{length, take, drop}
 use lib.Dec.{ltb}
 use borrow.Author.Tests.{ltb-true, ltb-false}
-use Rattle.text.specs.Text.{trimmed, blanks, Piece, trimmed_piece, same}
+use Rattle.text.specs.Text.{trimmed, Piece, trimmed_piece, same}
 use Rattle.text.specs.Number.{non_empty}
 use Rattle.text.specs.Answers.{Stop, span_of}
 use Rattle.text.specs.declared.Span.{Span}
 use Rattle.text.proofs.Runs.{drop_part}
 use Rattle.text.proofs.Trimming.{trimmed_at, trimmed_part}
-use Rattle.msg.specs.Block.{HeaderLine, line_at, line_of, lines_from, first_named, all_named}
+use Rattle.msg.specs.Block.{HeaderLine, line_at, line_of, first_named, all_named}
 use Rattle.msg.specs.declared.Line.{Line}
 use Rattle.msg.specs.declared.Line.TheVariants as line
 use Rattle.msg.proofs.LineLaws.{line_fits}
@@ -23,7 +23,7 @@ use Rattle.msg.proofs.LookupLaws.{Placed, lines_left, left_done, left_stop, left
 use Rattle.route_set.specs.Parts.{segments_from, elements, first_element, part_from}
 use Rattle.route_set.specs.Cuts.{cut_length}
 use Rattle.route_set.specs.declared.parts.Part.TheVariants.{At, Nothing}
-use Rattle.route_set.proofs.PartLaws.{from_cons, segment_fits, segment_length, element_done}
+use Rattle.route_set.proofs.PartLaws.{from_cons, segment_length, element_done}
 
 -- ---- the elements of a value
 

@@ -1,7 +1,7 @@
 -- The elements of a header value that commas separate (RFC 3261 section 7.3.1), as the Rust's `split_header_values` cuts them:
 -- a comma cuts outside quotes and angle brackets; every `"` opens or closes quotes, also after a backslash and in brackets;
 -- `<` and `>` count in quotes too, which RFC 3261 section 25.1 would not have. Elements are trimmed, and empty ones are none.
-use Rattle.std.specs.Prelude.{ℕ, ◌+◌, ◌-◌, Bool, true, false, cond, not, ◌&&◌, List, [], ◌∷◌, length, drop, leb, eqb}
+use Rattle.std.specs.Prelude.{ℕ, ◌+◌, ◌-◌, Bool, false, cond, not, ◌&&◌, List, [], ◌∷◌, length, drop, leb, eqb}
 use Rattle.std.proofs.Math.Option.{Option, none, some}
 use Rattle.limits.specs.Limits.{LimitSet}
 use Rattle.limits.specs.Outcome.{Outcome, given, refuse_by}

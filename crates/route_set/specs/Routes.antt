@@ -2,7 +2,7 @@
 -- Document 01, "Routes": "All Record-Route lines, cut by `split_header_values`; unreadable parts are skipped; a part met when
 -- 50 are held ends the whole reading at once with refusal 8. Reversed from a response." A readable part whose estimate is over
 -- the limit ends it with 7.
-use Rattle.std.specs.Prelude.{ℕ, suc, ◌+◌, Bool, true, false, cond, List, [], ◌∷◌, ◌++◌, map, reverse, length, leb}
+use Rattle.std.specs.Prelude.{ℕ, ◌+◌, Bool, true, false, List, [], ◌∷◌, ◌++◌, map, reverse, length, leb}
 use Rattle.std.proofs.Math.Option.{Option, none, some}
 use Rattle.std.proofs.Math.ListN.{get_elem?}
 use Rattle.limits.specs.Limits.{LimitSet}

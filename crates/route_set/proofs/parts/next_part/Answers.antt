@@ -1,5 +1,4 @@
 -- `route_set::next_part` meets its contract: at each turn the first element is that of the segments left. Assumes nothing.
-use Prim.Native.Nat.{◌-◌}
 use mathlib.Core.Path.{sym, ap, ◌∙◌}
 use Rattle.route_set.specs.Parts.{part_from}
 use Rattle.route_set.proofs.PartLaws.{element_here, element_later, element_done}

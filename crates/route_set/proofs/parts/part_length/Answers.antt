@@ -1,8 +1,6 @@
 -- `route_set::part_length` meets its contract: at each turn the bytes passed and those of the rest before the cut.
 -- Assumes nothing.
-use Prim.Native.Nat.{◌-◌}
 use mathlib.Core.Path.{sym, ◌∙◌}
-use mathlib.Core.Bool.{true, false}
 use Rattle.route_set.proofs.PartLaws.{cut_done, cut_cut, cut_next}
 use native.Mathlib.Omega.{arith}
 use Rattle.route_set.proofs.parts.part_length.Goals as goal

@@ -3,10 +3,9 @@ use Rattle.msg.proofs.LookupLaws.{left_done, first_done}
 use Rattle.route_set.specs.declared.routes.Scan.TheVariants as result
 use Prim.Native.Nat.{ℕ, ◌+◌, ◌-◌}
 use mathlib.Core.Path.{refl, sym, ap, ◌∙◌}
-use mathlib.Core.Bool.{true, false, true≢false}
-use mathlib.Core.Logic.{⊎_elim}
+use mathlib.Core.Bool.{true≢false}
 use mathlib.Core.List.{List}
-use lib.ListN.{length, take, drop, length-take}
+use lib.ListN.{take, drop, length-take}
 use Rattle.limits.specs.Limits.{rust_limits}
 use Rattle.msg.specs.Block.{first_named}
 use Rattle.msg.proofs.LookupLaws.{lines_left, Says, found_at, found_none, said_fits}
@@ -106,13 +105,15 @@ pub returns-then-full : goal.returns-then-full
 returns-then-full c =
     let l = c.lines in
     elim c.lines-test.branch [
-      else-lines-test w ↦ absurd (true≢false (sym c.if-full.true ∙ w.full-is ∙ l.invariant.1))
-    | then-lines-test+in-At+then-loop-from-test+in-At-next_part+then-held-ge-MAX_ROUTE_SET_SIZE w ↦
-        sym (w.loop-from.invariant.0 ∙ scan_full _ _ _ _ _ _ _ _ (part_told (take (w.in-At.v.start + w.in-At.v.length - w.in-At.v.start) (drop w.in-At.v.start c.args.block.now)) w.loop-from.from _ _ (sym w.next_part.ensures ∙ w.in-At-next_part.is)) w.if-held-ge-MAX_ROUTE_SET_SIZE.true) ]
+      | else-lines-test w ↦ absurd (true≢false (sym c.if-full.true ∙ w.full-is ∙ l.invariant.1))
+      | then-lines-test+in-At+then-loop-from-test+in-At-next_part+then-held-ge-MAX_ROUTE_SET_SIZE w ↦
+          sym (w.loop-from.invariant.0 ∙ scan_full _ _ _ _ _ _ _ _ (part_told (take (w.in-At.v.start + w.in-At.v.length - w.in-At.v.start) (drop w.in-At.v.start c.args.block.now)) w.loop-from.from _ _ (sym w.next_part.ensures ∙ w.in-At-next_part.is)) w.if-held-ge-MAX_ROUTE_SET_SIZE.true)
+    ]
 
 pub returns : goal.returns
 returns c =
     let l = c.lines in
     elim c.lines-test.branch [
-      else-lines-test w ↦ ap result.All w.held-is ∙ sym (l.invariant.0 ∙ lines_none _ _ c.args.block.now record_route_name l.at (first_done c.args.block.now record_route_name l.at (left_done c.args.block.now l.at w.lines-test.false)))
-    | then-lines-test+in-At+then-loop-from-test+in-At-next_part+then-held-ge-MAX_ROUTE_SET_SIZE w ↦ absurd (true≢false (sym w.full-is ∙ c.if-full.false)) ]
+      | else-lines-test w ↦ ap result.All w.held-is ∙ sym (l.invariant.0 ∙ lines_none _ _ c.args.block.now record_route_name l.at (first_done c.args.block.now record_route_name l.at (left_done c.args.block.now l.at w.lines-test.false)))
+      | then-lines-test+in-At+then-loop-from-test+in-At-next_part+then-held-ge-MAX_ROUTE_SET_SIZE w ↦ absurd (true≢false (sym w.full-is ∙ c.if-full.false))
+    ]
