@@ -1,0 +1,13 @@
+-- `pushing::make_room` meets its contract. Assumes nothing.
+use mathlib.Core.Path.{refl}
+use Rattle.prack_list.proofs.PushLaws.{room_none, room_some, room_full}
+use Rattle.prack_list.proofs.pushing.make_room.Goals as goal
+
+pub returns-then-n-lt-ENTRIES_AT-clause-kept : goal.returns-then-n-lt-ENTRIES_AT-clause-kept
+returns-then-n-lt-ENTRIES_AT-clause-kept c = λ t h. room_none h c.if-n-lt-ENTRIES_AT.true
+
+pub returns-then-count-lt-MAX_PENDING_PRACK_PER_DIALOG-clause-kept : goal.returns-then-count-lt-MAX_PENDING_PRACK_PER_DIALOG-clause-kept
+returns-then-count-lt-MAX_PENDING_PRACK_PER_DIALOG-clause-kept c = λ t h. room_some h c.if-n-lt-ENTRIES_AT.false refl c.if-count-lt-MAX_PENDING_PRACK_PER_DIALOG.true
+
+pub returns-clause-kept : goal.returns-clause-kept
+returns-clause-kept c = λ t h. room_full h refl c.if-count-lt-MAX_PENDING_PRACK_PER_DIALOG.false c.requires.1 c.move_left.ensures
