@@ -1,5 +1,4 @@
 -- `methods::method_of` meets its contract: at each turn the number sought is among the names left. Assumes nothing.
-use Prim.Native.Nat.{◌-◌}
 use native.Mathlib.Omega.{arith}
 use mathlib.Core.Path.{◌≡◌, sym, ap, ◌∙◌}
 use Rattle.text.specs.Text.{same}
