@@ -1,0 +1,22 @@
+-- `creation_readings::target` meets its contract: the Contact's text stands in its block, at its place. Assumes nothing.
+use native.Mathlib.Omega.{arith}
+use mathlib.Core.Path.{sym, ◌∙◌}
+use native.Mathlib.Nat.{add-sub_cancel_left}
+use Rattle.creation_readings.proofs.ReadingLaws.{ContactAt, contact_at, contact_fits, contact_text}
+use Rattle.creation_readings.proofs.target.Goals as goal
+use Rattle.creation_readings.proofs.target.Goals.{In-At}
+
+-- where the Contact stands
+there : (c : In-At) → ContactAt c.args.block.now c.in-At.c
+there c = contact_at c.args.block.now c.in-At.c (sym c.find_contact.ensures ∙ c.in-At.is)
+
+pub overflow_add-e : goal.overflow_add-e
+overflow_add-e c = omega (arith, contact_fits _ _ (there (goal.at.overflow_add-e c).In-At))
+
+pub slice_bounds-result-end : goal.slice_bounds-result-end
+slice_bounds-result-end c = omega (arith, contact_fits _ _ (there (goal.at.slice_bounds-result-end c).In-At))
+
+pub returns-clause-result_value : goal.returns-clause-result_value
+returns-clause-result_value c =
+    let a = c.args in
+    rw add-sub_cancel_left (contact_text _ a.remote_uri.now _ (there (goal.at.returns-clause-result_value c).In-At))
