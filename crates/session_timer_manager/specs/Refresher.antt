@@ -2,7 +2,7 @@
 -- Departures of the Rust, kept: it knows the four texts `uac`, `UAC`, `uas` and `UAS` alone, where the RFC ignores letter
 -- case, so `Uas` is as good as no parameter; and without a parameter it is the caller (uac) who refreshes, where the RFC
 -- leaves the choice to the side that answers.
-use Rattle.std.specs.Prelude.{ℕ, Bool, false, cond, not, ◌||◌, List, [], ◌∷◌, length, ltb}
+use Rattle.std.specs.Prelude.{ℕ, Bool, cond, not, ◌||◌, List, [], ◌∷◌, length, ltb}
 use Rattle.std.proofs.Math.Option.{Option, none, some}
 use Rattle.limits.specs.Limits.{LimitSet}
 use Rattle.limits.specs.Outcome.{Outcome, given, refuse_if}
