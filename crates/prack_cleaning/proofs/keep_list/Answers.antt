@@ -1,0 +1,6 @@
+-- `prack_cleaning::keep_list` meets its contract: the entries that stay, and their count. Assumes nothing.
+use Rattle.prack_cleaning.proofs.KeepLaws.{kept_list_lem}
+use Rattle.prack_cleaning.proofs.keep_list.Goals as goal
+
+pub returns : goal.returns
+returns c = let a = c.args in λ t h. kept_list_lem h a.which c.if-n-lt-ENTRIES_AT.false (c.keep-kept.ensures.kept)
