@@ -1,14 +1,14 @@
 -- What each callee answers to an offer within the bounds, first and at the retry, by its numbers. Assumes nothing.
-use Prim.Native.Nat.{ℕ, ◌≤◌, ◌<◌, min, max}
+use Prim.Native.Nat.{◌≤◌, ◌<◌, min, max}
 use native.Mathlib.Omega.{arith}
-use mathlib.Core.Path.{◌≡◌, refl, ap, ◌∙◌}
-use mathlib.Core.Option.{Option, none, some}
+use mathlib.Core.Path.{◌≡◌, ap, ◌∙◌}
+use mathlib.Core.Option.{none, some}
 use borrow.Author.Tests.{lt-ltb, le-ltb}
 use Rattle.limits.specs.Limits.{LimitSet}
 use Rattle.limits.specs.Outcome.{refused, given}
 use Rattle.limits.specs.declared.Refusal.TheVariants.{SessionExpiresTooSmall}
 use Rattle.session_timer_manager.specs.Intervals.{negotiated}
-use Rattle.interval_contest.specs.Contest.{Offer, Within, Callee, answer, answer_at, first_answer, retry_answer}
+use Rattle.interval_contest.specs.Contest.{Offer, Callee, answer, answer_at, retry_answer}
 
 -- the request, reduced to the preference, but not below either minimum: a callee whose minimum is no larger than the request
 pub taken : (offer : Offer) (callee : Callee) → offer.min_se ≤ offer.requested → callee.minimum ≤ offer.requested

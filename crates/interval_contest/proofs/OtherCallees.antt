@@ -1,15 +1,10 @@
 -- What the contest leaves out would change nothing: a callee below 90 s answers as one raised to 90 s does, since M is at least that; and a callee
 -- without a preference answers as one that prefers R does. Assumes nothing.
-use Prim.Native.Nat.{ℕ, ◌≤◌, min, max}
+use Prim.Native.Nat.{ℕ, min, max}
 use native.Mathlib.Omega.{arith}
-use mathlib.Core.Path.{◌≡◌, refl, ap, sym, ◌∙◌}
-use mathlib.Core.Bool.{Bool, true, false}
+use mathlib.Core.Path.{◌≡◌}
 use mathlib.Core.Option.{none, some}
-use lib.Dec.{ltb}
-use borrow.Author.Tests.{ltb-true, ltb-false, lt-ltb, le-ltb}
 use Rattle.limits.specs.Limits.{LimitSet, rust_limits}
-use Rattle.limits.specs.Outcome.{refused, given}
-use Rattle.limits.specs.declared.Refusal.TheVariants.{SessionExpiresTooSmall}
 use Rattle.session_timer_manager.specs.Intervals.{negotiated}
 use Rattle.interval_contest.specs.Contest.{Offer, Within, Callee, Permitted, answer}
 
