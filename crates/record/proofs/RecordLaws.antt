@@ -1,18 +1,17 @@
 -- The image of a record is exact. Assumes nothing.
-use Prim.Native.Nat.{ℕ, zero, suc, ◌+◌, ◌-◌, ◌*◌, ◌/◌, ◌%◌, ◌^◌, ◌≤◌, ◌<◌}
+use Prim.Native.Nat.{ℕ, ◌/◌, ◌%◌, ◌<◌}
 use native.Mathlib.Omega.{arith}
-use mathlib.Core.Path.{◌≡◌, refl, sym, ap, ap₂, subst, ◌∙◌}
-use mathlib.Core.Bool.{Bool, true, false, cond, ◌&&◌, ◌||◌, beq, false≢true}
-use mathlib.Core.List.{List, [], ◌∷◌, ◌++◌}
+use mathlib.Core.Path.{◌≡◌, refl, sym, ap, subst}
+use mathlib.Core.Bool.{Bool, true, false, ◌&&◌, ◌||◌, beq, false≢true}
+use mathlib.Core.List.{List, []}
 use mathlib.Core.Option.{Option, none, some}
 use lib.ListN.{length}
 use lib.Dec.{leb, ltb, eqb}
-use borrow.Author.Tests.{eq-eqb, ne_eqb, eqb-true, eqb-false, lt-ltb, le-ltb, ltb-true, ltb-false}
+use borrow.Author.Tests.{eqb-true, eqb-false, ltb-true}
 use Rattle.text.specs.Text.{is_value, all}
 use Rattle.text.specs.Number.{non_empty}
-use Rattle.codec.specs.Codec.{Codec, Pair, byte, four, text, then, such, flagged, mapped, counted, keyed}
-use Rattle.record.specs.Record.{State, early, confirmed, terminated, Side, uac, uas, Record, is_readable, is_sips, id_text, uri_text, number, value_or, optional, side_number, side_of, refresher_field, routes_field, bit_of, state_number, state_of, StateByte, state_byte_number, state_byte_of, state_byte, stands, Fields, fields, is_filled, is_given, map_of, fields_of, record_of, secure_right, image}
-use Rattle.codec.proofs.CodecLaws.{Bytes, Exact, byte_exact, four_exact, text_exact, then_exact, such_exact, GoodFlag, flagged_exact, mapped_exact, GoodAll, counted_exact, keyed_exact}
+use Rattle.record.specs.Record.{State, early, confirmed, terminated, Side, uac, uas, Record, is_readable, is_sips, id_text, uri_text, number, value_or, optional, side_number, side_of, refresher_field, routes_field, bit_of, state_number, state_of, StateByte, state_byte_number, state_byte_of, state_byte, stands, Fields, fields, map_of, fields_of, record_of, secure_right, image}
+use Rattle.codec.proofs.CodecLaws.{Exact, byte_exact, four_exact, text_exact, then_exact, such_exact, GoodFlag, flagged_exact, mapped_exact, GoodAll, counted_exact, keyed_exact}
 
 -- ---- fields
 

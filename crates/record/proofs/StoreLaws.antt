@@ -1,13 +1,13 @@
 -- The bytes of a store and its records: each gives the other back. Assumes nothing.
-use Prim.Native.Nat.{ℕ, zero, suc, ◌+◌, ◌≤◌, ◌<◌}
+use Prim.Native.Nat.{ℕ, zero, suc, ◌≤◌}
 use native.Mathlib.Omega.{arith}
-use mathlib.Core.Path.{◌≡◌, refl, sym, ap, subst, ◌∙◌}
-use mathlib.Core.Bool.{Bool, true, false, cond}
-use mathlib.Core.List.{List, [], ◌∷◌, ◌++◌, append-nil}
+use mathlib.Core.Path.{◌≡◌, refl, ap, subst, ◌∙◌}
+use mathlib.Core.Bool.{Bool, true, false}
+use mathlib.Core.List.{List, [], ◌∷◌, ◌++◌}
 use mathlib.Core.Option.{Option, none, some}
 use lib.ListN.{length, length-append}
 use Rattle.codec.specs.Codec.{Reading, write_all}
-use Rattle.record.specs.Record.{Record, WellFormed, map_of, fields_of, image}
+use Rattle.record.specs.Record.{Record, WellFormed, image}
 use Rattle.record.specs.Store.{distinct, encode_all, record_before, read_on, records_in, only_distinct, decode_all}
 use Rattle.codec.proofs.CodecLaws.{Bytes, bytes_after}
 use Rattle.record.proofs.WellFormedLaws.{image_round, image_back}

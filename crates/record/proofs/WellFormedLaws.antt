@@ -1,19 +1,19 @@
 -- A record has a good image exactly if it is well-formed; the two laws of the image for well-formed records. Assumes nothing.
-use Prim.Native.Nat.{ℕ, zero, suc, ◌+◌, ◌^◌, ◌≤◌, ◌<◌}
+use Prim.Native.Nat.{ℕ, suc, ◌^◌, ◌≤◌, ◌<◌}
 use native.Mathlib.Omega.{arith}
-use mathlib.Core.Path.{◌≡◌, refl, sym, ap, subst, ◌∙◌}
+use mathlib.Core.Path.{◌≡◌, refl, sym, subst, ◌∙◌}
 use mathlib.Core.Bool.{Bool, true, false, ◌&&◌, false≢true}
 use mathlib.Core.List.{List, [], ◌∷◌, ◌++◌}
 use mathlib.Core.Option.{Option, none, some}
 use lib.ListN.{length}
 use lib.Dec.{leb, ltb}
-use borrow.Author.Tests.{lt-ltb, le-ltb, ltb-true, ltb-false, le-leb, leb-true}
+use borrow.Author.Tests.{lt-ltb, ltb-false, le-leb, leb-true}
 use Rattle.text.specs.Text.{all}
 use Rattle.codec.specs.Codec.{Reading}
-use Rattle.record.specs.Record.{Record, Side, IdPart, UriPart, OptionalPart, EachUri, WellFormed, is_filled, is_given, fields_of, map_of, image}
-use Rattle.codec.proofs.CodecLaws.{Bytes, Exact, GoodFlag, GoodAll}
+use Rattle.record.specs.Record.{Record, Side, IdPart, OptionalPart, EachUri, WellFormed, is_filled, is_given, fields_of, image}
+use Rattle.codec.proofs.CodecLaws.{Bytes, GoodFlag, GoodAll}
 use Rattle.record.proofs.MapLaws.{stands_0, stands_1, stands_2, stands_7, stands_8, stands_9, stands_10, stands_11, stands_12, map_fits}
-use Rattle.record.proofs.RecordLaws.{GoodId, GoodUri, GoodNumber, GoodOptional, GoodSide, GoodRoutes, GoodFields, GoodRecord, image_exact}
+use Rattle.record.proofs.RecordLaws.{GoodId, GoodUri, GoodNumber, GoodOptional, GoodSide, GoodRoutes, GoodRecord, image_exact}
 
 -- ---- field by field: flag says whether the field is there
 

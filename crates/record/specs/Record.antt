@@ -1,9 +1,8 @@
 -- A dialog record as data, and its image. Document 01, "Record image": big-endian; two bytes of bit map, bit 0 lowest, then the
 -- fields whose bit stands, in bit order.
-use Rattle.std.specs.Prelude.{ℕ, zero, suc, ◌+◌, ◌-◌, ◌*◌, ◌/◌, ◌%◌, ◌^◌, ◌≤◌, ◌<◌, ◌≡◌, Bool, true, false, cond, not, ◌&&◌, ◌||◌, List, [], ◌∷◌, length, take, leb, ltb, eqb}
+use Rattle.std.specs.Prelude.{ℕ, ◌+◌, ◌*◌, ◌/◌, ◌%◌, ◌^◌, ◌≤◌, ◌<◌, ◌≡◌, Bool, true, false, cond, ◌&&◌, ◌||◌, List, [], ◌∷◌, length, take, leb, ltb, eqb}
 use Rattle.std.specs.Bool.{beq}
 use Rattle.std.proofs.Math.Option.{Option, none, some}
-use Rattle.limits.specs.Limits.{LimitSet}
 use Rattle.text.specs.Text.{is_value, all, same}
 use Rattle.text.specs.Number.{non_empty}
 use Rattle.uri.specs.SipUri.{UriParts, sip_uri, sips}

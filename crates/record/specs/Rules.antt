@@ -2,8 +2,8 @@
 -- Document 01, "CSeq": 0 is refused; ACK must equal a non-zero remote number, and is remembered; others are at most
 -- 2,147,483,647, then, if the remote number isn't 0, 1 to 1,000 above it. RFC 3261 section 12.2.2 asks only that a request's
 -- number is higher; the two limits are the Rust's. Local numbers rise by one and stop at 4,294,967,295.
-use Rattle.std.specs.Prelude.{ℕ, ◌+◌, ◌-◌, ◌^◌, min, Bool, true, false, cond, not, ◌&&◌, ◌||◌, leb, ltb, eqb}
-use Rattle.std.proofs.Math.Option.{Option, none, some}
+use Rattle.std.specs.Prelude.{ℕ, ◌+◌, ◌-◌, ◌^◌, min, cond, not, ◌||◌, leb, ltb, eqb}
+use Rattle.std.proofs.Math.Option.{some}
 use Rattle.limits.specs.Limits.{LimitSet}
 use Rattle.limits.specs.Outcome.{Outcome, given, refuse_by, refuse_if}
 use Rattle.limits.specs.declared.Refusal.TheVariants.{CSeqZero, CSeqTooLarge, InvalidCSeq, CSeqJumpTooLarge}

@@ -1,5 +1,5 @@
 -- The used bytes of a store: records one after another, one per identifier (document 01, "Record image" and refusal 3).
-use Rattle.std.specs.Prelude.{ℕ, zero, suc, ◌+◌, Bool, true, false, cond, not, ◌&&◌, List, [], ◌∷◌, length}
+use Rattle.std.specs.Prelude.{ℕ, zero, suc, ◌+◌, Bool, true, cond, not, ◌&&◌, List, [], ◌∷◌, length}
 use Rattle.std.proofs.Math.Option.{Option, none, some}
 use Rattle.text.specs.Text.{equal}
 use Rattle.codec.specs.Codec.{Reading, write_all}
