@@ -1,13 +1,12 @@
 -- The parts of an identifier and the Contact's URI that are read from a block lie in the block; those of a request's identifier at the places that
 -- `request_id` answers. Assumes nothing.
 use Prim.Native.Nat.{ℕ, ◌+◌, ◌-◌, ◌≤◌}
-use native.Mathlib.Nat.{add_assoc}
 use native.Mathlib.Omega.{arith}
 use mathlib.Core.Path.{◌≡◌, refl, sym, ap, subst, ◌∙◌}
 use mathlib.Core.List.{List}
 use mathlib.Core.Option.{Option, none, some}
 use lib.ListN.{length, take, drop, length-drop}
-use lib.Seq.{drop-drop, take-take, length-take-le}
+use lib.Seq.{drop-drop, take-take}
 use Rattle.edit.proofs.EditLaws.{drop_take}
 use Rattle.text.specs.Text.{Piece, moved_piece, moved}
 use Rattle.text.specs.Answers.{span_of}

@@ -1,16 +1,15 @@
 -- What a step of the numbers keeps. Assumes nothing.
-use Prim.Native.Nat.{ℕ, ◌≤◌, ◌<◌, ◌^◌, ◌+◌, ◌-◌}
+use Prim.Native.Nat.{ℕ, ◌≤◌, ◌-◌}
 use native.Mathlib.Omega.{arith}
-use mathlib.Core.Path.{◌≡◌, refl, sym, ap, subst, ◌∙◌}
+use mathlib.Core.Path.{◌≡◌, refl, subst}
 use mathlib.Core.Bool.{Bool, true, false, cond, not, ◌||◌}
-use mathlib.Core.Option.{Option, none, some}
 use lib.Dec.{leb, ltb, eqb}
 use Rattle.limits.specs.Limits.{LimitSet}
 use Rattle.limits.specs.Outcome.{Outcome, refused, given, refuse_if}
 use Rattle.limits.specs.declared.Refusal.{Refusal}
 use Rattle.limits.specs.declared.Refusal.TheVariants.{CSeqZero, CSeqTooLarge, InvalidCSeq, CSeqJumpTooLarge}
 use Rattle.record.specs.Record.{State, early, confirmed, terminated, Numbers}
-use Rattle.record.specs.Rules.{Kind, ack, other, with_remote, with_ack, increment, other_step, ack_step, step_of, request_step, confirm_step, confirmed_state, terminate_step, local_step, interval_step}
+use Rattle.record.specs.Rules.{Kind, ack, other, with_remote, with_ack, increment, other_step, ack_step, step_of, request_step, confirmed_state}
 
 pub given_same : {A : Type 0} {a b : A} → ◌≡◌ {A = Outcome A} (given a) (given b) → a ≡ b
 given_same e = cc

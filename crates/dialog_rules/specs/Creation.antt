@@ -2,7 +2,7 @@
 -- the CSeq from the request; Contact and Record-Route from the response for uac and from the request for uas. Departures of the Rust,
 -- ported: 100 makes an Early record too; the whole identifier is the response's; a CSeq of 0 is refused (RFC 3261 section 8.1.1.5 forbids those over
 -- 2,147,483,647); an interval must be 90 to 86,400 s.
-use Rattle.std.specs.Prelude.{ℕ, Bool, true, false, cond, not, List, [], ◌∷◌, map, length, ltb, eqb}
+use Rattle.std.specs.Prelude.{ℕ, Bool, true, false, cond, not, List, map, ltb, eqb}
 use Rattle.std.proofs.Math.Option.{Option, none, some}
 use Rattle.limits.specs.Limits.{LimitSet}
 use Rattle.limits.specs.Outcome.{Outcome, refused, given, cause_if, or_else, refuse_by, refuse_if, and_then, or_refuse}

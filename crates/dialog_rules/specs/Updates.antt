@@ -3,7 +3,7 @@
 -- replaces the target on every taken request, ACK included, and on every response, whatever its status, and is not measured; Session-Expires
 -- counts on every response, and a 2xx without it ends nothing; every 2xx confirms, whatever its request; a Terminated record still takes
 -- requests and responses.
-use Rattle.std.specs.Prelude.{ℕ, Bool, true, false, cond, List, [], ◌∷◌, map, reverse}
+use Rattle.std.specs.Prelude.{ℕ, Bool, false, cond, List, [], ◌∷◌, map, reverse}
 use Rattle.std.proofs.Math.Option.{Option, none, some}
 use Rattle.limits.specs.Limits.{LimitSet}
 use Rattle.limits.specs.Outcome.{Outcome, refused, given, and_then, or_refuse}
