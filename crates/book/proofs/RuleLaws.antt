@@ -3,7 +3,7 @@ use Prim.Native.Nat.{ℕ, ◌+◌, ◌-◌, ◌≤◌, ◌<◌}
 use native.Mathlib.Omega.{arith}
 use native.Mathlib.Nat.{le_trans}
 use mathlib.Core.Path.{◌≡◌, refl, sym, ap, subst, ◌∙◌}
-use mathlib.Core.Logic.{◌≢◌, ◌↔◌}
+use mathlib.Core.Logic.{◌≢◌}
 use mathlib.Core.Bool.{Bool, true, false, cond, not, ◌&&◌, ◌||◌, false≢true}
 use mathlib.Core.List.{List, [], ◌∷◌, ◌++◌}
 use mathlib.Core.Option.{Option, none, some}
@@ -21,7 +21,6 @@ use Rattle.text.specs.Answers.{length_cause}
 use Rattle.msg.specs.Block.{lines_after, is_block, block_cause}
 use Rattle.output.specs.Output.{fitted}
 use Rattle.prack_headers.specs.Sequence.{cseq_number}
-use Rattle.session_seconds.specs.Seconds.{seconds_cause}
 use Rattle.record.specs.Record.{State, early, confirmed, terminated, Record, Numbers, WellFormed, image}
 use Rattle.headers.specs.SessionExpires.{Interval, expires_named}
 use Rattle.record.specs.Changes.{with_numbers}
@@ -33,11 +32,11 @@ use Rattle.dialog_rules.proofs.RefusalLaws.{passed_test, both_given}
 use Rattle.dialog_rules.proofs.UpdateLaws.{Kept, response_kept, response_routes}
 use Rattle.dialog_id.specs.Ident.{Ident, ident_cause}
 use Rattle.book.specs.Calls.{Update, request, response, terminate, local_number, interval, Reading, get, find_by_request, find_by_call_id, count, all_ids, Call, put, update, remove, sweep, read, lent, image_in, Value, no_value, number, image_at, written}
-use Rattle.book.specs.Book.{Book, Contents, size, ident_of, is_of, first_place, named_in, name_of, find, find_named, place, amend, others, Staying, living, stays, is_terminated, keep, is_early, is_full, is_crowded, update_cause, reading_cause, cause_in, argument_cause, revised, told_by, place_of, place_named, identifiers_of, reply, Change, set, alter, only, unchanged, revise, apply, Taken, taking, judge, fitting, decide, after, answer_of}
-use Rattle.book.specs.Returned.{Lent, lent_after}
+use Rattle.book.specs.Book.{Book, Contents, size, ident_of, is_of, first_place, named_in, name_of, find, find_named, place, amend, others, living, keep, is_early, is_full, is_crowded, update_cause, reading_cause, cause_in, argument_cause, revised, told_by, place_of, place_named, reply, Change, set, alter, only, unchanged, apply, Taken, taking, judge, fitting, decide, after, answer_of}
+use Rattle.book.specs.Returned.{lent_after}
 use Rattle.book.specs.Trace.{All, stage}
-use Rattle.book.specs.History.{heard, InWindow, Returned}
-use Rattle.book.specs.Rules.{Has, Names, Of, NoneOf, own, holding, those, acknowledged, ended, next_local, numbered, lasting, Confirming, Answered, id_texts, is_early_other, Free, AtRemote, texts_in, texts_asked, texts_of, block_in, block_asked, block_of, Admitted, Done, TakenIf, CallRules}
+use Rattle.book.specs.History.{InWindow, Returned}
+use Rattle.book.specs.Rules.{Has, Names, Of, NoneOf, own, holding, those, ended, numbered, lasting, Confirming, Answered, id_texts, is_early_other, Free, AtRemote, texts_in, texts_asked, texts_of, block_in, block_asked, block_of, Admitted, Done, TakenIf, CallRules}
 use Rattle.book.proofs.BookLaws.{Distinct}
 use Rattle.book.proofs.WindowLaws.{no_refusal, window_taken, taken_window}
 use Rattle.book.proofs.ChangeLaws.{bytes_of, full_off, crowded_off, accepted}

@@ -1,11 +1,11 @@
 -- The book's own words are those of the rules (specs/Rules.antt): which record an identifier or a request names, what is replaced, dropped and counted, where an image lies, and
 -- what is given back. Assumes nothing.
-use Prim.Native.Nat.{ℕ, ◌+◌, ◌<◌}
+use Prim.Native.Nat.{ℕ, ◌+◌}
 use native.Mathlib.Omega.{arith}
 use native.Mathlib.Nat.{zero-add}
 use mathlib.Core.Path.{◌≡◌, refl, sym, ap, ap₂, subst, ◌∙◌}
 use mathlib.Core.Logic.{◌≢◌}
-use mathlib.Core.Bool.{Bool, true, false, cond, not, ◌&&◌, false≢true}
+use mathlib.Core.Bool.{Bool, true, false, cond, not, ◌&&◌}
 use mathlib.Core.List.{List, [], ◌∷◌, ◌++◌, append-nil}
 use mathlib.Core.Option.{Option, none, some, map, get_or}
 use lib.ListN.{length, length-append}
@@ -19,23 +19,22 @@ use Rattle.msg.specs.Block.{value_named}
 use Rattle.text.proofs.Sames.{equal_same, equal_is}
 use Rattle.codec.specs.Codec.{Reading, text, write_all}
 use Rattle.record.specs.Record.{State, early, confirmed, terminated, Record, WellFormed, image}
-use Rattle.record.specs.Rules.{Kind, ack, other}
+use Rattle.record.specs.Rules.{ack, other}
 use Rattle.codec.proofs.CodecLaws.{Bytes}
 use Rattle.record.proofs.WellFormedLaws.{image_round, image_back}
 use Rattle.dialog_rules.specs.OneImage.{alone, only_one, one_record}
 use Rattle.dialog_rules.specs.Updates.{ack_name, kind_of}
 use Rattle.dialog_rules.proofs.RefusalLaws.{was_read}
 use Rattle.dialog_id.specs.Ident.{Ident, same_ident}
-use Rattle.dialog_id.specs.DialogId.{Identifier, call_id_name, from_name, to_name, tag_named, identifier, identifier_of}
+use Rattle.dialog_id.specs.DialogId.{call_id_name, from_name, to_name, tag_named, identifier, identifier_of}
 use Rattle.book.specs.Calls.{Value, no_value, number, image_at, written}
-use Rattle.book.specs.Book.{Book, records_image, records_size, ident_of, is_of, swapped, named_in, find, find_named, place, amend, Staying, others, living, is_terminated, stays, keep, is_early, is_early_of, early_in, early_of, place_of, identifiers_of}
+use Rattle.book.specs.Book.{Book, records_image, records_size, ident_of, is_of, swapped, named_in, find, find_named, place, amend, others, living, is_terminated, stays, keep, is_early, is_early_of, early_of, place_of, identifiers_of}
 use Rattle.book.specs.Returned.{Lent, lent_after}
 use Rattle.book.specs.Trace.{All, stage}
-use Rattle.book.specs.Rules.{Has, text_of, Names, NoneOf, own, those, given_back, least_given, id_texts, is_early_other}
+use Rattle.book.specs.Rules.{Has, text_of, Names, NoneOf, those, given_back, least_given, id_texts, is_early_other}
 use Rattle.book.proofs.IdentLaws.{other_ident, id_cases}
-use Rattle.book.proofs.BookLaws.{not_none, Distinct, find_here, find_there, find_ident, others_all, others_here, keep_there}
+use Rattle.book.proofs.BookLaws.{not_none, Distinct, find_here, find_there, others_all, others_here, keep_there}
 use Rattle.book.proofs.ChangeLaws.{alone_is, one_formed}
-use Rattle.book.proofs.SentenceLaws.{new_last}
 use Rattle.book.proofs.SpliceLaws.{amend_at, place_held, keep_append}
 
 -- ---- identifiers

@@ -11,7 +11,7 @@ use lib.ListN.{length}
 use Rattle.text.specs.Text.{equal}
 use Rattle.text.proofs.Sames.{both, equal_same, equal_is}
 use Rattle.record.specs.Record.{State, early, confirmed, terminated, Record}
-use Rattle.book.specs.Trace.{All, or_earlier, is_some, stage, same_routes, Course, Step, remote_by, last_put, puts_anew, calls_since, Moment, between, moments, Leads, Story, Forward, route_changes, Confirms, OnlyConfirming, Told}
+use Rattle.book.specs.Trace.{All, or_earlier, is_some, stage, same_routes, Course, Step, remote_by, last_put, calls_since, Moment, between, moments, Leads, Forward, route_changes, OnlyConfirming, Told}
 use Rattle.book.proofs.BookLaws.{some_is, no_record}
 
 routes_same : (a : List (List ℕ)) → same_routes a a ≡ true
