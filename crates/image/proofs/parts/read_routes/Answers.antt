@@ -1,5 +1,4 @@
 -- `image::read_routes` meets its contract: at each turn the whole reading is that of the routes left, gone on with. Assumes nothing.
-use Prim.Native.Nat.{◌-◌}
 use native.Mathlib.Omega.{arith}
 use mathlib.Core.Path.{sym, ◌∙◌}
 use lib.ListN.{drop}
