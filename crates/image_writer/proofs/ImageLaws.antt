@@ -1,11 +1,11 @@
 -- A record's image is what the writer makes of its parts. Assumes nothing.
-use Prim.Native.Nat.{ℕ, ◌+◌, ◌*◌}
+use Prim.Native.Nat.{ℕ}
 use native.Mathlib.Omega.{arith}
-use mathlib.Core.Path.{◌≡◌, refl, sym, ap, ◌∙◌}
-use mathlib.Core.Bool.{Bool, true, false, ◌||◌}
+use mathlib.Core.Path.{◌≡◌, refl, ap, ◌∙◌}
+use mathlib.Core.Bool.{◌||◌}
 use mathlib.Core.List.{List, [], ◌∷◌, ◌++◌, append_assoc}
 use Rattle.codec.specs.Codec.{two}
-use Rattle.record.specs.Record.{Record, bit_of, stands, is_filled, is_given, is_sips, number, optional, refresher_field, fields, fields_of, routes_field, map_of, image}
+use Rattle.record.specs.Record.{Record, stands, is_filled, is_given, is_sips, number, optional, refresher_field, fields, fields_of, routes_field, map_of, image}
 use Rattle.record.proofs.MapLaws.{stands_0, stands_1, stands_2, stands_7, stands_8, stands_9, stands_10, stands_11, stands_12}
 use lib.Dec.{ltb}
 use Rattle.image_writer.specs.Parts.{Parts, parts_of, ids_bytes, uris_bytes, numbers_bytes, map_of_parts, state_byte_of, image_of, front_in, front_of}

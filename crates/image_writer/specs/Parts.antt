@@ -1,11 +1,11 @@
 -- Steps of the code: a record's image from its parts, in the order of document 01, "Record image": the bit map, the identifiers, the state byte, the URIs, the
 -- numbers, and the routes as a section that is encoded already (no bytes where there are no routes). That these are the bytes of `image`
 -- (record/specs/Record.antt) is the law `image_parts`. The front of an image is all before the routes: the law `image_front`.
-use Rattle.std.specs.Prelude.{ℕ, ◌+◌, ◌*◌, ◌<◌, Bool, true, false, List, ◌∷◌, [], ◌++◌, length, ltb}
+use Rattle.std.specs.Prelude.{ℕ, ◌+◌, ◌*◌, Bool, List, ◌∷◌, [], ◌++◌, length, ltb}
 use Rattle.limits.specs.Outcome.{Outcome, given, cause_if, refuse_by}
 use Rattle.limits.specs.declared.Refusal.TheVariants.{NoRoom}
 use Rattle.codec.specs.Codec.{two, text}
-use Rattle.record.specs.Record.{Numbers, Ids, Uris, StateByte, bit_of, is_filled, is_given, ids_map, id_text, number, optional, refresher_field, state_byte_number}
+use Rattle.record.specs.Record.{Numbers, Ids, Uris, bit_of, is_filled, is_given, ids_map, id_text, number, optional, refresher_field, state_byte_number}
 
 -- the parts of a record that are given
 pub record Parts : Type 0 where
