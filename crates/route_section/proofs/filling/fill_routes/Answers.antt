@@ -94,17 +94,18 @@ inside c = in_value (value-at-In-Route c) c.read_element.result (c.in-Route.u) (
 ended_by : (c : Left-lines) (x : Refusal) → c.lines-test.ended ≡ Refused x → whole-at-Left-lines c ≡ refused x
 ended_by c x e =
     elim c.lines-test.branch [
-      else-lines-test w ↦ absurd (not_ended (w.ended-is ∙ c.lines.invariant.1) e)
-    | then-lines-test+in-At+then-loop-from-test+in-At-next_part+then-count-ge-MAX_ROUTE_SET_SIZE w ↦
-        let s : Says (block-at-Left-lines c) (first_named record_route_name (lines_left (block-at-Left-lines c) c.lines.at)) w.in-At.v w.in-At.next = found_at (block-at-Left-lines c) record_route_name c.lines.at _ _ (omega arith) (sym w.find_from.ensures ∙ w.in-At.is) in
-        let t = c.lines.invariant.0 ∙ ap (filled rust_limits c.args.reversed (record { count = c.lines.count; size = c.lines.size; bytes = c.lines.out })) (open_line _ record_route_name c.lines.at _ _ s) ∙ w.loop-from.invariant.0 in
-        let d = part_told (take (w.in-At.v.start + w.in-At.v.length - w.in-At.v.start) (drop w.in-At.v.start (block-at-Left-lines c))) w.loop-from.from _ _ (sym w.next_part.ensures ∙ w.in-At-next_part.is) in
-        t ∙ fill_full _ _ _ _ _ _ _ _ d w.if-count-ge-MAX_ROUTE_SET_SIZE.true ∙ ap refused (same_cause w.ended-is e)
-    | then-lines-test+in-At+then-loop-from-test+in-At-next_part+else-count-ge-MAX_ROUTE_SET_SIZE+in-TooLong w ↦
-        let s : Says (block-at-Left-lines c) (first_named record_route_name (lines_left (block-at-Left-lines c) c.lines.at)) w.in-At.v w.in-At.next = found_at (block-at-Left-lines c) record_route_name c.lines.at _ _ (omega arith) (sym w.find_from.ensures ∙ w.in-At.is) in
-        let t = c.lines.invariant.0 ∙ ap (filled rust_limits c.args.reversed (record { count = c.lines.count; size = c.lines.size; bytes = c.lines.out })) (open_line _ record_route_name c.lines.at _ _ s) ∙ w.loop-from.invariant.0 in
-        let d = part_told (take (w.in-At.v.start + w.in-At.v.length - w.in-At.v.start) (drop w.in-At.v.start (block-at-Left-lines c))) w.loop-from.from _ _ (sym w.next_part.ensures ∙ w.in-At-next_part.is) in
-        t ∙ fill_long _ _ _ _ _ _ _ _ d w.if-count-ge-MAX_ROUTE_SET_SIZE.false _ w.read_element.ensures.value w.in-TooLong.is ∙ ap refused (same_cause w.ended-is e) ]
+      | else-lines-test w ↦ absurd (not_ended (w.ended-is ∙ c.lines.invariant.1) e)
+      | then-lines-test+in-At+then-loop-from-test+in-At-next_part+then-count-ge-MAX_ROUTE_SET_SIZE w ↦
+          let s : Says (block-at-Left-lines c) (first_named record_route_name (lines_left (block-at-Left-lines c) c.lines.at)) w.in-At.v w.in-At.next = found_at (block-at-Left-lines c) record_route_name c.lines.at _ _ (omega arith) (sym w.find_from.ensures ∙ w.in-At.is) in
+          let t = c.lines.invariant.0 ∙ ap (filled rust_limits c.args.reversed (record { count = c.lines.count; size = c.lines.size; bytes = c.lines.out })) (open_line _ record_route_name c.lines.at _ _ s) ∙ w.loop-from.invariant.0 in
+          let d = part_told (take (w.in-At.v.start + w.in-At.v.length - w.in-At.v.start) (drop w.in-At.v.start (block-at-Left-lines c))) w.loop-from.from _ _ (sym w.next_part.ensures ∙ w.in-At-next_part.is) in
+          t ∙ fill_full _ _ _ _ _ _ _ _ d w.if-count-ge-MAX_ROUTE_SET_SIZE.true ∙ ap refused (same_cause w.ended-is e)
+      | then-lines-test+in-At+then-loop-from-test+in-At-next_part+else-count-ge-MAX_ROUTE_SET_SIZE+in-TooLong w ↦
+          let s : Says (block-at-Left-lines c) (first_named record_route_name (lines_left (block-at-Left-lines c) c.lines.at)) w.in-At.v w.in-At.next = found_at (block-at-Left-lines c) record_route_name c.lines.at _ _ (omega arith) (sym w.find_from.ensures ∙ w.in-At.is) in
+          let t = c.lines.invariant.0 ∙ ap (filled rust_limits c.args.reversed (record { count = c.lines.count; size = c.lines.size; bytes = c.lines.out })) (open_line _ record_route_name c.lines.at _ _ s) ∙ w.loop-from.invariant.0 in
+          let d = part_told (take (w.in-At.v.start + w.in-At.v.length - w.in-At.v.start) (drop w.in-At.v.start (block-at-Left-lines c))) w.loop-from.from _ _ (sym w.next_part.ensures ∙ w.in-At-next_part.is) in
+          t ∙ fill_long _ _ _ _ _ _ _ _ d w.if-count-ge-MAX_ROUTE_SET_SIZE.false _ w.read_element.ensures.value w.in-TooLong.is ∙ ap refused (same_cause w.ended-is e)
+    ]
 
 pub returns-in_default-clause-answered : goal.returns-in_default-clause-answered
 returns-in_default-clause-answered c =
@@ -165,15 +166,17 @@ returns-clause-answered c =
     let e = c.in_default-ended.is in
     let b = block (goal.at.returns-clause-answered c).At-lines in
     elim c.lines-test.branch [
-      else-lines-test w ↦ rw (w.out-is, w.count-is, w.size-is) (held_answered _ _ (l.invariant.0 ∙ lines_done _ _ b l.at (first_done b record_route_name l.at (left_done b l.at w.lines-test.false))))
-    | then-lines-test+in-At+then-loop-from-test+in-At-next_part+then-count-ge-MAX_ROUTE_SET_SIZE w ↦ absurd (not_ended e w.ended-is)
-    | then-lines-test+in-At+then-loop-from-test+in-At-next_part+else-count-ge-MAX_ROUTE_SET_SIZE+in-TooLong w ↦ absurd (not_ended e w.ended-is) ]
+      | else-lines-test w ↦ rw (w.out-is, w.count-is, w.size-is) (held_answered _ _ (l.invariant.0 ∙ lines_done _ _ b l.at (first_done b record_route_name l.at (left_done b l.at w.lines-test.false))))
+      | then-lines-test+in-At+then-loop-from-test+in-At-next_part+then-count-ge-MAX_ROUTE_SET_SIZE w ↦ absurd (not_ended e w.ended-is)
+      | then-lines-test+in-At+then-loop-from-test+in-At-next_part+else-count-ge-MAX_ROUTE_SET_SIZE+in-TooLong w ↦ absurd (not_ended e w.ended-is)
+    ]
 
 pub returns-clause-bounded : goal.returns-clause-bounded
 returns-clause-bounded c =
     let l = c.lines in
     let e = c.in_default-ended.is in
     elim c.lines-test.branch [
-      else-lines-test w ↦ rw (w.count-is, w.size-is) (l.invariant.2, l.invariant.3)
-    | then-lines-test+in-At+then-loop-from-test+in-At-next_part+then-count-ge-MAX_ROUTE_SET_SIZE w ↦ absurd (not_ended e w.ended-is)
-    | then-lines-test+in-At+then-loop-from-test+in-At-next_part+else-count-ge-MAX_ROUTE_SET_SIZE+in-TooLong w ↦ absurd (not_ended e w.ended-is) ]
+      | else-lines-test w ↦ rw (w.count-is, w.size-is) (l.invariant.2, l.invariant.3)
+      | then-lines-test+in-At+then-loop-from-test+in-At-next_part+then-count-ge-MAX_ROUTE_SET_SIZE w ↦ absurd (not_ended e w.ended-is)
+      | then-lines-test+in-At+then-loop-from-test+in-At-next_part+else-count-ge-MAX_ROUTE_SET_SIZE+in-TooLong w ↦ absurd (not_ended e w.ended-is)
+    ]
