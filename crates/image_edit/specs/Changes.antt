@@ -4,7 +4,7 @@ use Rattle.std.specs.Prelude.{ℕ, List, length, drop}
 use Rattle.std.proofs.Math.Option.{Option, none, some}
 use Rattle.edit.specs.Edit.{spliced}
 use Rattle.codec.specs.Codec.{Reading}
-use Rattle.record.specs.Record.{Numbers, Record, image}
+use Rattle.record.specs.Record.{Record, image}
 
 -- ---- the used bytes with the record at a place changed
 

@@ -86,5 +86,5 @@ returns-clause-bytes_after c =
     let f : state.result ≡ state_byte_number (record { state = (meaning a.numbers).state; we_are_uac = a.r.we_are_uac; secure = a.r.uris.local_secure || a.r.uris.remote_secure }) =
     state.ensures ∙ ap (λ (t : Bool). state_byte_number (record { state = (meaning a.numbers).state; we_are_uac = a.r.we_are_uac; secure = t })) secure in
     (w.ensures.out_after)
-          ∙ ap (put_at a.at (two.write map.result)) ((b.ensures.out_after) ∙ ap (put_at a.r.state (state.result ∷ [])) (m.ensures.bytes_after))
-          ∙ numbers_edit s a.at a.r h (meaning a.numbers) a.bytes.now e f
+    ∙ ap (put_at a.at (two.write map.result)) ((b.ensures.out_after) ∙ ap (put_at a.r.state (state.result ∷ [])) (m.ensures.bytes_after))
+    ∙ numbers_edit s a.at a.r h (meaning a.numbers) a.bytes.now e f
