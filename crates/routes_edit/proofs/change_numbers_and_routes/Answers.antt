@@ -70,7 +70,7 @@ replace_sections-n-requires-clause-block_len_bound c =
 pub replace_sections-n-requires-clause-old_length_bound : goal.replace_sections-n-requires-clause-old_length_bound
 replace_sections-n-requires-clause-old_length_bound c =
     let o = ordered (goal.at.replace_sections-n-requires-clause-old_length_bound c).After-new_map-map in
-    (omega (arith, o.2, o.3), c.requires.used_in_bounds.0,omega (arith, grown (goal.at.replace_sections-n-requires-clause-old_length_bound c).After-new_map-map, c.requires.bytes_in_bounds))
+    (omega (arith, o.2, o.3), c.requires.used_in_bounds.0, omega (arith, grown (goal.at.replace_sections-n-requires-clause-old_length_bound c).After-new_map-map, c.requires.bytes_in_bounds))
 
 pub write_byte-requires : goal.write_byte-requires
 write_byte-requires c =
@@ -113,5 +113,5 @@ returns-clause-bytes_after c =
     let t : m.new.bytes ≡ over (spliced a.r.uris.end (a.r.end - a.r.uris.end) (numbers_bytes x ++ section_of l) s) a.bytes.now =
     (m.ensures.bytes_after) ∙ ap (λ (q : Outcome (List Piece)). over (spliced a.r.uris.end (a.r.end - a.r.uris.end) (numbers_bytes x ++ section_in true q) s) a.bytes.now) (read (goal.at.returns-clause-bytes_after c).After-new_map-map).is in
     (w.ensures.out_after)
-          ∙ ap (put_at a.at (two.write map.result)) ((b.ensures.out_after) ∙ ap (put_at a.r.state (state.result ∷ [])) t)
-          ∙ routes_edit s a.at a.r (stood (goal.at.returns-clause-bytes_after c).After-new_map-map) f x l (renewed (goal.at.returns-clause-bytes_after c).After-new_map-map) a.bytes.now (e ∙ ap (map_from x a.r.ids) (read (goal.at.returns-clause-bytes_after c).After-new_map-map).count_is) g
+    ∙ ap (put_at a.at (two.write map.result)) ((b.ensures.out_after) ∙ ap (put_at a.r.state (state.result ∷ [])) t)
+    ∙ routes_edit s a.at a.r (stood (goal.at.returns-clause-bytes_after c).After-new_map-map) f x l (renewed (goal.at.returns-clause-bytes_after c).After-new_map-map) a.bytes.now (e ∙ ap (map_from x a.r.ids) (read (goal.at.returns-clause-bytes_after c).After-new_map-map).count_is) g
