@@ -6,16 +6,14 @@ use mathlib.Core.List.{List, [], ◌∷◌, ◌++◌, append_assoc, append-nil}
 use mathlib.Core.Option.{Option, none, some}
 use lib.ListN.{length, drop, get_or, length-append, length-drop}
 use lib.Seq.{drop_at, drop-drop, get_or-drop}
-use Rattle.limits.specs.Outcome.{Outcome, refused, given, and_then, or_refuse}
+use Rattle.limits.specs.Outcome.{given, and_then, or_refuse}
 use Rattle.limits.specs.declared.Refusal.{Refusal}
 use Rattle.limits.specs.declared.Refusal.TheVariants.{BadStore}
-use Rattle.text.specs.Text.{Piece}
 use Rattle.text.specs.Answers.{lookup_of}
-use Rattle.text.specs.declared.Lookup.{Lookup}
 use Rattle.text.specs.declared.Lookup.TheVariants as lookup
 use Rattle.codec.specs.Codec.{Reading, two, write_all}
-use Rattle.record.specs.Record.{Record, Numbers, is_filled, uri_text, routes_field, image}
-use Rattle.codec.proofs.CodecLaws.{Bytes, bytes_all}
+use Rattle.record.specs.Record.{Record, is_filled, uri_text, routes_field, image}
+use Rattle.codec.proofs.CodecLaws.{bytes_all}
 use Rattle.record.proofs.WellFormedLaws.{image_back}
 use Rattle.image.specs.Places.{ids_of, uris_of, record_places}
 use Rattle.image.specs.declared.RecordAt.{RecordAt}

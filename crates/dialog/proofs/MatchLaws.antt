@@ -1,13 +1,13 @@
 -- A request's identifier held against a record's: the bytes compared are the texts. Assumes nothing.
-use Prim.Native.Nat.{ℕ, ◌+◌, ◌-◌, ◌≤◌}
+use Prim.Native.Nat.{ℕ, ◌+◌, ◌≤◌}
 use native.Mathlib.Omega.{arith}
 use mathlib.Core.Path.{◌≡◌, refl, sym, ap, subst, ◌∙◌}
-use mathlib.Core.Bool.{Bool, true, false, ◌&&◌}
+use mathlib.Core.Bool.{Bool, ◌&&◌}
 use mathlib.Core.List.{List, [], ◌∷◌}
 use mathlib.Core.Option.{Option, none, some}
-use lib.ListN.{length, take, drop}
+use lib.ListN.{length, drop}
 use Rattle.limits.specs.Limits.{LimitSet}
-use Rattle.limits.specs.Outcome.{given, refuse_by, and_then, or_refuse, check_of}
+use Rattle.limits.specs.Outcome.{given, or_refuse, check_of}
 use Rattle.limits.specs.declared.Refusal.{Refusal}
 use Rattle.limits.specs.declared.Refusal.TheVariants.{BadStore}
 use Rattle.limits.specs.declared.Check.{Check}
@@ -20,10 +20,10 @@ use Rattle.dialog_id.specs.declared.DialogId.{DialogId}
 use Rattle.codec.specs.Codec.{Reading}
 use Rattle.record.specs.Record.{Record, image}
 use Rattle.codec.proofs.CodecLaws.{Bytes}
-use Rattle.image.specs.Places.{record_places, ids_of, ids_places}
+use Rattle.image.specs.Places.{record_places, ids_of}
 use Rattle.image.specs.declared.RecordAt.{RecordAt}
 use Rattle.image_writer.proofs.LieLaws.{Lie, record_lies}
-use Rattle.codec.proofs.SizeLaws.{Got, got}
+use Rattle.codec.proofs.SizeLaws.{got}
 use Rattle.image.proofs.SizeLaws.{record_size, record_sized}
 use Rattle.dialog_rules.specs.OneImage.{alone, only_one, one_record}
 use Rattle.dialog.specs.Readings.{image_answer}

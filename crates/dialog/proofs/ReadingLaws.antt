@@ -1,17 +1,16 @@
 -- One record's image given by itself: what the reading of it answered. Assumes nothing.
 use Prim.Native.Nat.{ℕ, ◌≤◌, ◌<◌}
 use native.Mathlib.Omega.{arith}
-use mathlib.Core.Path.{◌≡◌, refl, sym, ap, subst, ◌∙◌}
-use mathlib.Core.Bool.{Bool, true, false}
+use mathlib.Core.Path.{◌≡◌, refl, ap, ◌∙◌}
+use mathlib.Core.Bool.{Bool}
 use mathlib.Core.List.{List, [], ◌∷◌}
 use mathlib.Core.Option.{Option, none, some}
 use lib.ListN.{length, drop, length-drop, drop_of_length-le}
-use Rattle.limits.specs.Outcome.{Outcome, refused, given, and_then, or_refuse}
+use Rattle.limits.specs.Outcome.{given, or_refuse}
 use Rattle.limits.specs.declared.Refusal.{Refusal}
 use Rattle.limits.specs.declared.Refusal.TheVariants.{BadStore}
 use Rattle.session_timer_manager.specs.Intervals.{refresh_due}
-use Rattle.codec.specs.Codec.{Reading}
-use Rattle.record.specs.Record.{Record, Numbers, image}
+use Rattle.record.specs.Record.{Record, image}
 use Rattle.record.specs.NumbersForm.{number_in}
 use Rattle.record.proofs.NumberLaws.{number_same}
 use Rattle.image.specs.Places.{record_from, record_places}
