@@ -1,5 +1,4 @@
 -- `ordered_store::compare` meets its contract: at each turn the order of the whole is that of the rests. Assumes nothing.
-use Prim.Native.Nat.{◌-◌}
 use native.Mathlib.Omega.{arith}
 use mathlib.Core.Path.{sym, ◌∙◌}
 use Rattle.ordered_store.proofs.CompareLaws.{ended_after, ended_before, ended_same, less, more, go_on}
