@@ -1,5 +1,4 @@
 -- `finding::search` meets its contract: what is asked of the store is asked of the entries from `at` on. Assumes nothing.
-use Prim.Native.Nat.{◌-◌}
 use mathlib.Core.Path.{◌≡◌, sym, ap, ◌∙◌}
 use lib.ListN.{drop}
 use Rattle.codec.proofs.CodecLaws.{bytes_all}
