@@ -11,9 +11,6 @@ returns-in_default c =
     let old : _ × _ = unread_ended a.bytes.now a.used (λ x. given (confirm_step x)) (sym c.in_default.is ∙ c.read_used.ensures) in
     record { value = old.0; bytes_after = old.1 }
 
-pub update_numbers-requires : goal.update_numbers-requires
-update_numbers-requires c = sym c.in-Of.is ∙ c.read_used.ensures
-
 pub returns : goal.returns
 returns c =
     let a = c.args in

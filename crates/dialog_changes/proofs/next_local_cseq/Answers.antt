@@ -34,9 +34,6 @@ returns-in_default-clause-bytes_after c =
     let e = sym c.in_default.is ∙ c.read_used.ensures in
     (unread_ended a.bytes.now a.used (λ x. given (local_step x)) e).1
 
-pub update_numbers-requires : goal.update_numbers-requires
-update_numbers-requires c = sym c.in-Of.is ∙ c.read_used.ensures
-
 pub returns-in-Length-clause-value : goal.returns-in-Length-clause-value
 returns-in-Length-clause-value c =
     let a = c.args in
