@@ -55,7 +55,7 @@ write_four-requires c =
 pub insert-requires-clause-at_le_used : goal.insert-requires-clause-at_le_used
 insert-requires-clause-at_le_used c =
     let w = lacks (key_of_ident (i (goal.at.insert-requires-clause-at_le_used c).After-check_lengths)) (c.args.bytes.now) (c.args.used) (gap (goal.at.insert-requires-clause-at_le_used c).In-Free) in
-    (place_within (c.args.bytes.now) (c.args.used) (known (goal.at.insert-requires-clause-at_le_used c).After-check_lengths) (i (goal.at.insert-requires-clause-at_le_used c).After-check_lengths) w,w.within)
+    (place_within (c.args.bytes.now) (c.args.used) (known (goal.at.insert-requires-clause-at_le_used c).After-check_lengths) (i (goal.at.insert-requires-clause-at_le_used c).After-check_lengths) w, w.within)
 
 pub returns-in-Held : goal.returns-in-Held
 returns-in-Held c =
