@@ -1,7 +1,7 @@
 -- The bytes of what is held for one identifier text. Document 01, "Intervals, PRACK, RSeq": the layout is the team's, "written in docs/ first"; it is that of
 -- docs/LAYOUTS.md, "The PRACK store". Big-endian: the text with two length bytes, the last cleanup's time in eight bytes, a byte that is 1 where a list stands
 -- and otherwise 0; then, where it stands, a count byte and the entries of 20 bytes each. A list has at most as many entries as the limits say.
-use Rattle.std.specs.Prelude.{ℕ, ◌+◌, ◌<◌, ◌≡◌, Bool, true, false, List, [], ◌∷◌, ◌++◌, length, leb, eqb}
+use Rattle.std.specs.Prelude.{ℕ, ◌<◌, ◌≡◌, Bool, true, false, List, [], ◌∷◌, ◌++◌, length, leb, eqb}
 use Rattle.std.proofs.Math.Option.{Option, none, some}
 use Rattle.limits.specs.Limits.{LimitSet}
 use Rattle.codec.specs.Codec.{Reading, Codec, Pair, then, such, renamed, mapped, byte, two, four, eight, text, counted}

@@ -1,5 +1,4 @@
 -- `prack_body::are_entries` meets its contract: at each turn the answer is that of the entries left. Assumes nothing.
-use Prim.Native.Nat.{◌-◌}
 use mathlib.Core.Path.{sym, ◌∙◌}
 use borrow.Author.Tests.{not-true, not-false, le-leb, lt-leb}
 use Rattle.prack_body.proofs.ReadLaws.{entry_at, entry_method, entry_flag, turn, stop, done}
