@@ -1,5 +1,4 @@
 -- `finding::first_of` meets its contract: at each turn the answer is that of the entries left. Assumes nothing.
-use Prim.Native.Nat.{◌-◌}
 use mathlib.Core.Path.{sym, ◌∙◌}
 use Rattle.prack_body.proofs.BodyLaws.{count_is}
 use Rattle.prack_list.proofs.FindLaws.{next_in, find_in, find_found, find_further, nowhere}

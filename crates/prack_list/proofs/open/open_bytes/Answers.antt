@@ -1,5 +1,5 @@
 -- `open::open_bytes` meets its contract: at each turn the bytes written and those of the entries left are all. Assumes nothing.
-use Prim.Native.Nat.{ℕ, ◌+◌, ◌-◌}
+use Prim.Native.Nat.{ℕ, ◌+◌}
 use mathlib.Core.Path.{◌≡◌, sym, ap, subst, ◌∙◌}
 use mathlib.Core.List.{List}
 use lib.ListN.{length}
@@ -18,25 +18,28 @@ put_open-to-requires c =
 pub loop-i-preserved : goal.loop-i-preserved
 loop-i-preserved c =
     let a = c.args in
-    elim c.if-body-i-eq0.branch [ then-body-i-eq0 w ↦ let n : length c.if-body-i-eq0.out ≡ length c.loop-i.out = ap length w.out-is ∙ w.put_open-to.auto.out in (
-      omega arith,
-      (
+    elim c.if-body-i-eq0.branch [
+      | then-body-i-eq0 w ↦ let n : length c.if-body-i-eq0.out ≡ length c.loop-i.out = ap length w.out-is ∙ w.put_open-to.auto.out in (
         omega arith,
-        λ t h.
-            let x = next_entry h c.loop-i.i (omega arith) in
-            open_more (c.loop-i.invariant.1.1 t h) x w.if-body-i-eq0.true (w.to-is ∙ w.put_open-to.ensures.value) (w.out-is ∙ (w.put_open-to.ensures.out_after) x.entry x.more x.lies),
-      ),
-    ) | else-body-i-eq0 w ↦ let k : c.if-body-i-eq0.to ≡ c.loop-i.to = w.to-is in
-    let n : length c.if-body-i-eq0.out ≡ length c.loop-i.out = ap length w.out-is in (
-      omega arith,
-      (
-        omega arith,
-        λ t h.
-            let x = next_entry h c.loop-i.i (omega arith) in
-            subst (λ (m : ℕ). Opening (entries_of t.list) a.out.now (c.loop-i.i + 1) m c.if-body-i-eq0.out) (sym k)
-            (subst (λ (o : List ℕ). Opening (entries_of t.list) a.out.now (c.loop-i.i + 1) c.loop-i.to o) (sym w.out-is) (open_less (c.loop-i.invariant.1.1 t h) x w.if-body-i-eq0.false)),
-      ),
-    ) ]
+        (
+          omega arith,
+          λ t h.
+              let x = next_entry h c.loop-i.i (omega arith) in
+              open_more (c.loop-i.invariant.1.1 t h) x w.if-body-i-eq0.true (w.to-is ∙ w.put_open-to.ensures.value) (w.out-is ∙ (w.put_open-to.ensures.out_after) x.entry x.more x.lies),
+        ),
+      )
+      | else-body-i-eq0 w ↦ let k : c.if-body-i-eq0.to ≡ c.loop-i.to = w.to-is in
+          let n : length c.if-body-i-eq0.out ≡ length c.loop-i.out = ap length w.out-is in (
+            omega arith,
+            (
+              omega arith,
+              λ t h.
+                  let x = next_entry h c.loop-i.i (omega arith) in
+                  subst (λ (m : ℕ). Opening (entries_of t.list) a.out.now (c.loop-i.i + 1) m c.if-body-i-eq0.out) (sym k)
+                  (subst (λ (o : List ℕ). Opening (entries_of t.list) a.out.now (c.loop-i.i + 1) c.loop-i.to o) (sym w.out-is) (open_less (c.loop-i.invariant.1.1 t h) x w.if-body-i-eq0.false)),
+            ),
+          )
+    ]
 
 pub returns : goal.returns
 returns c = λ t h. open_done (c.loop-i.invariant.1.1 t h) (omega (arith, entry_count h))
