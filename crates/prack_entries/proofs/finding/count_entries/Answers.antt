@@ -1,5 +1,4 @@
 -- `finding::count_entries` meets its contract: what is asked of the store is asked of what is held after the last one read. Assumes nothing.
-use Prim.Native.Nat.{◌-◌}
 use mathlib.Core.Path.{sym, ◌∙◌}
 use borrow.Author.Tests.{not-true, not-false}
 use Rattle.codec.proofs.CodecLaws.{Bytes, bytes_all}

@@ -1,5 +1,5 @@
 -- `finding::search` meets its contract: what is asked of the store is asked of what is held from `at` on. Assumes nothing.
-use Prim.Native.Nat.{ℕ, ◌-◌}
+use Prim.Native.Nat.{ℕ}
 use mathlib.Core.Path.{◌≡◌, sym, ap, ◌∙◌}
 use lib.ListN.{drop}
 use Rattle.codec.proofs.CodecLaws.{bytes_all}

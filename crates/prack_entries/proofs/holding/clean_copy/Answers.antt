@@ -67,4 +67,3 @@ returns-in-Broken-clause-lower_bound c =
 pub returns-in-Broken-clause-by_index : goal.returns-in-Broken-clause-by_index
 returns-in-Broken-clause-by_index c =
     absurd (broken_not c.requires.1.0 (c.args.bytes.now) (c.args.used) (renamed c.requires.1.1 c.in-Broken.is))
-

@@ -19,4 +19,3 @@ pub returns-clause-bytes_after : goal.returns-clause-bytes_after
 returns-clause-bytes_after c =
     let a = c.args in
     (second2 (inserted a.id.now a.body.now a.bytes.now a.used a.at c.requires.at_le_used.0 c.requires.at_le_used.1 refl c.if-bytes-used.false c.move_tail-n.ensures.value (c.move_tail-n.ensures.bytes_after) c.move_tail-n.auto.bytes (c.write_text-behind.ensures.value, c.write_text-behind.ensures.out_after) c.put.ensures))
-

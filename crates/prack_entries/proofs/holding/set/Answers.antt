@@ -52,7 +52,7 @@ replace-requires c =
 pub insert-requires-clause-at_le_used : goal.insert-requires-clause-at_le_used
 insert-requires-clause-at_le_used c =
     let w = renamed c.requires.1.1 c.in-Free.is in
-    ((lacking (c.args.id.now) (c.args.bytes.now) (c.args.used) c.in-Free.at (known-at-In-Free (goal.at.insert-requires-clause-at_le_used c).In-Free) w).1.1,w.within)
+    ((lacking (c.args.id.now) (c.args.bytes.now) (c.args.used) c.in-Free.at (known-at-In-Free (goal.at.insert-requires-clause-at_le_used c).In-Free) w).1.1, w.within)
 
 pub returns-else-bytes-used-clause-value : goal.returns-else-bytes-used-clause-value
 returns-else-bytes-used-clause-value c =
