@@ -1,0 +1,18 @@
+-- `dialog_responses::answer` meets its contract. Assumes nothing.
+use mathlib.Core.Path.{sym, ap, ◌∙◌}
+use mathlib.Core.Bool.{Bool, cond}
+use Rattle.headers.specs.SessionExpires.{expires_named}
+use Rattle.record.specs.NumbersForm.{meaning}
+use Rattle.record.specs.Rules.{confirm_step}
+use Rattle.dialog_rules.specs.Updates.{interval_from}
+use Rattle.dialog_responses.proofs.answer.Goals as goal
+
+pub returns-then-is_success : goal.returns-then-is_success
+returns-then-is_success c =
+    let y = interval_from (expires_named c.args.block.now) (meaning c.args.x) in
+    c.confirm.ensures ∙ ap confirm_step c.with_interval-y.ensures ∙ ap (λ (t : Bool). cond t (confirm_step y) y) (sym c.if-is_success.true ∙ c.is_success.ensures)
+
+pub returns : goal.returns
+returns c =
+    let y = interval_from (expires_named c.args.block.now) (meaning c.args.x) in
+    c.with_interval-y.ensures ∙ ap (λ (t : Bool). cond t (confirm_step y) y) (sym c.if-is_success.false ∙ c.is_success.ensures)
