@@ -16,7 +16,7 @@ use Rattle.ordered_store.specs.Entries.{Key, entry_of, set_entry}
 use Rattle.ordered_store.specs.Run.{Decided}
 use Rattle.ordered_store.specs.History.{Call, decide, after, answer_of, content}
 use Rattle.ordered_store.proofs.EntryLaws.{set_found, found_key}
-use Rattle.ordered_store.proofs.HistoryLaws.{Accepted, accepted}
+use Rattle.ordered_store.proofs.HistoryLaws.{accepted}
 use Rattle.prack_body.specs.Lists.{Pending, Tracked, is_due, cleaned, cleaned_list, first_of_rseq, acknowledge, marked}
 use Rattle.prack_body.specs.Layout.{tracked_form}
 use Rattle.prack_entries.specs.Entries.{key_of_text, key_of, held_for, clean_for}

@@ -1,7 +1,6 @@
 -- `get_pending` meets its contract: what is held is cleaned, the output's room is measured, then the store and the output are written. Assumes nothing.
 use Prim.Native.Nat.{ℕ, ◌≤◌}
 use mathlib.Core.Path.{◌≡◌, sym, ◌∙◌}
-use mathlib.Core.Logic.{⊎_elim}
 use mathlib.Core.Bool.{false}
 use mathlib.Core.List.{List}
 use mathlib.Core.Option.{none}
@@ -212,4 +211,3 @@ returns-in-Refused-clause-out_after c =
     let w = c.set.ensures in
     let h : length (waiting (goal.at.returns-in-Refused-clause-out_after c).After-clean_copy-n) ≤ length (c.args.out.now) = omega (arith, c.if-out-open_size.false, size (goal.at.returns-in-Refused-clause-out_after c).After-open_size) in
     (fourth4 (listed_kept c.set.new.bytes (c.args.used) (set_refused (c.args.bytes.now) (c.args.used) (given (written (waiting (goal.at.returns-in-Refused-clause-out_after c).After-clean_copy-n))) (stored (goal.at.returns-in-Refused-clause-out_after c).After-clean_copy-n) (settled (goal.at.returns-in-Refused-clause-out_after c).After-clean_copy-n h) (w.value (S (goal.at.returns-in-Refused-clause-out_after c).In_default) (clean (goal.at.returns-in-Refused-clause-out_after c).After-clean_copy-n) (same (goal.at.returns-in-Refused-clause-out_after c).After-clean_copy-n) (copied (goal.at.returns-in-Refused-clause-out_after c).After-clean_copy-n).are) ((w.bytes_after) (S (goal.at.returns-in-Refused-clause-out_after c).In_default) (clean (goal.at.returns-in-Refused-clause-out_after c).After-clean_copy-n) (same (goal.at.returns-in-Refused-clause-out_after c).After-clean_copy-n) (copied (goal.at.returns-in-Refused-clause-out_after c).After-clean_copy-n).are) c.in-Refused.is) (c.args.out.now)))
-

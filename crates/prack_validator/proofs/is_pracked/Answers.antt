@@ -144,4 +144,3 @@ returns-in-Broken-clause-bytes_value c =
 pub returns-in-Broken-clause-used_value : goal.returns-in-Broken-clause-used_value
 returns-in-Broken-clause-used_value c =
     (second_second (pracked_kept (c.args.bytes.now) (c.args.used) (by_store (c.args.bytes.now) (c.args.used) (is_pracked c.args.id.now c.args.rseq) (clear (goal.at.returns-in-Broken-clause-used_value c).After-find) (c.args.id.now) (sym c.find.ensures ∙ c.in-Broken.is))))
-

@@ -1,6 +1,5 @@
 -- `register` meets its contract: what is held is cleaned, one response is pushed, and the store is written. Assumes nothing.
 use mathlib.Core.Path.{◌≡◌, sym, ◌∙◌}
-use mathlib.Core.Logic.{⊎_elim}
 use mathlib.Core.Bool.{true, false}
 use mathlib.Core.Option.{none}
 use lib.ListN.{length}
@@ -11,7 +10,7 @@ use Rattle.limits.specs.Outcome.{given}
 use Rattle.text.specs.Answers.{too_long}
 use Rattle.methods.specs.Methods.{is_method}
 use Rattle.output.specs.Output.{fitted}
-use Rattle.codec.proofs.CodecLaws.{Bytes, bytes_all}
+use Rattle.codec.proofs.CodecLaws.{bytes_all}
 use Rattle.ordered_store.specs.Entries.{set_entry}
 use Rattle.prack_body.specs.Lists.{Pending, Tracked, registered, pending_of}
 use Rattle.prack_body.specs.Body.{Holds}
@@ -22,7 +21,6 @@ use Rattle.prack_entries.proofs.SlotLaws.{sought}
 use Rattle.prack_validator.specs.Validator.{Action, register, no_value, action_cause}
 use Rattle.prack_validator.proofs.OperationLaws.{long_cause_lem, rest_cause, short, method_cause_lem, by_arguments, by_store, by_fitting, register_decides, clean_id}
 use Rattle.prack_validator.proofs.AnswerLaws.{written_kept, written_set}
-use native.Mathlib.Omega.{arith}
 use Rattle.prack_validator.proofs.register.Goals as goal
 use Rattle.prack_validator.proofs.register.Goals.{After-clean_copy-n, After-find-slot, After-push-m, In_default}
 
@@ -149,4 +147,3 @@ returns-clause-used_value c =
     let w : Sought (c.args.id.now) (c.args.bytes.now) (c.args.used) c.find-slot.result = S (goal.at.returns-clause-used_value c).In_default in
     let n : x.id ≡ c.args.id.now = clean_id (bytes_all (c.args.bytes.now) (λ i. (c.slice_known-1.given i).fits)) w (pending_of c.args.rseq c.args.cseq c.args.method c.args.code c.args.time).registered_at in
     (second_second (written_set (c.args.bytes.now) (c.args.used) no_value (fitted (length (c.args.bytes.now)) (encode_tracked rust_limits (set_entry key_of x w.list))) (by_fitting (c.args.bytes.now) (c.args.used) (register c.args.id.now c.args.rseq c.args.cseq c.args.method c.args.code c.args.time) (clear (goal.at.returns-clause-used_value c).After-find-slot) w (set_entry key_of x w.list) (given no_value) (register_decides (c.args.id.now) w.list (pending_of c.args.rseq c.args.cseq c.args.method c.args.code c.args.time).rseq (pending_of c.args.rseq c.args.cseq c.args.method c.args.code c.args.time).cseq (pending_of c.args.rseq c.args.cseq c.args.method c.args.code c.args.time).method (pending_of c.args.rseq c.args.cseq c.args.method c.args.code c.args.time).code (pending_of c.args.rseq c.args.cseq c.args.method c.args.code c.args.time).registered_at)) (c.set.ensures.value w x n (pushed (goal.at.returns-clause-used_value c).After-push-m).are) ((c.set.ensures.bytes_after) w x n (pushed (goal.at.returns-clause-used_value c).After-push-m).are)))
-

@@ -1,7 +1,6 @@
 -- `validate` meets its contract: what is held is cleaned, the PRACK held against it, and the store written, whatever the verdict. Assumes nothing.
 use Prim.Native.Nat.{ℕ}
 use mathlib.Core.Path.{◌≡◌, sym, ◌∙◌}
-use mathlib.Core.Logic.{⊎_elim}
 use mathlib.Core.Bool.{false}
 use mathlib.Core.List.{List}
 use mathlib.Core.Option.{none}
@@ -24,7 +23,6 @@ use Rattle.prack_entries.proofs.SlotLaws.{sought}
 use Rattle.prack_validator.specs.Validator.{Action, validate, action_cause, judged_for, marked_for, rack_value, ran}
 use Rattle.prack_validator.proofs.OperationLaws.{long_cause_lem, rest_cause, short, left_by, by_arguments, by_store, by_fitting, validate_decides, clean_id}
 use Rattle.prack_validator.proofs.AnswerLaws.{validated_kept, validated_taken, set_taken, set_refused}
-use native.Mathlib.Omega.{arith}
 use Rattle.prack_validator.proofs.validate.Goals as goal
 use Rattle.prack_validator.proofs.validate.Goals.{After-check_block, After-clean_copy-n, After-find-slot, After-hold_against-verdict, In_default-slot, Start}
 
@@ -156,4 +154,3 @@ pub returns-in-Refused-set-clause-bytes_after : goal.returns-in-Refused-set-clau
 returns-in-Refused-set-clause-bytes_after c =
     let w = c.set.ensures in
     (second2 (validated_kept c.set.new.bytes (c.args.used) (set_refused (c.args.bytes.now) (c.args.used) (rack_value (verdict (goal.at.returns-in-Refused-set-clause-bytes_after c).After-hold_against-verdict)) (stored (goal.at.returns-in-Refused-set-clause-bytes_after c).After-hold_against-verdict) (settled (goal.at.returns-in-Refused-set-clause-bytes_after c).After-hold_against-verdict) (w.value (S (goal.at.returns-in-Refused-set-clause-bytes_after c).In_default-slot) (marked (goal.at.returns-in-Refused-set-clause-bytes_after c).After-hold_against-verdict) (same (goal.at.returns-in-Refused-set-clause-bytes_after c).After-hold_against-verdict) (held (goal.at.returns-in-Refused-set-clause-bytes_after c).After-hold_against-verdict).are) ((w.bytes_after) (S (goal.at.returns-in-Refused-set-clause-bytes_after c).In_default-slot) (marked (goal.at.returns-in-Refused-set-clause-bytes_after c).After-hold_against-verdict) (same (goal.at.returns-in-Refused-set-clause-bytes_after c).After-hold_against-verdict) (held (goal.at.returns-in-Refused-set-clause-bytes_after c).After-hold_against-verdict).are) c.in-Refused-set.is)))
-
