@@ -1,4 +1,3 @@
-use Prim.Native.Nat.{◌-◌}
 use mathlib.Core.Path.{◌≡◌}
 use Rattle.record_walk.specs.Walk.{texts_end}
 use Rattle.record_walk.proofs.texts_end.Given as goal
