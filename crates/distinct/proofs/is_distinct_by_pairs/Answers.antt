@@ -1,5 +1,4 @@
 -- `distinct::is_distinct_by_pairs` meets its contract: the records passed have identifiers of their own. Assumes nothing.
-use Prim.Native.Nat.{◌-◌}
 use native.Mathlib.Omega.{arith}
 use mathlib.Core.Path.{◌≡◌, sym, ap, subst, ◌∙◌}
 use borrow.Author.Tests.{not-true, not-false}

@@ -1,13 +1,13 @@
 -- `merging::merge` meets its contract: what is written comes before what is left of each run, and at the end one run has nothing left. Assumes nothing.
-use Prim.Native.Nat.{ℕ, ◌+◌, ◌-◌, ◌≤◌, ◌<◌}
+use Prim.Native.Nat.{ℕ, ◌-◌, ◌≤◌, ◌<◌}
 use native.Mathlib.Omega.{arith}
-use mathlib.Core.Path.{◌≡◌, sym, ap, subst, ◌∙◌}
+use mathlib.Core.Path.{sym, ap, subst, ◌∙◌}
 use mathlib.Core.Logic.{◌⊎◌, inl, inr}
 use mathlib.Core.List.{List}
 use lib.ListN.{length, take, drop}
 use Rattle.distinct.specs.Sorting.{Sorted, put}
 use Rattle.distinct.proofs.Ascents.{each_at}
-use Rattle.distinct.proofs.Merges.{Merging, begin, turn_left, turn_right, met, ended}
+use Rattle.distinct.proofs.Merges.{begin, turn_left, turn_right, met, ended}
 use Rattle.distinct.proofs.merging.merge.Goals as goal
 use Rattle.distinct.proofs.merging.merge.Goals.{then-loop-i-test+else-j-places, else-loop-i-test}
 
@@ -52,6 +52,6 @@ returns c =
     let a = c.args in
     let l = c.loop-i in
     let done : (a.mid ≤ l.i) ⊎ (length a.places.now ≤ l.j) =
-        elim c.loop-i-test.branch [ then-loop-i-test+else-j-places w ↦ inr w.if-j-places.false | else-loop-i-test w ↦ inl w.loop-i-test.false ] in
+    elim c.loop-i-test.branch [ then-loop-i-test+else-j-places w ↦ inr w.if-j-places.false | else-loop-i-test w ↦ inl w.loop-i-test.false ] in
     subst (Sorted a.bytes.now a.places.now) (sym (c.copy_at-2.ensures ∙ ap (λ (x : List ℕ). put x l.j (take (length a.places.now - l.j) (drop l.j a.places.now))) c.copy_at.ensures))
     (ended a.bytes.now a.places.now a.mid c.requires.within c.requires.each l.out l.i l.j l.invariant done)

@@ -1,5 +1,4 @@
 -- `pairs::is_alone` meets its contract: what is asked of the records from the start is asked of those left. Assumes nothing.
-use Prim.Native.Nat.{◌-◌}
 use native.Mathlib.Omega.{arith}
 use mathlib.Core.Path.{◌≡◌, sym, ap, subst, ◌∙◌}
 use Rattle.codec.proofs.CodecLaws.{Bytes, bytes_all}
