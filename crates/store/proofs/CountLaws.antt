@@ -6,7 +6,7 @@ use mathlib.Core.List.{List}
 use mathlib.Core.Option.{Option, none, some}
 use lib.ListN.{length, take}
 use borrow.Author.Tests.{lt-ltb, le-ltb}
-use Rattle.limits.specs.Outcome.{refused, given, or_refuse}
+use Rattle.limits.specs.Outcome.{or_refuse}
 use Rattle.limits.specs.declared.Refusal.TheVariants.{BadStore}
 use Rattle.record.specs.Record.{Record}
 use Rattle.record.specs.Store.{decode_all}

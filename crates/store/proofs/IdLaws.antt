@@ -5,8 +5,7 @@ use mathlib.Core.Path.{◌≡◌, ap}
 use mathlib.Core.List.{List, [], ◌∷◌}
 use lib.ListN.{length}
 use Rattle.text.specs.declared.Span.{Span}
-use Rattle.image.specs.Places.{id_span, id_end, ids_places}
-use Rattle.image.specs.declared.sections.IdsAt.{IdsAt}
+use Rattle.image.specs.Places.{id_end, ids_places}
 use Rattle.record.specs.Record.{Ids}
 use Rattle.record_walk.specs.Walk.{id_bytes}
 use Rattle.store.specs.Identifiers.{TextTo}

@@ -1,7 +1,6 @@
 -- A step of the code: the records of a lent store, and how many they are. Document 01, refusal 3: the used length over the lent, or used bytes that aren't a
 -- store's. What `count` answers is `run` (book/specs/Store.antt).
 use Rattle.std.specs.Prelude.{ℕ, List, length, take, ltb}
-use Rattle.std.proofs.Math.Option.{Option, none, some}
 use Rattle.limits.specs.Outcome.{Outcome, refused, given, refuse_if, or_refuse}
 use Rattle.limits.specs.declared.Refusal.TheVariants.{BadStore}
 use Rattle.record.specs.Record.{Record}

@@ -1,15 +1,12 @@
 -- `ids::ids_at` meets its contract: each step goes past one text of the identifier. Assumes nothing.
-use Prim.Native.Nat.{ℕ, ◌+◌, ◌/◌, ◌%◌}
+use Prim.Native.Nat.{◌+◌}
 use native.Mathlib.Omega.{arith}
 use mathlib.Core.Path.{◌≡◌, sym, ap, ◌∙◌}
-use mathlib.Core.List.{List}
 use mathlib.Core.Option.{some-injective}
-use lib.Dec.{eqb}
 use Rattle.codec.specs.Codec.{Reading}
 use Rattle.record.specs.Record.{Record}
 use Rattle.codec.proofs.CodecLaws.{Bytes, bytes_all}
 use Rattle.image.specs.Places.{ids_places, ids_of}
-use Rattle.record_walk.specs.Walk.{At, past_text}
 use Rattle.record_walk.proofs.Images
 use Rattle.store.proofs.IdLaws.{three}
 use Rattle.store.proofs.ids.ids_at.Goals as goal
