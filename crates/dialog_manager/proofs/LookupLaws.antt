@@ -1,5 +1,5 @@
 -- The look-ups of a store: their refusals in their order, then the place that was found. Assumes nothing.
-use Prim.Native.Nat.{ℕ, zero, suc, ◌+◌, ◌-◌, ◌≤◌}
+use Prim.Native.Nat.{ℕ, ◌+◌, ◌-◌, ◌≤◌}
 use native.Mathlib.Omega.{arith}
 use mathlib.Core.Path.{◌≡◌, refl, sym, ap, ap₂, ◌∙◌}
 use mathlib.Core.Bool.{Bool, true, false, cond}
@@ -34,7 +34,6 @@ use Rattle.book.proofs.ReadingLaws.{reading_run}
 use Rattle.dialog_manager.specs.Search.{named, of_call_id, Spot, first, found_of, found_in, Stored, Stands}
 use Rattle.dialog_manager.specs.Lookups.{getting, place_in}
 use Rattle.dialog_manager.specs.declared.finding.Found.TheVariants as found
-use Rattle.dialog_manager.specs.declared.placing.Place.TheVariants as place
 use Rattle.dialog_manager.proofs.SearchLaws.{Turn, turn, spot_reads}
 
 -- ---- the place of what was found

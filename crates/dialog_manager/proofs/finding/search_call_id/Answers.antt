@@ -1,5 +1,4 @@
 -- `finding::search_call_id` meets its contract: what is asked of the store is asked of the records left. Assumes nothing.
-use Prim.Native.Nat.{ℕ}
 use mathlib.Core.Path.{◌≡◌, sym, ap, subst, ◌∙◌}
 use mathlib.Core.Bool.{Bool}
 use Rattle.record.specs.Record.{Record}
