@@ -1,0 +1,39 @@
+-- `store_steps::interval_at` meets its contract: the record's numbers changed in its place. Assumes nothing.
+use mathlib.Core.Path.{◌≡◌, sym, ap, ◌∙◌}
+use lib.ListN.{length, take}
+use Rattle.limits.specs.Limits.{rust_limits}
+use Rattle.limits.specs.Outcome.{Outcome, refused, given, and_then}
+use Rattle.output.specs.Output.{fitted}
+use Rattle.record.specs.Changes.{with_numbers}
+use Rattle.record.specs.NumbersForm.{meaning, outcome_in}
+use Rattle.record.specs.Record.{Numbers}
+use Rattle.record.specs.Rules.{interval_step}
+use Rattle.image_edit.specs.Changes.{changed}
+use Rattle.image_edit.proofs.ImageCuts.{held_used}
+use Rattle.dialog_rules.specs.Updates.{interval_update}
+use Rattle.dialog_updates.specs.AtPlace.{stepped}
+use Rattle.dialog_updates.proofs.PlaceLaws.{numbers_read, stepped_refused, stepped_given, refused_leaves, result_as}
+use Rattle.store_steps.proofs.interval_at.Goals as goal
+
+pub returns-in-Taken : goal.returns-in-Taken
+returns-in-Taken c =
+    let a = c.args in
+    let s = take a.used a.bytes.now in
+    let h = held_used a.bytes.now a.used a.at (λ i. (c.slice_known-1.given i).fits) c.requires.used_in_bounds.0 c.requires.used_in_bounds.1 c.requires.bytes_value in
+    let x = meaning c.in-Taken.x in
+    let e : interval_step rust_limits a.seconds h.value.numbers ≡ given x =
+    ap (λ (y : Numbers). interval_step rust_limits a.seconds y) (sym (numbers_read s a.at a.r h)) ∙ sym c.set_session_expires.ensures ∙ ap outcome_in c.in-Taken.is in
+    let f = stepped_given s a.at a.r h (λ v. interval_update rust_limits a.seconds v) (length a.bytes.now) (with_numbers x) (ap (λ (o : Outcome Numbers). and_then o (λ y. given (with_numbers y h.value))) e) in
+    let old : _ × _ = result_as a.bytes.now (stepped (λ v. interval_update rust_limits a.seconds v) (length a.bytes.now) a.at s) (fitted (length a.bytes.now) (changed (with_numbers x) a.at s)) c.revise_numbers.result c.revise_numbers.new.bytes f (c.revise_numbers.ensures.value, c.revise_numbers.ensures.bytes_after) in
+    record { value = old.0; bytes_after = old.1 }
+
+pub returns-in-Refused : goal.returns-in-Refused
+returns-in-Refused c =
+    let a = c.args in
+    let s = take a.used a.bytes.now in
+    let h = held_used a.bytes.now a.used a.at (λ i. (c.slice_known-1.given i).fits) c.requires.used_in_bounds.0 c.requires.used_in_bounds.1 c.requires.bytes_value in
+    let e : interval_step rust_limits a.seconds h.value.numbers ≡ refused c.in-Refused.cause =
+    ap (λ (y : Numbers). interval_step rust_limits a.seconds y) (sym (numbers_read s a.at a.r h)) ∙ sym c.set_session_expires.ensures ∙ ap outcome_in c.in-Refused.is in
+    let old : _ × _ = refused_leaves a.bytes.now (stepped (λ v. interval_update rust_limits a.seconds v) (length a.bytes.now) a.at s)
+    (stepped_refused s a.at a.r h (λ v. interval_update rust_limits a.seconds v) (length a.bytes.now) (ap (λ (o : Outcome Numbers). and_then o (λ y. given (with_numbers y h.value))) e)) in
+    record { value = old.0; bytes_after = old.1 }
