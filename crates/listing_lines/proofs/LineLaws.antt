@@ -2,13 +2,12 @@
 use Prim.Native.Nat.{ℕ, ◌+◌, ◌≤◌}
 use native.Mathlib.Nat.{zero-add}
 use native.Mathlib.Omega.{arith}
-use mathlib.Core.Path.{◌≡◌, refl, sym, ap, subst, ◌∙◌}
+use mathlib.Core.Path.{◌≡◌, sym, ap, subst, ◌∙◌}
 use mathlib.Core.Bool.{Bool}
 use mathlib.Core.List.{List, [], ◌∷◌, ◌++◌, append_assoc}
-use mathlib.Core.Option.{Option}
 use lib.ListN.{length, length-append}
 use Rattle.edit.specs.Edit.{put_at, over}
-use Rattle.edit.proofs.EditLaws.{Wrote, wrote_then, wrote_three}
+use Rattle.edit.proofs.EditLaws.{wrote_then, wrote_three}
 use Rattle.record.specs.Record.{Numbers}
 use Rattle.listing_lines.specs.Listing.{columns_of, line_of}
 use Rattle.listing_lines.specs.Steps.{head_part, sequence_part, interval_part}

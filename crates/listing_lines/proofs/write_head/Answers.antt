@@ -23,4 +23,3 @@ pub returns-clause-out_after : goal.returns-clause-out_after
 returns-clause-out_after c =
     let a = c.args in
     (second2 (three_columns a.at 21 2 4 (spaced (decimal_of a.position)) (spaced (state_letter (state_in a.state))) (spaced (side_text a.we_are_uac)) a.out.now (omega arith) (c.write_number-a.ensures.value, c.write_number-a.ensures.out_after) (c.write_state-b.ensures.value, c.write_state-b.ensures.out_after) (c.write_side.ensures.value, c.write_side.ensures.out_after)))
-

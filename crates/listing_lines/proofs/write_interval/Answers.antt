@@ -26,4 +26,3 @@ returns-clause-out_after c =
     let a = c.args in
     let h = c.refresh_second-half in
     rw (sym h.ensures) (second2 (three_columns a.at 21 21 21 (spaced (or_dash (number_in a.seconds))) (spaced (or_dash (number_in h.result))) (ended (decimal_of a.routes)) a.out.now (omega arith) (c.write_optional-a.ensures.value, c.write_optional-a.ensures.out_after) (c.write_optional-b.ensures.value, c.write_optional-b.ensures.out_after) (c.write_number.ensures.value, c.write_number.ensures.out_after)))
-

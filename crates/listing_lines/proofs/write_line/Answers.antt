@@ -32,4 +32,3 @@ returns-clause-out_after c =
     let a = c.args in
     let x = meaning a.numbers in
     (second_second (line_written a.position a.routes x a.we_are_uac a.out.now (three_columns 0 27 63 63 (head_part a.position x.state a.we_are_uac) (sequence_part x.local x.remote x.last_ack) (interval_part x.seconds a.routes) a.out.now (omega arith) (c.write_head-a.ensures.value, c.write_head-a.ensures.out_after) (c.write_sequence-b.ensures.value, c.write_sequence-b.ensures.out_after) (c.write_interval.ensures.value, c.write_interval.ensures.out_after))))
-

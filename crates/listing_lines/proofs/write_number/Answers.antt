@@ -35,4 +35,3 @@ returns-clause-out_after c =
     let a = c.args in
     let d = c.decimal-k in
     (second2 (column a.at 20 a.after (take d.result d.new.out) (decimal_of a.n) a.out.now (digits (goal.at.returns-clause-out_after c).After-decimal-k).0 (digits (goal.at.returns-clause-out_after c).After-decimal-k).1 c.write_text.ensures.value (c.write_text.ensures.out_after)))
-

@@ -23,4 +23,3 @@ pub returns-clause-out_after : goal.returns-clause-out_after
 returns-clause-out_after c =
     let a = c.args in
     (second2 (three_columns a.at 21 21 21 (spaced (decimal_of a.local)) (spaced (decimal_of a.remote)) (spaced (or_dash (number_in a.last_ack))) a.out.now (omega arith) (c.write_number-a.ensures.value, c.write_number-a.ensures.out_after) (c.write_number-b.ensures.value, c.write_number-b.ensures.out_after) (c.write_optional.ensures.value, c.write_optional.ensures.out_after)))
-

@@ -31,4 +31,3 @@ pub returns-clause-out_after : goal.returns-clause-out_after
 returns-clause-out_after c =
     let a = c.args in
     rw c.if-we_are_uac.false (second2 (column a.at 3 32 (117 ∷ 97 ∷ 115 ∷ []) (117 ∷ 97 ∷ 115 ∷ []) a.out.now refl (omega arith) c.write_text-2.ensures.value (c.write_text-2.ensures.out_after)))
-

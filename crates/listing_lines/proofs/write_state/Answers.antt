@@ -41,4 +41,3 @@ pub returns-in-Terminated-clause-out_after : goal.returns-in-Terminated-clause-o
 returns-in-Terminated-clause-out_after c =
     let a = c.args in
     rw c.in-Terminated.is (second2 (column a.at 1 32 (84 ∷ []) (84 ∷ []) a.out.now refl (omega arith) c.write_text-in-Terminated.ensures.value (c.write_text-in-Terminated.ensures.out_after)))
-

@@ -28,4 +28,3 @@ pub returns-clause-out_after : goal.returns-clause-out_after
 returns-clause-out_after c =
     let a = c.args in
     (second_second (words_written a.word.now (decimal_of a.n) a.out.now (column 0 16 32 a.word.now a.word.now a.out.now refl c.requires.0 c.write_text-a.ensures.value (c.write_text-a.ensures.out_after)) (c.write_number.ensures.value, c.write_number.ensures.out_after)))
-
