@@ -2,7 +2,7 @@
 -- For each kind of answer: the number that is returned (0 accepted, else that of "Turned back"), and what the lent numbers then hold. A lent number keeps
 -- its value except where its answer is given.
 use Rattle.std.specs.Prelude.{ℕ, ◌≡◌, Bool, true, false}
-use Rattle.std.proofs.Math.Option.{Option, get_or}
+use Rattle.std.proofs.Math.Option.{get_or}
 use Rattle.limits.specs.Refusal.{number_of, least_of}
 use Rattle.limits.specs.declared.Refusal.{Refusal}
 use Rattle.limits.specs.declared.Check.{Check}
