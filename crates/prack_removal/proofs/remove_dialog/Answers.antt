@@ -34,7 +34,7 @@ abbrev act-at-After-find : After-find → Action
 act-at-After-find c = remove_dialog (c.args.id.now)
 
 known-at-In-Held : (c : In-Held) → Bytes (c.args.bytes.now)
-known-at-In-Held c = bytes_all (c.args.bytes.now) (λ n. (c.type_inv.bytes n).fits)
+known-at-In-Held c = bytes_all (c.args.bytes.now) (λ n. (c.slice_known-1.given n).fits)
 
 not_long : (c : After-find) → too_long rust_limits (c.args.id.now) ≡ false
 not_long c = sym c.too_long.ensures ∙ c.if-too_long.false
@@ -87,17 +87,17 @@ returns-in-Held-clause-used_value c =
 pub returns-in-Free-clause-value : goal.returns-in-Free-clause-value
 returns-in-Free-clause-value c =
     let w = free_sought (c.args.id.now) (c.args.bytes.now) (c.args.used) c.in-Free.field-0 (sym c.find.ensures ∙ c.in-Free.is) in
-    (first (written_taken (c.args.bytes.now) (c.args.used) (by_keeping (c.args.bytes.now) (c.args.used) (remove_dialog (c.args.id.now)) (clear (goal.at.returns-in-Free-clause-value c).After-find) w (without_entry key_of (key_of_text (c.args.id.now)) w.list) (given no_value) (dialog_decides (c.args.id.now) w.list) (bytes_all (c.args.bytes.now) (λ i. (c.type_inv.bytes i).fits)) (lacking (c.args.id.now) (c.args.bytes.now) (c.args.used) c.in-Free.field-0 (bytes_all (c.args.bytes.now) (λ i. (c.type_inv.bytes i).fits)) w).1.0)))
+    (first (written_taken (c.args.bytes.now) (c.args.used) (by_keeping (c.args.bytes.now) (c.args.used) (remove_dialog (c.args.id.now)) (clear (goal.at.returns-in-Free-clause-value c).After-find) w (without_entry key_of (key_of_text (c.args.id.now)) w.list) (given no_value) (dialog_decides (c.args.id.now) w.list) (bytes_all (c.args.bytes.now) (λ i. (c.slice_known-1.given i).fits)) (lacking (c.args.id.now) (c.args.bytes.now) (c.args.used) c.in-Free.field-0 (bytes_all (c.args.bytes.now) (λ i. (c.slice_known-1.given i).fits)) w).1.0)))
 
 pub returns-in-Free-clause-bytes_after : goal.returns-in-Free-clause-bytes_after
 returns-in-Free-clause-bytes_after c =
     let w = free_sought (c.args.id.now) (c.args.bytes.now) (c.args.used) c.in-Free.field-0 (sym c.find.ensures ∙ c.in-Free.is) in
-    (second_first (written_taken (c.args.bytes.now) (c.args.used) (by_keeping (c.args.bytes.now) (c.args.used) (remove_dialog (c.args.id.now)) (clear (goal.at.returns-in-Free-clause-bytes_after c).After-find) w (without_entry key_of (key_of_text (c.args.id.now)) w.list) (given no_value) (dialog_decides (c.args.id.now) w.list) (bytes_all (c.args.bytes.now) (λ i. (c.type_inv.bytes i).fits)) (lacking (c.args.id.now) (c.args.bytes.now) (c.args.used) c.in-Free.field-0 (bytes_all (c.args.bytes.now) (λ i. (c.type_inv.bytes i).fits)) w).1.0)))
+    (second_first (written_taken (c.args.bytes.now) (c.args.used) (by_keeping (c.args.bytes.now) (c.args.used) (remove_dialog (c.args.id.now)) (clear (goal.at.returns-in-Free-clause-bytes_after c).After-find) w (without_entry key_of (key_of_text (c.args.id.now)) w.list) (given no_value) (dialog_decides (c.args.id.now) w.list) (bytes_all (c.args.bytes.now) (λ i. (c.slice_known-1.given i).fits)) (lacking (c.args.id.now) (c.args.bytes.now) (c.args.used) c.in-Free.field-0 (bytes_all (c.args.bytes.now) (λ i. (c.slice_known-1.given i).fits)) w).1.0)))
 
 pub returns-in-Free-clause-used_value : goal.returns-in-Free-clause-used_value
 returns-in-Free-clause-used_value c =
     let w = free_sought (c.args.id.now) (c.args.bytes.now) (c.args.used) c.in-Free.field-0 (sym c.find.ensures ∙ c.in-Free.is) in
-    (second_second (written_taken (c.args.bytes.now) (c.args.used) (by_keeping (c.args.bytes.now) (c.args.used) (remove_dialog (c.args.id.now)) (clear (goal.at.returns-in-Free-clause-used_value c).After-find) w (without_entry key_of (key_of_text (c.args.id.now)) w.list) (given no_value) (dialog_decides (c.args.id.now) w.list) (bytes_all (c.args.bytes.now) (λ i. (c.type_inv.bytes i).fits)) (lacking (c.args.id.now) (c.args.bytes.now) (c.args.used) c.in-Free.field-0 (bytes_all (c.args.bytes.now) (λ i. (c.type_inv.bytes i).fits)) w).1.0)))
+    (second_second (written_taken (c.args.bytes.now) (c.args.used) (by_keeping (c.args.bytes.now) (c.args.used) (remove_dialog (c.args.id.now)) (clear (goal.at.returns-in-Free-clause-used_value c).After-find) w (without_entry key_of (key_of_text (c.args.id.now)) w.list) (given no_value) (dialog_decides (c.args.id.now) w.list) (bytes_all (c.args.bytes.now) (λ i. (c.slice_known-1.given i).fits)) (lacking (c.args.id.now) (c.args.bytes.now) (c.args.used) c.in-Free.field-0 (bytes_all (c.args.bytes.now) (λ i. (c.slice_known-1.given i).fits)) w).1.0)))
 
 pub returns-in-Broken-clause-value : goal.returns-in-Broken-clause-value
 returns-in-Broken-clause-value c =

@@ -38,13 +38,13 @@ abbrev act-at-After-find-slot : After-find-slot → Action
 act-at-After-find-slot c = remove_pracked (c.args.id.now) (c.args.rseq)
 
 known-at-In-Held : (c : In-Held) → Bytes (c.args.bytes.now)
-known-at-In-Held c = bytes_all (c.args.bytes.now) (λ n. (c.type_inv.bytes n).fits)
+known-at-In-Held c = bytes_all (c.args.bytes.now) (λ n. (c.slice_known-1.given n).fits)
 
 known-at-After-load-n : (c : After-load-n) → Bytes (c.args.bytes.now)
-known-at-After-load-n c = bytes_all (c.args.bytes.now) (λ n. (c.type_inv.bytes n).fits)
+known-at-After-load-n c = bytes_all (c.args.bytes.now) (λ n. (c.slice_known-1.given n).fits)
 
 known-at-After-prune-m : (c : After-prune-m) → Bytes (c.args.bytes.now)
-known-at-After-prune-m c = bytes_all (c.args.bytes.now) (λ n. (c.type_inv.bytes n).fits)
+known-at-After-prune-m c = bytes_all (c.args.bytes.now) (λ n. (c.slice_known-1.given n).fits)
 
 not_long : (c : After-find-slot) → too_long rust_limits (c.args.id.now) ≡ false
 not_long c = sym c.too_long.ensures ∙ c.if-too_long.false
@@ -111,31 +111,34 @@ slice_bounds-set-end c =
     sym (length-take-le c.prune-m.result c.prune-m.new.body (holds_within (pruned (goal.at.slice_bounds-set-end c).After-prune-m)))
 
 pub returns-in-Held-clause-value : goal.returns-in-Held-clause-value
+unfolding F-at-After-prune-m F known-at-After-prune-m known-at-In-Held S-at-After-prune-m S
 returns-in-Held-clause-value c =
     (first (written_set (c.args.bytes.now) (c.args.used) no_value (fitted (length (c.args.bytes.now)) (encode_tracked rust_limits (set_entry key_of (left (goal.at.returns-in-Held-clause-value c).After-prune-m) (S (goal.at.returns-in-Held-clause-value c).In-Held).list))) (by_fitting (c.args.bytes.now) (c.args.used) (remove_pracked (c.args.id.now) (c.args.rseq)) (clear (goal.at.returns-in-Held-clause-value c).After-find-slot) (S (goal.at.returns-in-Held-clause-value c).In-Held) (set_entry key_of (left (goal.at.returns-in-Held-clause-value c).After-prune-m) (S (goal.at.returns-in-Held-clause-value c).In-Held).list) (given no_value) (pruning_decides (c.args.id.now) (S (goal.at.returns-in-Held-clause-value c).In-Held).list (c.args.rseq) (some (F (goal.at.returns-in-Held-clause-value c).In-Held).t) (F (goal.at.returns-in-Held-clause-value c).In-Held).is)) (c.set.ensures.value (S (goal.at.returns-in-Held-clause-value c).In-Held) (left (goal.at.returns-in-Held-clause-value c).After-prune-m) (F (goal.at.returns-in-Held-clause-value c).In-Held).same (pruned (goal.at.returns-in-Held-clause-value c).After-prune-m).are) ((c.set.ensures.bytes_after) (S (goal.at.returns-in-Held-clause-value c).In-Held) (left (goal.at.returns-in-Held-clause-value c).After-prune-m) (F (goal.at.returns-in-Held-clause-value c).In-Held).same (pruned (goal.at.returns-in-Held-clause-value c).After-prune-m).are)))
 
 pub returns-in-Held-clause-bytes_after : goal.returns-in-Held-clause-bytes_after
+unfolding F-at-After-prune-m F known-at-After-prune-m known-at-In-Held S-at-After-prune-m S
 returns-in-Held-clause-bytes_after c =
     (second_first (written_set (c.args.bytes.now) (c.args.used) no_value (fitted (length (c.args.bytes.now)) (encode_tracked rust_limits (set_entry key_of (left (goal.at.returns-in-Held-clause-bytes_after c).After-prune-m) (S (goal.at.returns-in-Held-clause-bytes_after c).In-Held).list))) (by_fitting (c.args.bytes.now) (c.args.used) (remove_pracked (c.args.id.now) (c.args.rseq)) (clear (goal.at.returns-in-Held-clause-bytes_after c).After-find-slot) (S (goal.at.returns-in-Held-clause-bytes_after c).In-Held) (set_entry key_of (left (goal.at.returns-in-Held-clause-bytes_after c).After-prune-m) (S (goal.at.returns-in-Held-clause-bytes_after c).In-Held).list) (given no_value) (pruning_decides (c.args.id.now) (S (goal.at.returns-in-Held-clause-bytes_after c).In-Held).list (c.args.rseq) (some (F (goal.at.returns-in-Held-clause-bytes_after c).In-Held).t) (F (goal.at.returns-in-Held-clause-bytes_after c).In-Held).is)) (c.set.ensures.value (S (goal.at.returns-in-Held-clause-bytes_after c).In-Held) (left (goal.at.returns-in-Held-clause-bytes_after c).After-prune-m) (F (goal.at.returns-in-Held-clause-bytes_after c).In-Held).same (pruned (goal.at.returns-in-Held-clause-bytes_after c).After-prune-m).are) ((c.set.ensures.bytes_after) (S (goal.at.returns-in-Held-clause-bytes_after c).In-Held) (left (goal.at.returns-in-Held-clause-bytes_after c).After-prune-m) (F (goal.at.returns-in-Held-clause-bytes_after c).In-Held).same (pruned (goal.at.returns-in-Held-clause-bytes_after c).After-prune-m).are)))
 
 pub returns-in-Held-clause-used_value : goal.returns-in-Held-clause-used_value
+unfolding F-at-After-prune-m F known-at-After-prune-m known-at-In-Held S-at-After-prune-m S
 returns-in-Held-clause-used_value c =
     (second_second (written_set (c.args.bytes.now) (c.args.used) no_value (fitted (length (c.args.bytes.now)) (encode_tracked rust_limits (set_entry key_of (left (goal.at.returns-in-Held-clause-used_value c).After-prune-m) (S (goal.at.returns-in-Held-clause-used_value c).In-Held).list))) (by_fitting (c.args.bytes.now) (c.args.used) (remove_pracked (c.args.id.now) (c.args.rseq)) (clear (goal.at.returns-in-Held-clause-used_value c).After-find-slot) (S (goal.at.returns-in-Held-clause-used_value c).In-Held) (set_entry key_of (left (goal.at.returns-in-Held-clause-used_value c).After-prune-m) (S (goal.at.returns-in-Held-clause-used_value c).In-Held).list) (given no_value) (pruning_decides (c.args.id.now) (S (goal.at.returns-in-Held-clause-used_value c).In-Held).list (c.args.rseq) (some (F (goal.at.returns-in-Held-clause-used_value c).In-Held).t) (F (goal.at.returns-in-Held-clause-used_value c).In-Held).is)) (c.set.ensures.value (S (goal.at.returns-in-Held-clause-used_value c).In-Held) (left (goal.at.returns-in-Held-clause-used_value c).After-prune-m) (F (goal.at.returns-in-Held-clause-used_value c).In-Held).same (pruned (goal.at.returns-in-Held-clause-used_value c).After-prune-m).are) ((c.set.ensures.bytes_after) (S (goal.at.returns-in-Held-clause-used_value c).In-Held) (left (goal.at.returns-in-Held-clause-used_value c).After-prune-m) (F (goal.at.returns-in-Held-clause-used_value c).In-Held).same (pruned (goal.at.returns-in-Held-clause-used_value c).After-prune-m).are)))
 
 pub returns-in-Free-clause-value : goal.returns-in-Free-clause-value
 returns-in-Free-clause-value c =
     let w = free_sought (c.args.id.now) (c.args.bytes.now) (c.args.used) c.in-Free.field-0 (sym c.find-slot.ensures ∙ c.in-Free.is) in
-    (first (written_taken (c.args.bytes.now) (c.args.used) (by_keeping (c.args.bytes.now) (c.args.used) (remove_pracked (c.args.id.now) (c.args.rseq)) (clear (goal.at.returns-in-Free-clause-value c).After-find-slot) w w.list (given no_value) (pruning_decides (c.args.id.now) w.list (c.args.rseq) none (lacking (c.args.id.now) (c.args.bytes.now) (c.args.used) c.in-Free.field-0 (bytes_all (c.args.bytes.now) (λ i. (c.type_inv.bytes i).fits)) w).0) (bytes_all (c.args.bytes.now) (λ i. (c.type_inv.bytes i).fits)) refl)))
+    (first (written_taken (c.args.bytes.now) (c.args.used) (by_keeping (c.args.bytes.now) (c.args.used) (remove_pracked (c.args.id.now) (c.args.rseq)) (clear (goal.at.returns-in-Free-clause-value c).After-find-slot) w w.list (given no_value) (pruning_decides (c.args.id.now) w.list (c.args.rseq) none (lacking (c.args.id.now) (c.args.bytes.now) (c.args.used) c.in-Free.field-0 (bytes_all (c.args.bytes.now) (λ i. (c.slice_known-1.given i).fits)) w).0) (bytes_all (c.args.bytes.now) (λ i. (c.slice_known-1.given i).fits)) refl)))
 
 pub returns-in-Free-clause-bytes_after : goal.returns-in-Free-clause-bytes_after
 returns-in-Free-clause-bytes_after c =
     let w = free_sought (c.args.id.now) (c.args.bytes.now) (c.args.used) c.in-Free.field-0 (sym c.find-slot.ensures ∙ c.in-Free.is) in
-    (second_first (written_taken (c.args.bytes.now) (c.args.used) (by_keeping (c.args.bytes.now) (c.args.used) (remove_pracked (c.args.id.now) (c.args.rseq)) (clear (goal.at.returns-in-Free-clause-bytes_after c).After-find-slot) w w.list (given no_value) (pruning_decides (c.args.id.now) w.list (c.args.rseq) none (lacking (c.args.id.now) (c.args.bytes.now) (c.args.used) c.in-Free.field-0 (bytes_all (c.args.bytes.now) (λ i. (c.type_inv.bytes i).fits)) w).0) (bytes_all (c.args.bytes.now) (λ i. (c.type_inv.bytes i).fits)) refl)))
+    (second_first (written_taken (c.args.bytes.now) (c.args.used) (by_keeping (c.args.bytes.now) (c.args.used) (remove_pracked (c.args.id.now) (c.args.rseq)) (clear (goal.at.returns-in-Free-clause-bytes_after c).After-find-slot) w w.list (given no_value) (pruning_decides (c.args.id.now) w.list (c.args.rseq) none (lacking (c.args.id.now) (c.args.bytes.now) (c.args.used) c.in-Free.field-0 (bytes_all (c.args.bytes.now) (λ i. (c.slice_known-1.given i).fits)) w).0) (bytes_all (c.args.bytes.now) (λ i. (c.slice_known-1.given i).fits)) refl)))
 
 pub returns-in-Free-clause-used_value : goal.returns-in-Free-clause-used_value
 returns-in-Free-clause-used_value c =
     let w = free_sought (c.args.id.now) (c.args.bytes.now) (c.args.used) c.in-Free.field-0 (sym c.find-slot.ensures ∙ c.in-Free.is) in
-    (second_second (written_taken (c.args.bytes.now) (c.args.used) (by_keeping (c.args.bytes.now) (c.args.used) (remove_pracked (c.args.id.now) (c.args.rseq)) (clear (goal.at.returns-in-Free-clause-used_value c).After-find-slot) w w.list (given no_value) (pruning_decides (c.args.id.now) w.list (c.args.rseq) none (lacking (c.args.id.now) (c.args.bytes.now) (c.args.used) c.in-Free.field-0 (bytes_all (c.args.bytes.now) (λ i. (c.type_inv.bytes i).fits)) w).0) (bytes_all (c.args.bytes.now) (λ i. (c.type_inv.bytes i).fits)) refl)))
+    (second_second (written_taken (c.args.bytes.now) (c.args.used) (by_keeping (c.args.bytes.now) (c.args.used) (remove_pracked (c.args.id.now) (c.args.rseq)) (clear (goal.at.returns-in-Free-clause-used_value c).After-find-slot) w w.list (given no_value) (pruning_decides (c.args.id.now) w.list (c.args.rseq) none (lacking (c.args.id.now) (c.args.bytes.now) (c.args.used) c.in-Free.field-0 (bytes_all (c.args.bytes.now) (λ i. (c.slice_known-1.given i).fits)) w).0) (bytes_all (c.args.bytes.now) (λ i. (c.slice_known-1.given i).fits)) refl)))
 
 pub returns-in-Broken-clause-value : goal.returns-in-Broken-clause-value
 returns-in-Broken-clause-value c =
