@@ -1,0 +1,15 @@
+-- `store_requests::nowhere` meets its contract: 3, 15. Assumes nothing.
+use mathlib.Core.Path.{sym, ◌∙◌}
+use Rattle.dialog_manager.proofs.LookupLaws.{kept}
+use Rattle.store_entries.proofs.LocateLaws.{nowhere_unread, nowhere_read}
+use Rattle.store_requests.proofs.nowhere.Goals as goal
+
+pub returns-in_default-clause-value : goal.returns-in_default-clause-value
+returns-in_default-clause-value c =
+    let a = c.args in
+    nowhere_unread a.bytes.now a.used (sym c.count.ensures ∙ c.in_default.is)
+
+pub returns-clause-value : goal.returns-clause-value
+returns-clause-value c =
+    let a = c.args in
+    nowhere_read a.bytes.now a.used (kept a.bytes.now a.used (sym c.count.ensures ∙ c.in-Records.is))
