@@ -14,7 +14,7 @@ use Rattle.ordered_store.proofs.RunLaws.{answer_has}
 use Rattle.prack_body.specs.Lists.{Tracked, open_in}
 use Rattle.prack_body.specs.Layout.{to_bit, tracked_form, open_bytes}
 use Rattle.prack_entries.specs.Entries.{key_of, clean_for}
-use Rattle.prack_validator.specs.Validator.{validate, is_pracked, get_pending, Value, rack, written, action_cause, rack_value, deciding, judged_for, judge, ran}
+use Rattle.prack_validator.specs.Validator.{validate, is_pracked, get_pending, Value, written, action_cause, rack_value, deciding, judged_for, judge, ran}
 use Rattle.prack_validator.specs.Answers.{rack_after, flag_after, length_after, no_rack, validated_by, validated_in, pracked_of, listed_by, listed_in, used_listed}
 use Rattle.prack_validator.specs.declared.Validated.{Validated}
 use Rattle.prack_validator.specs.declared.Pracked.{Pracked}

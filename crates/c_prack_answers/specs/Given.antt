@@ -1,7 +1,7 @@
 -- What a C caller of the calls on a PRACK store gets beside `Returns` (ordered_store/specs/Run.antt): what the lent numbers then are, by what `ran`
 -- (prack_validator/specs/Validator.antt) leaves. Document 01, "Turned back" and "The shape of each place": a lent number keeps its value except where its
 -- answer is given.
-use Rattle.std.specs.Prelude.{ℕ, Bool}
+use Rattle.std.specs.Prelude.{ℕ}
 use Rattle.limits.specs.Outcome.{Outcome, refused, given}
 use Rattle.limits.specs.Refusal.{number_of}
 use Rattle.rack.specs.declared.RAck.{RAck}
