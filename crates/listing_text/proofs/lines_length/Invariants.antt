@@ -1,0 +1,12 @@
+use mathlib.Core.Path.{◌≡◌}
+use mathlib.Core.List.{List}
+use Prim.Native.Nat.{ℕ, ◌-◌}
+use lib.ListN.{length}
+use Rattle.listing_text.proofs.ListLaws.{Left}
+use Rattle.listing_text.proofs.lines_length.Given as goal
+
+abbrev pub invariant-loop-at : goal.invariant-loop-at
+invariant-loop-at l = (192 ≡ length l.text) × ((t : List ℕ) × Left l.bytes l.at l.position l.size t)
+
+abbrev pub decreases-loop-at : goal.decreases-loop-at
+decreases-loop-at l = length l.bytes - l.at

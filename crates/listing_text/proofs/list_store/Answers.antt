@@ -1,0 +1,125 @@
+-- `listing_text::list_store` meets its contract: measured before a byte is written. Assumes nothing.
+use native.Mathlib.Omega.{arith}
+use mathlib.Core.Path.{◌≡◌, sym, ap, ◌∙◌}
+use mathlib.Core.List.{List}
+use Prim.Native.Nat.{ℕ, ◌+◌, ◌≤◌}
+use lib.ListN.{length, take, length-append}
+use lib.Seq.{take_at}
+use Rattle.listing_text.proofs.StoreLaws.{Decoded, decoded, broken_none, whole_given, listing_parts, too_long, bad_store, no_room, listed_all}
+use Rattle.listing_lines.specs.Steps.{listed_lines}
+use Rattle.listing_lines.specs.Listing.{total_line, listing_of}
+use Rattle.output.proofs.OutputLaws.{put_next, kept, wrote}
+use Rattle.limits.specs.Limits.{rust_limits}
+use Rattle.edit.specs.Edit.{over, put_at}
+use Rattle.listing_text.proofs.list_store.Goals as goal
+use Rattle.listing_text.proofs.list_store.Goals.{After-lines_length, After-put, After-write_lines-end, In-Records}
+
+-- the parts of what several clauses say together
+first2 : {A B : Type 0} → A × B → A
+first2 p = p.0
+
+second2 : {A B : Type 0} → A × B → B
+second2 p = p.1
+
+-- the records that were read
+abbrev store : (c : In-Records) → Decoded c.args.bytes.now c.in-Records.count
+store c = decoded c.args.bytes.now c.in-Records.count (sym c.read_store.ensures ∙ c.in-Records.is)
+
+abbrev store-at-After-lines_length : (c : After-lines_length) → Decoded c.args.bytes.now c.in-Records.count
+store-at-After-lines_length c = decoded c.args.bytes.now c.in-Records.count (sym c.read_store.ensures ∙ c.in-Records.is)
+
+abbrev store-at-After-put : (c : After-put) → Decoded c.args.bytes.now c.in-Records.count
+store-at-After-put c = decoded c.args.bytes.now c.in-Records.count (sym c.read_store.ensures ∙ c.in-Records.is)
+
+-- the length of the listing
+sizes : (c : After-lines_length) → c.lines_length.result + c.write_words-n.result ≡ length (listing_of (store-at-After-lines_length c).records)
+sizes c =
+    let s = c.args.bytes.now in
+    let n = c.in-Records.count in
+    let h : c.lines_length.result ≡ length (listed_lines s) = c.lines_length.ensures.value in
+    let k : c.write_words-n.result ≡ length (total_line n) = c.write_words-n.ensures.value in
+    omega (arith, h, k, length-append (listed_lines s) (total_line n), ap length (listing_parts s n (store-at-After-lines_length c)))
+
+-- the last line is the front of the buffer, and there is room for it
+front : (c : After-write_lines-end) → take c.write_words-n.result c.write_words-n.new.out ≡ total_line c.in-Records.count
+front c =
+    let w = c.write_words-n.ensures in
+    ap (take c.write_words-n.result) w.out_after ∙ take_at (total_line c.in-Records.count) _ c.write_words-n.result (sym w.value)
+
+front-at-After-put : (c : After-put) → take c.write_words-n.result c.write_words-n.new.out ≡ total_line c.in-Records.count
+front-at-After-put c =
+    let w = c.write_words-n.ensures in
+    ap (take c.write_words-n.result) w.out_after ∙ take_at (total_line c.in-Records.count) _ c.write_words-n.result (sym w.value)
+
+fits : (c : After-write_lines-end) → c.write_lines-end.result + length (take c.write_words-n.result c.write_words-n.new.out) ≤ length c.write_lines-end.new.out
+fits c =
+    let h : c.write_lines-end.result ≡ length (listed_lines c.args.bytes.now) = c.write_lines-end.ensures.value in
+    let g : c.lines_length.result ≡ length (listed_lines c.args.bytes.now) = c.lines_length.ensures.value in
+    let k : length c.write_lines-end.new.out ≡ length c.args.out.now = c.write_lines-end.auto.out in
+    omega (arith, h, g, k, c.if-out-size.false, ap length (front c), c.write_words-n.ensures.value)
+
+written : (c : After-put) → c.put.new.bytes ≡ over (listing_of (store-at-After-put c).records) c.args.out.now
+written c =
+    let a = c.args in
+    let n = c.in-Records.count in
+    c.put.ensures
+    ∙ ap (λ (s : List ℕ). put_at c.write_lines-end.result s c.write_lines-end.new.out) (front-at-After-put c)
+    ∙ ap (put_at c.write_lines-end.result (total_line n)) (c.write_lines-end.ensures.out_after)
+    ∙ put_next (listed_lines a.bytes.now) (total_line n) a.out.now c.write_lines-end.result (sym c.write_lines-end.ensures.value)
+    ∙ ap (λ (s : List ℕ). over s a.out.now) (listing_parts a.bytes.now n (store-at-After-put c))
+
+pub returns-then-bytes-gt-MAX_LISTED_STORE-clause-value : goal.returns-then-bytes-gt-MAX_LISTED_STORE-clause-value
+returns-then-bytes-gt-MAX_LISTED_STORE-clause-value c =
+    let a = c.args in
+    (first2 (kept a.out.now (too_long rust_limits a.bytes.now (length a.out.now) c.if-bytes-gt-MAX_LISTED_STORE.true)))
+
+pub returns-then-bytes-gt-MAX_LISTED_STORE-clause-out_after : goal.returns-then-bytes-gt-MAX_LISTED_STORE-clause-out_after
+returns-then-bytes-gt-MAX_LISTED_STORE-clause-out_after c =
+    let a = c.args in
+    (second2 (kept a.out.now (too_long rust_limits a.bytes.now (length a.out.now) c.if-bytes-gt-MAX_LISTED_STORE.true)))
+
+pub returns-in_default-clause-value : goal.returns-in_default-clause-value
+returns-in_default-clause-value c =
+    let a = c.args in
+    (first2 (kept a.out.now (bad_store rust_limits a.bytes.now (length a.out.now) (omega (arith, c.if-bytes-gt-MAX_LISTED_STORE.false)) (broken_none a.bytes.now (sym c.read_store.ensures ∙ c.in_default.is)))))
+
+pub returns-in_default-clause-out_after : goal.returns-in_default-clause-out_after
+returns-in_default-clause-out_after c =
+    let a = c.args in
+    (second2 (kept a.out.now (bad_store rust_limits a.bytes.now (length a.out.now) (omega (arith, c.if-bytes-gt-MAX_LISTED_STORE.false)) (broken_none a.bytes.now (sym c.read_store.ensures ∙ c.in_default.is)))))
+
+pub lines_length-requires : goal.lines_length-requires
+lines_length-requires c = (whole_given _ _ (store (goal.at.lines_length-requires c).In-Records), omega (arith, c.if-bytes-gt-MAX_LISTED_STORE.false))
+
+pub returns-then-out-size-clause-value : goal.returns-then-out-size-clause-value
+returns-then-out-size-clause-value c =
+    let a = c.args in
+    let d = store (goal.at.returns-then-out-size-clause-value c).In-Records in
+    let k = ap length (listing_parts a.bytes.now c.in-Records.count d) in
+    (first2 (kept a.out.now (no_room rust_limits a.bytes.now (length a.out.now) (omega (arith, c.if-bytes-gt-MAX_LISTED_STORE.false)) d (omega (arith, c.if-out-size.true, sizes (goal.at.returns-then-out-size-clause-value c).After-lines_length)))))
+
+pub returns-then-out-size-clause-out_after : goal.returns-then-out-size-clause-out_after
+returns-then-out-size-clause-out_after c =
+    let a = c.args in
+    let d = store (goal.at.returns-then-out-size-clause-out_after c).In-Records in
+    let k = ap length (listing_parts a.bytes.now c.in-Records.count d) in
+    (second2 (kept a.out.now (no_room rust_limits a.bytes.now (length a.out.now) (omega (arith, c.if-bytes-gt-MAX_LISTED_STORE.false)) d (omega (arith, c.if-out-size.true, sizes (goal.at.returns-then-out-size-clause-out_after c).After-lines_length)))))
+
+pub write_lines-end-requires-clause-bytes_value : goal.write_lines-end-requires-clause-bytes_value
+write_lines-end-requires-clause-bytes_value c = (whole_given _ _ (store (goal.at.write_lines-end-requires-clause-bytes_value c).In-Records), omega (arith, c.if-bytes-gt-MAX_LISTED_STORE.false))
+
+pub put-requires : goal.put-requires
+put-requires c = fits (goal.at.put-requires c).After-write_lines-end
+
+pub returns-clause-value : goal.returns-clause-value
+returns-clause-value c =
+    let a = c.args in
+    let d = store (goal.at.returns-clause-value c).In-Records in
+    (first2 (wrote a.out.now (listed_all rust_limits a.bytes.now (length a.out.now) (omega (arith, c.if-bytes-gt-MAX_LISTED_STORE.false)) d (omega (arith, c.if-out-size.false, sizes (goal.at.returns-clause-value c).After-lines_length))) (sizes (goal.at.returns-clause-value c).After-lines_length) (written (goal.at.returns-clause-value c).After-put)))
+
+pub returns-clause-out_after : goal.returns-clause-out_after
+returns-clause-out_after c =
+    let a = c.args in
+    let d = store (goal.at.returns-clause-out_after c).In-Records in
+    (second2 (wrote a.out.now (listed_all rust_limits a.bytes.now (length a.out.now) (omega (arith, c.if-bytes-gt-MAX_LISTED_STORE.false)) d (omega (arith, c.if-out-size.false, sizes (goal.at.returns-clause-out_after c).After-lines_length))) (sizes (goal.at.returns-clause-out_after c).After-lines_length) (written (goal.at.returns-clause-out_after c).After-put)))
+
