@@ -1,8 +1,7 @@
 -- The twelve P lines of document 01's test sheet hold of the definitions: each is computed. Assumes nothing.
-use mathlib.Core.Path.{◌≡◌, refl}
+use mathlib.Core.Path.{refl}
 use Rattle.text.specs.Text.{span, all, alike, split, filled, words, trimmed}
 use Rattle.text.specs.Number.{value, digits_below}
-use Rattle.text.specs.Answers.{value_cause}
 use Rattle.msg.specs.Block.{line_at, lines_after, lines_from, first_named, block_cause}
 use Rattle.headers.specs.Tag.{segments_in, is_tag, first_tag}
 use Rattle.prack_headers.specs.Sequence.{read_in}

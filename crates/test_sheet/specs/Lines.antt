@@ -1,19 +1,18 @@
 -- Document 01, "Lines from the test sheet": the twelve lines marked P, in its order, each as a statement about the definitions that
 -- the contracts cite; that of the display name as document 02, request 3, has it. The names of the fields count the lines; a comment
 -- quotes each.
-use Rattle.std.specs.Prelude.{ℕ, ◌-◌, ◌*◌, ◌≡◌, true, false, List, [], ◌∷◌}
-use Rattle.std.proofs.Math.Option.{Option, none, some}
+use Rattle.std.specs.Prelude.{ℕ, ◌-◌, ◌≡◌, true, false, List, [], ◌∷◌}
+use Rattle.std.proofs.Math.Option.{some}
 use Rattle.limits.specs.Limits.{rust_limits}
 use Rattle.limits.specs.Refusal.{number_of}
-use Rattle.limits.specs.Outcome.{Outcome, refused, given}
+use Rattle.limits.specs.Outcome.{refused, given}
 use Rattle.limits.specs.declared.Refusal.TheVariants.{MissingHeader, CSeqTooLarge, InvalidCSeq, CSeqJumpTooLarge, SessionExpiresTooSmall}
-use Rattle.text.specs.Text.{Piece}
 use Rattle.text.specs.Number.{read_number}
 use Rattle.headers.specs.Tag.{tag_of}
 use Rattle.prack_headers.specs.Sequence.{extract_cseq_number}
 use Rattle.session_timer_manager.specs.Intervals.{seconds, refresh_due, non_refresher_expiry, negotiated}
 use Rattle.record.specs.Record.{Numbers}
-use Rattle.record.specs.Rules.{Kind, other, with_remote, request_step}
+use Rattle.record.specs.Rules.{other, with_remote, request_step}
 
 -- `"a;tag=x" <sip:r@h>;tag=y`
 abbrev pub quoted_tag : List ℕ
