@@ -1,0 +1,80 @@
+-- `puts::put_named` meets its contract: 17, then the image in its place, or after all others. Assumes nothing.
+use Prim.Native.Nat.{◌≤◌}
+use mathlib.Core.Path.{◌≡◌, sym, subst, ◌∙◌}
+use mathlib.Core.Bool.{false}
+use lib.ListN.{length, take}
+use Rattle.limits.specs.Limits.{rust_limits}
+use Rattle.record.specs.NumbersForm.{state_in}
+use Rattle.codec.proofs.CodecLaws.{Bytes, bytes_all}
+use Rattle.dialog_id.specs.Ident.{ident}
+use Rattle.record.specs.Store.{decode_all}
+use Rattle.dialog_manager.specs.Search.{Stands}
+use Rattle.dialog_manager.specs.declared.finding.Found.TheVariants as found
+use Rattle.store_puts.specs.Puts.{crowded_in}
+use Rattle.store_puts.proofs.PutLaws.{crowded, added_new, replaced_old, found_within}
+use Rattle.store_edits.proofs.RemoveLaws.{turned_back}
+use native.Mathlib.Omega.{arith}
+use Rattle.store_puts.proofs.puts.put_named.Goals as goal
+
+-- the parts of what several clauses say together
+first2 : {A B : Type 0} → A × B → A
+first2 p = p.0
+
+second2 : {A B : Type 0} → A × B → B
+second2 p = p.1
+
+pub returns-then-is_crowded-clause-value : goal.returns-then-is_crowded-clause-value
+returns-then-is_crowded-clause-value c =
+    let a = c.args in
+    (first2 (turned_back (crowded rust_limits (length a.bytes.now) a.image.now a.bytes.now a.used a.state a.call_id.now a.local_tag.now a.remote_tag.now c.requires.named c.requires.fact (sym c.is_crowded.ensures ∙ c.if-is_crowded.true))))
+
+pub returns-then-is_crowded-clause-bytes_after : goal.returns-then-is_crowded-clause-bytes_after
+returns-then-is_crowded-clause-bytes_after c =
+    let a = c.args in
+    (second2 (turned_back (crowded rust_limits (length a.bytes.now) a.image.now a.bytes.now a.used a.state a.call_id.now a.local_tag.now a.remote_tag.now c.requires.named c.requires.fact (sym c.is_crowded.ensures ∙ c.if-is_crowded.true))))
+
+pub returns-in_default-clause-value : goal.returns-in_default-clause-value
+returns-in_default-clause-value c =
+    let a = c.args in
+    let b : Bytes a.bytes.now = bytes_all a.bytes.now (λ i. (c.slice_known-1.given i).fits) in
+    let w = added_new rust_limits (length a.bytes.now) a.image.now a.bytes.now a.used a.state a.call_id.now a.local_tag.now a.remote_tag.now c.requires.named c.requires.fact b (sym c.is_crowded.ensures ∙ c.if-is_crowded.false) (sym c.in_default.is ∙ c.search_id.ensures.value) in
+    c.add.ensures.value ∙ w.answer
+
+pub returns-in_default-clause-bytes_after : goal.returns-in_default-clause-bytes_after
+returns-in_default-clause-bytes_after c =
+    let a = c.args in
+    let b : Bytes a.bytes.now = bytes_all a.bytes.now (λ i. (c.slice_known-1.given i).fits) in
+    let w = added_new rust_limits (length a.bytes.now) a.image.now a.bytes.now a.used a.state a.call_id.now a.local_tag.now a.remote_tag.now c.requires.named c.requires.fact b (sym c.is_crowded.ensures ∙ c.if-is_crowded.false) (sym c.in_default.is ∙ c.search_id.ensures.value) in
+    c.add.ensures.bytes_after ∙ w.bytes
+
+pub overflow_sub-r : goal.overflow_sub-r
+overflow_sub-r c =
+    let a = c.args in
+    let b : Bytes a.bytes.now = bytes_all a.bytes.now (λ i. (c.slice_known-1.given i).fits) in
+    let h : Stands (take a.used a.bytes.now) (found.At c.in-At.at c.in-At.r) = subst (Stands (take a.used a.bytes.now)) c.in-At.is c.search_id.ensures.stands in
+    let l : (c.in-At.at ≤ c.in-At.r.end) × (c.in-At.r.end ≤ a.used) = found_within a.bytes.now a.used b c.requires.fact.within c.in-At.at c.in-At.r h in
+    omega (arith, l.0)
+
+pub replace_image-requires : goal.replace_image-requires
+replace_image-requires c =
+    let a = c.args in
+    let b : Bytes a.bytes.now = bytes_all a.bytes.now (λ i. (c.slice_known-1.given i).fits) in
+    let h : Stands (take a.used a.bytes.now) (found.At c.in-At.at c.in-At.r) = subst (Stands (take a.used a.bytes.now)) c.in-At.is c.search_id.ensures.stands in
+    let l : (c.in-At.at ≤ c.in-At.r.end) × (c.in-At.r.end ≤ a.used) = found_within a.bytes.now a.used b c.requires.fact.within c.in-At.at c.in-At.r h in
+    (omega (arith, l.0, l.1), c.requires.fact.within)
+
+pub returns-clause-value : goal.returns-clause-value
+returns-clause-value c =
+    let a = c.args in
+    let b : Bytes a.bytes.now = bytes_all a.bytes.now (λ i. (c.slice_known-1.given i).fits) in
+    let h : Stands (take a.used a.bytes.now) (found.At c.in-At.at c.in-At.r) = subst (Stands (take a.used a.bytes.now)) c.in-At.is c.search_id.ensures.stands in
+    let w = replaced_old rust_limits (length a.bytes.now) a.image.now a.bytes.now a.used a.state a.call_id.now a.local_tag.now a.remote_tag.now c.requires.named c.requires.fact b (sym c.is_crowded.ensures ∙ c.if-is_crowded.false) c.in-At.at c.in-At.r h (sym c.in-At.is ∙ c.search_id.ensures.value) in
+    c.replace_image.ensures.value ∙ w.answer
+
+pub returns-clause-bytes_after : goal.returns-clause-bytes_after
+returns-clause-bytes_after c =
+    let a = c.args in
+    let b : Bytes a.bytes.now = bytes_all a.bytes.now (λ i. (c.slice_known-1.given i).fits) in
+    let h : Stands (take a.used a.bytes.now) (found.At c.in-At.at c.in-At.r) = subst (Stands (take a.used a.bytes.now)) c.in-At.is c.search_id.ensures.stands in
+    let w = replaced_old rust_limits (length a.bytes.now) a.image.now a.bytes.now a.used a.state a.call_id.now a.local_tag.now a.remote_tag.now c.requires.named c.requires.fact b (sym c.is_crowded.ensures ∙ c.if-is_crowded.false) c.in-At.at c.in-At.r h (sym c.in-At.is ∙ c.search_id.ensures.value) in
+    c.replace_image.ensures.bytes_after ∙ w.bytes
