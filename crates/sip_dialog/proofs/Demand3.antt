@@ -12,7 +12,7 @@ use lib.ListN.{length, take, drop, length-take}
 use lib.Dec.{eqb}
 use borrow.Author.Tests.{ne_eqb, le-ltb, lt-ltb}
 use contract.Lifetimes.{Lfts}
-use denote.Ref.{Bor}
+use denote.Ref.{Bor, MutBor}
 use Rattle.limits.specs.Limits.{rust_limits}
 use Rattle.limits.specs.Refusal.{number_of}
 use Rattle.limits.specs.Outcome.{Outcome, refused, given, number_in, and_then, or_refuse}
@@ -75,43 +75,43 @@ listed output size = record { number = none; place = none; length = some size; l
 -- A C function was called: with these bytes lent for the store and this used length it was entered, with those it returned, and this number; beside the store it
 -- was lent these numbers and this output, and left those.
 pub data Served : Call → (bytes : List ℕ) (used : ℕ) (after : List ℕ) (left number : ℕ) (entered kept : Lent) → Type 0 where
-  by_put : (κs : Lfts 4) (image store : Bor (List ℕ)) (used created : Bor ℕ) (r : ℕ) (image' store' : Bor (List ℕ)) (used' created' : Bor ℕ)
+  by_put : (κs : Lfts 4) (image : Bor (List ℕ)) (store : MutBor (List ℕ)) (used created : MutBor ℕ) (r : ℕ) (image' : Bor (List ℕ)) (store' : MutBor (List ℕ)) (used' created' : MutBor ℕ)
       → put_reads.Post κs (image, (store, (used, (created, tt)))) r (image', (store', (used', (created', tt))))
       → Served (put (length store.now) image.now) store.now used.now store'.now used'.now r (with_count created.now) (with_count created'.now)
-  by_request : (κs : Lfts 4) (method block store : Bor (List ℕ)) (used : Bor ℕ) (r : ℕ) (method' block' store' : Bor (List ℕ)) (used' : Bor ℕ)
+  by_request : (κs : Lfts 4) (method block : Bor (List ℕ)) (store : MutBor (List ℕ)) (used : MutBor ℕ) (r : ℕ) (method' block' : Bor (List ℕ)) (store' : MutBor (List ℕ)) (used' : MutBor ℕ)
       → request-reads.Post κs (method, (block, (store, (used, tt)))) r (method', (block', (store', (used', tt))))
       → Served (update (length store.now) (request method.now block.now)) store.now used.now store'.now used'.now r nothing nothing
-  by_response : (κs : Lfts 6) (call_id local_tag remote_tag : Bor (List ℕ)) (status : ℕ) (block store : Bor (List ℕ)) (used : Bor ℕ) (r : ℕ) (call_id' local_tag' remote_tag' block' store' : Bor (List ℕ)) (used' : Bor ℕ)
+  by_response : (κs : Lfts 6) (call_id local_tag remote_tag : Bor (List ℕ)) (status : ℕ) (block : Bor (List ℕ)) (store : MutBor (List ℕ)) (used : MutBor ℕ) (r : ℕ) (call_id' local_tag' remote_tag' block' : Bor (List ℕ)) (store' : MutBor (List ℕ)) (used' : MutBor ℕ)
       → response-reads.Post κs (call_id, (local_tag, (remote_tag, (status, (block, (store, (used, tt))))))) r (call_id', (local_tag', (remote_tag', (status, (block', (store', (used', tt)))))))
       → Served (update (length store.now) (response (ident call_id.now local_tag.now remote_tag.now) status block.now)) store.now used.now store'.now used'.now r nothing nothing
-  by_terminate : (κs : Lfts 5) (call_id local_tag remote_tag store : Bor (List ℕ)) (used : Bor ℕ) (r : ℕ) (call_id' local_tag' remote_tag' store' : Bor (List ℕ)) (used' : Bor ℕ)
+  by_terminate : (κs : Lfts 5) (call_id local_tag remote_tag : Bor (List ℕ)) (store : MutBor (List ℕ)) (used : MutBor ℕ) (r : ℕ) (call_id' local_tag' remote_tag' : Bor (List ℕ)) (store' : MutBor (List ℕ)) (used' : MutBor ℕ)
       → terminate-reads.Post κs (call_id, (local_tag, (remote_tag, (store, (used, tt))))) r (call_id', (local_tag', (remote_tag', (store', (used', tt)))))
       → Served (update (length store.now) (terminate (ident call_id.now local_tag.now remote_tag.now))) store.now used.now store'.now used'.now r nothing nothing
-  by_next_local_cseq : (κs : Lfts 6) (call_id local_tag remote_tag store : Bor (List ℕ)) (used number : Bor ℕ) (r : ℕ) (call_id' local_tag' remote_tag' store' : Bor (List ℕ)) (used' number' : Bor ℕ)
+  by_next_local_cseq : (κs : Lfts 6) (call_id local_tag remote_tag : Bor (List ℕ)) (store : MutBor (List ℕ)) (used number : MutBor ℕ) (r : ℕ) (call_id' local_tag' remote_tag' : Bor (List ℕ)) (store' : MutBor (List ℕ)) (used' number' : MutBor ℕ)
       → next-local-cseq-reads.Post κs (call_id, (local_tag, (remote_tag, (store, (used, (number, tt)))))) r (call_id', (local_tag', (remote_tag', (store', (used', (number', tt))))))
       → Served (update (length store.now) (local_number (ident call_id.now local_tag.now remote_tag.now))) store.now used.now store'.now used'.now r (numbered number.now) (numbered number'.now)
-  by_set_session_expires : (κs : Lfts 6) (call_id local_tag remote_tag : Bor (List ℕ)) (seconds : ℕ) (store : Bor (List ℕ)) (used least : Bor ℕ) (r : ℕ) (call_id' local_tag' remote_tag' store' : Bor (List ℕ)) (used' least' : Bor ℕ)
+  by_set_session_expires : (κs : Lfts 6) (call_id local_tag remote_tag : Bor (List ℕ)) (seconds : ℕ) (store : MutBor (List ℕ)) (used least : MutBor ℕ) (r : ℕ) (call_id' local_tag' remote_tag' : Bor (List ℕ)) (store' : MutBor (List ℕ)) (used' least' : MutBor ℕ)
       → set-session-expires-reads.Post κs (call_id, (local_tag, (remote_tag, (seconds, (store, (used, (least, tt))))))) r (call_id', (local_tag', (remote_tag', (seconds, (store', (used', (least', tt)))))))
       → Served (update (length store.now) (interval (ident call_id.now local_tag.now remote_tag.now) seconds)) store.now used.now store'.now used'.now r (with_least least.now) (with_least least'.now)
-  by_remove : (κs : Lfts 6) (call_id local_tag remote_tag store : Bor (List ℕ)) (used terminated : Bor ℕ) (r : ℕ) (call_id' local_tag' remote_tag' store' : Bor (List ℕ)) (used' terminated' : Bor ℕ)
+  by_remove : (κs : Lfts 6) (call_id local_tag remote_tag : Bor (List ℕ)) (store : MutBor (List ℕ)) (used terminated : MutBor ℕ) (r : ℕ) (call_id' local_tag' remote_tag' : Bor (List ℕ)) (store' : MutBor (List ℕ)) (used' terminated' : MutBor ℕ)
       → remove-reads.Post κs (call_id, (local_tag, (remote_tag, (store, (used, (terminated, tt)))))) r (call_id', (local_tag', (remote_tag', (store', (used', (terminated', tt))))))
       → Served (remove (length store.now) (ident call_id.now local_tag.now remote_tag.now)) store.now used.now store'.now used'.now r (with_count terminated.now) (with_count terminated'.now)
-  by_sweep : (κs : Lfts 2) (store : Bor (List ℕ)) (used : Bor ℕ) (r : ℕ) (store' : Bor (List ℕ)) (used' : Bor ℕ)
+  by_sweep : (κs : Lfts 2) (store : MutBor (List ℕ)) (used : MutBor ℕ) (r : ℕ) (store' : MutBor (List ℕ)) (used' : MutBor ℕ)
       → sweep-reads.Post κs (store, (used, tt)) r (store', (used', tt))
       → Served (sweep (length store.now)) store.now used.now store'.now used'.now r nothing nothing
-  by_get : (κs : Lfts 6) (call_id local_tag remote_tag store : Bor (List ℕ)) (used : ℕ) (place size : Bor ℕ) (r : ℕ) (call_id' local_tag' remote_tag' store' : Bor (List ℕ)) (place' size' : Bor ℕ)
+  by_get : (κs : Lfts 6) (call_id local_tag remote_tag store : Bor (List ℕ)) (used : ℕ) (place size : MutBor ℕ) (r : ℕ) (call_id' local_tag' remote_tag' store' : Bor (List ℕ)) (place' size' : MutBor ℕ)
       → get-reads.Post κs (call_id, (local_tag, (remote_tag, (store, (used, (place, (size, tt))))))) r (call_id', (local_tag', (remote_tag', (store', (used, (place', (size', tt)))))))
       → Served (read (length store.now) (get (ident call_id.now local_tag.now remote_tag.now))) store.now used store.now used r (placed place.now size.now) (placed place'.now size'.now)
-  by_find_by_call_id : (κs : Lfts 4) (call_id store : Bor (List ℕ)) (used : ℕ) (place size : Bor ℕ) (r : ℕ) (call_id' store' : Bor (List ℕ)) (place' size' : Bor ℕ)
+  by_find_by_call_id : (κs : Lfts 4) (call_id store : Bor (List ℕ)) (used : ℕ) (place size : MutBor ℕ) (r : ℕ) (call_id' store' : Bor (List ℕ)) (place' size' : MutBor ℕ)
       → find-by-call-id-reads.Post κs (call_id, (store, (used, (place, (size, tt))))) r (call_id', (store', (used, (place', (size', tt)))))
       → Served (read (length store.now) (find_by_call_id call_id.now)) store.now used store.now used r (placed place.now size.now) (placed place'.now size'.now)
-  by_find_by_request : (κs : Lfts 4) (block store : Bor (List ℕ)) (used : ℕ) (place size : Bor ℕ) (r : ℕ) (block' store' : Bor (List ℕ)) (place' size' : Bor ℕ)
+  by_find_by_request : (κs : Lfts 4) (block store : Bor (List ℕ)) (used : ℕ) (place size : MutBor ℕ) (r : ℕ) (block' store' : Bor (List ℕ)) (place' size' : MutBor ℕ)
       → find-by-request-reads.Post κs (block, (store, (used, (place, (size, tt))))) r (block', (store', (used, (place', (size', tt)))))
       → Served (read (length store.now) (find_by_request block.now)) store.now used store.now used r (placed place.now size.now) (placed place'.now size'.now)
-  by_count : (κs : Lfts 2) (store : Bor (List ℕ)) (used : ℕ) (held : Bor ℕ) (r : ℕ) (store' : Bor (List ℕ)) (held' : Bor ℕ)
+  by_count : (κs : Lfts 2) (store : Bor (List ℕ)) (used : ℕ) (held : MutBor ℕ) (r : ℕ) (store' : Bor (List ℕ)) (held' : MutBor ℕ)
       → count-reads.Post κs (store, (used, (held, tt))) r (store', (used, (held', tt)))
       → Served (read (length store.now) count) store.now used store.now used r (numbered held.now) (numbered held'.now)
-  by_all_ids : (κs : Lfts 3) (store : Bor (List ℕ)) (used : ℕ) (output : Bor (List ℕ)) (size : Bor ℕ) (r : ℕ) (store' output' : Bor (List ℕ)) (size' : Bor ℕ)
+  by_all_ids : (κs : Lfts 3) (store : Bor (List ℕ)) (used : ℕ) (output : MutBor (List ℕ)) (size : MutBor ℕ) (r : ℕ) (store' : Bor (List ℕ)) (output' : MutBor (List ℕ)) (size' : MutBor ℕ)
       → all-ids-reads.Post κs (store, (used, (output, (size, tt)))) r (store', (used, (output', (size', tt))))
       → Served (read (length store.now) (all_ids (length output.now))) store.now used store.now used r (listed output.now size.now) (listed output'.now size'.now)
 
@@ -216,11 +216,11 @@ remote_seen i (r ∷ rs) = cond (eqb r.number 0) (or_earlier (says i r.call) (re
 pub record Listed (bytes output output' : List ℕ) (size size' number : ℕ) : Type 0 where
   pub κs : Lfts 3
   pub store : Bor (List ℕ)
-  pub out : Bor (List ℕ)
-  pub written : Bor ℕ
+  pub out : MutBor (List ℕ)
+  pub written : MutBor ℕ
   pub store' : Bor (List ℕ)
-  pub out' : Bor (List ℕ)
-  pub written' : Bor ℕ
+  pub out' : MutBor (List ℕ)
+  pub written' : MutBor ℕ
   pub kept : listing-reads.Post κs (store, (out, (written, tt))) number (store', (out', (written', tt)))
   pub store_is : store.now ≡ bytes
   pub out_is : out.now ≡ output

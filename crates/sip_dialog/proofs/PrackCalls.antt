@@ -8,7 +8,7 @@ use mathlib.Core.List.{List}
 use mathlib.Core.Option.{Option, none, some, map}
 use lib.ListN.{length, take}
 use contract.Lifetimes.{Lfts}
-use denote.Ref.{Bor}
+use denote.Ref.{Bor, MutBor}
 use Rattle.limits.specs.Limits.{rust_limits}
 use Rattle.limits.specs.Outcome.{Outcome, number_in}
 use Rattle.msg.specs.Block.{is_block}
@@ -64,22 +64,22 @@ listed output size = record { rack = none; pracked = none; output = some output;
 -- A C function was called: with these bytes lent for the store and this used length it was entered, with those it returned, and this number; beside the store it
 -- was lent this, and left that.
 pub data Served : Call Action → (bytes : List ℕ) (used : ℕ) (after : List ℕ) (left number : ℕ) (given kept : Lent) → Type 0 where
-  by_register : (κs : Lfts 3) (id : Bor (List ℕ)) (rseq : ℕ) (cseq : ℕ) (method : ℕ) (code : ℕ) (time : ℕ) (store : Bor (List ℕ)) (used : Bor ℕ) (r : ℕ) (id' : Bor (List ℕ)) (store' : Bor (List ℕ)) (used' : Bor ℕ)
+  by_register : (κs : Lfts 3) (id : Bor (List ℕ)) (rseq : ℕ) (cseq : ℕ) (method : ℕ) (code : ℕ) (time : ℕ) (store : MutBor (List ℕ)) (used : MutBor ℕ) (r : ℕ) (id' : Bor (List ℕ)) (store' : MutBor (List ℕ)) (used' : MutBor ℕ)
       → register-reads.Post κs (id, (rseq, (cseq, (method, (code, (time, (store, (used, tt)))))))) r (id', (rseq, (cseq, (method, (code, (time, (store', (used', tt))))))))
       → Served (call_on store.now (register id.now rseq cseq method code time)) store.now used.now store'.now used'.now r nothing nothing
-  by_validate : (κs : Lfts 7) (id : Bor (List ℕ)) (block : Bor (List ℕ)) (time : ℕ) (store : Bor (List ℕ)) (used : Bor ℕ) (rseq : Bor ℕ) (cseq : Bor ℕ) (method : Bor ℕ) (r : ℕ) (id' : Bor (List ℕ)) (block' : Bor (List ℕ)) (store' : Bor (List ℕ)) (used' : Bor ℕ) (rseq' : Bor ℕ) (cseq' : Bor ℕ) (method' : Bor ℕ)
+  by_validate : (κs : Lfts 7) (id : Bor (List ℕ)) (block : Bor (List ℕ)) (time : ℕ) (store : MutBor (List ℕ)) (used : MutBor ℕ) (rseq : MutBor ℕ) (cseq : MutBor ℕ) (method : MutBor ℕ) (r : ℕ) (id' : Bor (List ℕ)) (block' : Bor (List ℕ)) (store' : MutBor (List ℕ)) (used' : MutBor ℕ) (rseq' : MutBor ℕ) (cseq' : MutBor ℕ) (method' : MutBor ℕ)
       → validate-reads.Post κs (id, (block, (time, (store, (used, (rseq, (cseq, (method, tt)))))))) r (id', (block', (time, (store', (used', (rseq', (cseq', (method', tt))))))))
       → Served (call_on store.now (validate id.now block.now time)) store.now used.now store'.now used'.now r (racked (rack_of rseq.now cseq.now method.now)) (racked (rack_of rseq'.now cseq'.now method'.now))
-  by_is_pracked : (κs : Lfts 3) (id : Bor (List ℕ)) (rseq : ℕ) (store : Bor (List ℕ)) (used : ℕ) (pracked : Bor ℕ) (r : ℕ) (id' : Bor (List ℕ)) (store' : Bor (List ℕ)) (pracked' : Bor ℕ)
+  by_is_pracked : (κs : Lfts 3) (id : Bor (List ℕ)) (rseq : ℕ) (store : Bor (List ℕ)) (used : ℕ) (pracked : MutBor ℕ) (r : ℕ) (id' : Bor (List ℕ)) (store' : Bor (List ℕ)) (pracked' : MutBor ℕ)
       → is-pracked-reads.Post κs (id, (rseq, (store, (used, (pracked, tt))))) r (id', (rseq, (store', (used, (pracked', tt)))))
       → Served (call_on store.now (is_pracked id.now rseq)) store.now used store.now used r (asked pracked.now) (asked pracked'.now)
-  by_get_pending : (κs : Lfts 5) (id : Bor (List ℕ)) (time : ℕ) (store : Bor (List ℕ)) (used : Bor ℕ) (out : Bor (List ℕ)) (size : Bor ℕ) (r : ℕ) (id' : Bor (List ℕ)) (store' : Bor (List ℕ)) (used' : Bor ℕ) (out' : Bor (List ℕ)) (size' : Bor ℕ)
+  by_get_pending : (κs : Lfts 5) (id : Bor (List ℕ)) (time : ℕ) (store : MutBor (List ℕ)) (used : MutBor ℕ) (out : MutBor (List ℕ)) (size : MutBor ℕ) (r : ℕ) (id' : Bor (List ℕ)) (store' : MutBor (List ℕ)) (used' : MutBor ℕ) (out' : MutBor (List ℕ)) (size' : MutBor ℕ)
       → get-pending-reads.Post κs (id, (time, (store, (used, (out, (size, tt)))))) r (id', (time, (store', (used', (out', (size', tt))))))
       → Served (call_on store.now (get_pending id.now time (length out.now))) store.now used.now store'.now used'.now r (listed out.now size.now) (listed out'.now size'.now)
-  by_remove_dialog : (κs : Lfts 3) (id : Bor (List ℕ)) (store : Bor (List ℕ)) (used : Bor ℕ) (r : ℕ) (id' : Bor (List ℕ)) (store' : Bor (List ℕ)) (used' : Bor ℕ)
+  by_remove_dialog : (κs : Lfts 3) (id : Bor (List ℕ)) (store : MutBor (List ℕ)) (used : MutBor ℕ) (r : ℕ) (id' : Bor (List ℕ)) (store' : MutBor (List ℕ)) (used' : MutBor ℕ)
       → remove-dialog-reads.Post κs (id, (store, (used, tt))) r (id', (store', (used', tt)))
       → Served (call_on store.now (remove_dialog id.now)) store.now used.now store'.now used'.now r nothing nothing
-  by_remove_pracked : (κs : Lfts 3) (id : Bor (List ℕ)) (rseq : ℕ) (store : Bor (List ℕ)) (used : Bor ℕ) (r : ℕ) (id' : Bor (List ℕ)) (store' : Bor (List ℕ)) (used' : Bor ℕ)
+  by_remove_pracked : (κs : Lfts 3) (id : Bor (List ℕ)) (rseq : ℕ) (store : MutBor (List ℕ)) (used : MutBor ℕ) (r : ℕ) (id' : Bor (List ℕ)) (store' : MutBor (List ℕ)) (used' : MutBor ℕ)
       → remove-pracked-reads.Post κs (id, (rseq, (store, (used, tt)))) r (id', (rseq, (store', (used', tt))))
       → Served (call_on store.now (remove_pracked id.now rseq)) store.now used.now store'.now used'.now r nothing nothing
 

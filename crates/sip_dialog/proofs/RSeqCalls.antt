@@ -7,7 +7,7 @@ use mathlib.Core.List.{List}
 use mathlib.Core.Option.{Option, none, some, map}
 use lib.ListN.{length}
 use contract.Lifetimes.{Lfts}
-use denote.Ref.{Bor}
+use denote.Ref.{Bor, MutBor}
 use Rattle.limits.specs.Limits.{rust_limits}
 use Rattle.limits.specs.Outcome.{Outcome}
 use Rattle.ordered_store.specs.Entries.{entry_of}
@@ -50,19 +50,19 @@ asked n = record { number = none; empty = some n }
 -- A C function was called: with these bytes lent for the store and this used length it was entered, with those it returned, and this number; beside the store it
 -- was lent this, and left that.
 pub data Served : Call Action → (bytes : List ℕ) (used : ℕ) (after : List ℕ) (left number : ℕ) (given kept : Lent) → Type 0 where
-  by_next : (κs : Lfts 6) (call_id local_tag remote_tag : Bor (List ℕ)) (n : ℕ) (store : Bor (List ℕ)) (used rseq : Bor ℕ) (r : ℕ) (call_id' local_tag' remote_tag' store' : Bor (List ℕ)) (used' rseq' : Bor ℕ)
+  by_next : (κs : Lfts 6) (call_id local_tag remote_tag : Bor (List ℕ)) (n : ℕ) (store : MutBor (List ℕ)) (used rseq : MutBor ℕ) (r : ℕ) (call_id' local_tag' remote_tag' : Bor (List ℕ)) (store' : MutBor (List ℕ)) (used' rseq' : MutBor ℕ)
       → next-reads.Post κs (call_id, (local_tag, (remote_tag, (n, (store, (used, (rseq, tt))))))) r (call_id', (local_tag', (remote_tag', (n, (store', (used', (rseq', tt)))))))
       → Served (call_on store.now (next (ident call_id.now local_tag.now remote_tag.now) n)) store.now used.now store'.now used'.now r (numbered rseq.now) (numbered rseq'.now)
-  by_current : (κs : Lfts 5) (call_id local_tag remote_tag store : Bor (List ℕ)) (used : ℕ) (rseq : Bor ℕ) (r : ℕ) (call_id' local_tag' remote_tag' store' : Bor (List ℕ)) (rseq' : Bor ℕ)
+  by_current : (κs : Lfts 5) (call_id local_tag remote_tag store : Bor (List ℕ)) (used : ℕ) (rseq : MutBor ℕ) (r : ℕ) (call_id' local_tag' remote_tag' store' : Bor (List ℕ)) (rseq' : MutBor ℕ)
       → current-reads.Post κs (call_id, (local_tag, (remote_tag, (store, (used, (rseq, tt)))))) r (call_id', (local_tag', (remote_tag', (store', (used, (rseq', tt))))))
       → Served (call_on store.now (current (ident call_id.now local_tag.now remote_tag.now))) store.now used store.now used r (numbered rseq.now) (numbered rseq'.now)
-  by_remove : (κs : Lfts 5) (call_id local_tag remote_tag store : Bor (List ℕ)) (used : Bor ℕ) (r : ℕ) (call_id' local_tag' remote_tag' store' : Bor (List ℕ)) (used' : Bor ℕ)
+  by_remove : (κs : Lfts 5) (call_id local_tag remote_tag : Bor (List ℕ)) (store : MutBor (List ℕ)) (used : MutBor ℕ) (r : ℕ) (call_id' local_tag' remote_tag' : Bor (List ℕ)) (store' : MutBor (List ℕ)) (used' : MutBor ℕ)
       → remove-reads.Post κs (call_id, (local_tag, (remote_tag, (store, (used, tt))))) r (call_id', (local_tag', (remote_tag', (store', (used', tt)))))
       → Served (call_on store.now (remove (ident call_id.now local_tag.now remote_tag.now))) store.now used.now store'.now used'.now r nothing nothing
-  by_len : (κs : Lfts 2) (store : Bor (List ℕ)) (used : ℕ) (count : Bor ℕ) (r : ℕ) (store' : Bor (List ℕ)) (count' : Bor ℕ)
+  by_len : (κs : Lfts 2) (store : Bor (List ℕ)) (used : ℕ) (count : MutBor ℕ) (r : ℕ) (store' : Bor (List ℕ)) (count' : MutBor ℕ)
       → len-reads.Post κs (store, (used, (count, tt))) r (store', (used, (count', tt)))
       → Served (call_on store.now len) store.now used store.now used r (numbered count.now) (numbered count'.now)
-  by_is_empty : (κs : Lfts 2) (store : Bor (List ℕ)) (used : ℕ) (empty : Bor ℕ) (r : ℕ) (store' : Bor (List ℕ)) (empty' : Bor ℕ)
+  by_is_empty : (κs : Lfts 2) (store : Bor (List ℕ)) (used : ℕ) (empty : MutBor ℕ) (r : ℕ) (store' : Bor (List ℕ)) (empty' : MutBor ℕ)
       → is-empty-reads.Post κs (store, (used, (empty, tt))) r (store', (used, (empty', tt)))
       → Served (call_on store.now len) store.now used store.now used r (asked empty.now) (asked empty'.now)
 

@@ -8,7 +8,7 @@ use mathlib.Core.List.{List, [], ◌∷◌, ◌++◌}
 use mathlib.Core.Option.{Option, none, some, map}
 use lib.ListN.{length, take, drop, length-take}
 use contract.Lifetimes.{Lfts}
-use denote.Ref.{Bor}
+use denote.Ref.{Bor, MutBor}
 use Rattle.limits.specs.Outcome.{Outcome, refused, given, number_in}
 use Rattle.output.specs.Output.{written_from}
 use Rattle.ordered_store.specs.History.{Seen, EachShows}
@@ -37,10 +37,10 @@ numbers refusals found start = record { refusals = refusals; found = found; star
 -- A C function was called: with these bytes lent for the run and this used length it was entered, with those it returned, and this number; beside the run it was
 -- lent this, and left that.
 pub data Served : Call → (bytes : List ℕ) (used : ℕ) (after : List ℕ) (left number : ℕ) (given kept : Lent) → Type 0 where
-  by_add : (κs : Lfts 2) (time number : ℕ) (run : Bor (List ℕ)) (used : Bor ℕ) (r : ℕ) (run' : Bor (List ℕ)) (used' : Bor ℕ)
+  by_add : (κs : Lfts 2) (time number : ℕ) (run : MutBor (List ℕ)) (used : MutBor ℕ) (r : ℕ) (run' : MutBor (List ℕ)) (used' : MutBor ℕ)
       → add_reads.Post κs (time, (number, (run, (used, tt)))) r (time, (number, (run', (used', tt))))
       → Served (add (length run.now) (record { time = time; number = number })) run.now used.now run'.now used'.now r none none
-  by_ask : (κs : Lfts 4) (run : Bor (List ℕ)) (used : ℕ) (refusals found start : Bor ℕ) (r : ℕ) (run' : Bor (List ℕ)) (refusals' found' start' : Bor ℕ)
+  by_ask : (κs : Lfts 4) (run : Bor (List ℕ)) (used : ℕ) (refusals found start : MutBor ℕ) (r : ℕ) (run' : Bor (List ℕ)) (refusals' found' start' : MutBor ℕ)
       → worst-reads.Post κs (run, (used, (refusals, (found, (start, tt))))) r (run', (used, (refusals', (found', (start', tt)))))
       → Served (ask (length run.now)) run.now used run.now used r (some (numbers refusals.now found.now start.now)) (some (numbers refusals'.now found'.now start'.now))
 

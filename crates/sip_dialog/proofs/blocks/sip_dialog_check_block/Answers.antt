@@ -1,0 +1,7 @@
+-- `sip_dialog_check_block` meets its contract: what is handed over is the answer of the call. Assumes nothing.
+use mathlib.Core.Path.{ap, ◌∙◌}
+use Rattle.c_answers.specs.Given.{check_number}
+use Rattle.sip_dialog.proofs.blocks.sip_dialog_check_block.Goals as goal
+
+pub returns : goal.returns
+returns c = c.check_number.ensures ∙ ap check_number c.check_block.ensures

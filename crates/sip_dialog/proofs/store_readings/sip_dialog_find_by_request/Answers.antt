@@ -1,0 +1,27 @@
+-- `sip_dialog_find_by_request` meets its contract: what is handed over is the answer of `run`. Assumes nothing.
+use lib.ListN.{length}
+use Rattle.limits.specs.Limits.{rust_limits}
+use Rattle.codec.proofs.CodecLaws.{bytes_all}
+use Rattle.book.specs.Calls.{find_by_request}
+use Rattle.c_store_answers.proofs.ReturnLaws.{reading_returns}
+use Rattle.sip_dialog.proofs.store_readings.sip_dialog_find_by_request.Goals as goal
+
+pub returns-clause-returns : goal.returns-clause-returns
+returns-clause-returns c =
+    let a = c.args in
+    let h = bytes_all a.store.now (λ i. (c.type_inv.store i).fits) in
+    let e = c.find_by_request.ensures in
+    let g = c.give_place.ensures in
+    reading_returns rust_limits (length a.store.now) (find_by_request a.block.now) a.store.now a.used h _ (rw (← e) g.value)
+
+pub returns-clause-place_after : goal.returns-clause-place_after
+returns-clause-place_after c =
+    let e = c.find_by_request.ensures in
+    let g = c.give_place.ensures in
+    rw (← e) g.place_after
+
+pub returns-clause-length_after : goal.returns-clause-length_after
+returns-clause-length_after c =
+    let e = c.find_by_request.ensures in
+    let g = c.give_place.ensures in
+    rw (← e) g.length_after

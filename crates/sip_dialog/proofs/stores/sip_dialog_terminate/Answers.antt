@@ -1,0 +1,12 @@
+-- `sip_dialog_terminate` meets its contract: what is handed over is what `run` leaves. Assumes nothing.
+use lib.ListN.{length}
+use Rattle.limits.specs.Limits.{rust_limits}
+use Rattle.dialog_id.specs.Ident.{ident}
+use Rattle.book.specs.Calls.{terminate, update}
+use Rattle.c_store_answers.proofs.ReturnLaws.{written_returns}
+use Rattle.sip_dialog.proofs.stores.sip_dialog_terminate.Goals as goal
+
+pub returns : goal.returns
+returns c =
+    let a = c.args in
+    written_returns rust_limits (update (length a.store.now) (terminate (ident a.call_id.now a.local_tag.now a.remote_tag.now))) a.store.now a.used.now _ _ _ _ c.terminate.ensures.value c.terminate.ensures.bytes_after c.give_written.ensures

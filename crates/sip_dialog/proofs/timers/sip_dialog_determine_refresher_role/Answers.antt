@@ -1,0 +1,5 @@
+-- `sip_dialog_determine_refresher_role` meets its contract: what is handed over is the answer of the call. Assumes nothing.
+use Rattle.sip_dialog.proofs.timers.sip_dialog_determine_refresher_role.Goals as goal
+
+pub returns : goal.returns
+returns c = rw (← c.determine_refresher_role.ensures) c.give_role.ensures

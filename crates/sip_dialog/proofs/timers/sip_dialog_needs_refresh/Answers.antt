@@ -1,0 +1,5 @@
+-- `sip_dialog_needs_refresh` meets its contract: what is handed over is the answer of the call. Assumes nothing.
+use Rattle.sip_dialog.proofs.timers.sip_dialog_needs_refresh.Goals as goal
+
+pub returns : goal.returns
+returns c = rw (← c.seconds_if.ensures) c.needs_refresh.ensures
