@@ -110,4 +110,3 @@ returns-in-Broken-clause-bytes_after c =
 pub returns-in-Broken-clause-used_value : goal.returns-in-Broken-clause-used_value
 returns-in-Broken-clause-used_value c =
     (second_second (written_kept (c.args.bytes.now) (c.args.used) (by_store (c.args.bytes.now) (c.args.used) (remove_dialog (c.args.id.now)) (clear (goal.at.returns-in-Broken-clause-used_value c).After-find) (c.args.id.now) (sym c.find.ensures ∙ c.in-Broken.is))))
-

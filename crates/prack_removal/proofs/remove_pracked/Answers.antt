@@ -151,4 +151,3 @@ returns-in-Broken-clause-bytes_after c =
 pub returns-in-Broken-clause-used_value : goal.returns-in-Broken-clause-used_value
 returns-in-Broken-clause-used_value c =
     (second_second (written_kept (c.args.bytes.now) (c.args.used) (by_store (c.args.bytes.now) (c.args.used) (remove_pracked (c.args.id.now) (c.args.rseq)) (clear (goal.at.returns-in-Broken-clause-used_value c).After-find-slot) (c.args.id.now) (sym c.find-slot.ensures ∙ c.in-Broken.is))))
-
