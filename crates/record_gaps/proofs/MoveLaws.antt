@@ -1,10 +1,10 @@
 -- Pieces put into a list one after another: which parts of the list they leave, and in which order they may come. Assumes nothing.
-use mathlib.Core.Path.{◌≡◌, refl, sym, ap, ◌∙◌}
+use mathlib.Core.Path.{◌≡◌, sym, ap, ◌∙◌}
 use mathlib.Core.List.{List, ◌++◌, append_assoc}
 use Prim.Native.Nat.{ℕ, ◌+◌, ◌-◌, ◌≤◌}
 use native.Mathlib.Omega.{arith}
 use lib.ListN.{length, take, drop, length-append, length-drop}
-use lib.Seq.{length-take-le, take-take, take_at, drop_at, take-append-le, drop-append-le, take-append-add, drop-append-add, drop-drop}
+use lib.Seq.{length-take-le, take-take, drop_at, take-append-le, drop-append-le, take-append-add, drop-append-add, drop-drop}
 use Rattle.edit.specs.Edit.{put_at}
 use Rattle.edit.proofs.EditLaws.{drop_take}
 

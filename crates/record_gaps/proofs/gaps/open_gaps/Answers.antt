@@ -27,13 +27,16 @@ joined c =
     let behind = a.b + a.old_b in
     let end = to + m + a.new_b in
     let n = a.used - behind in
-    elim c.if-to-from.branch [ then-to-from w ↦ (
-      w.bytes-is ∙ w.shift.ensures ∙ left_first s from to m behind end n (omega arith) (omega arith) (omega arith) (omega arith) w.move_left.new.bytes (omega (arith, w.if-to-from.true)) w.move_left.ensures,
-      ap length w.bytes-is ∙ w.shift.auto.bytes ∙ w.move_left.auto.bytes,
-    ) | else-to-from w ↦ (
-      w.bytes-is ∙ w.move_right.ensures ∙ right_first s from to m behind end n (omega arith) (omega arith) (omega arith) (omega arith) w.shift-else-to-from.new.bytes (omega (arith, w.if-to-from.false)) w.shift-else-to-from.ensures,
-      ap length w.bytes-is ∙ w.move_right.auto.bytes ∙ w.shift-else-to-from.auto.bytes,
-    ) ]
+    elim c.if-to-from.branch [
+      | then-to-from w ↦ (
+        w.bytes-is ∙ w.shift.ensures ∙ left_first s from to m behind end n (omega arith) (omega arith) (omega arith) (omega arith) w.move_left.new.bytes (omega (arith, w.if-to-from.true)) w.move_left.ensures,
+        ap length w.bytes-is ∙ w.shift.auto.bytes ∙ w.move_left.auto.bytes,
+      )
+      | else-to-from w ↦ (
+        w.bytes-is ∙ w.move_right.ensures ∙ right_first s from to m behind end n (omega arith) (omega arith) (omega arith) (omega arith) w.shift-else-to-from.new.bytes (omega (arith, w.if-to-from.false)) w.shift-else-to-from.ensures,
+        ap length w.bytes-is ∙ w.move_right.auto.bytes ∙ w.shift-else-to-from.auto.bytes,
+      )
+    ]
 
 pub returns-clause-bytes_after : goal.returns-clause-bytes_after
 returns-clause-bytes_after c = (joined c).0
