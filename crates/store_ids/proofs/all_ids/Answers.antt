@@ -6,7 +6,7 @@ use lib.ListN.{length, take}
 use lib.Seq.{length-take-le}
 use Rattle.limits.specs.Limits.{rust_limits}
 use Rattle.output.specs.declared.Written.TheVariants as written
-use Rattle.codec.proofs.CodecLaws.{Bytes, bytes_all}
+use Rattle.codec.proofs.CodecLaws.{bytes_all}
 use Rattle.book.specs.Calls.{Answer}
 use Rattle.record.specs.Store.{decode_all}
 use Rattle.book.specs.Store.{output_after}

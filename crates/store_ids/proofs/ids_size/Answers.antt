@@ -1,5 +1,5 @@
 -- `store_ids::ids_size` meets its contract: the number is how many bytes the identifiers passed take. Assumes nothing.
-use Prim.Native.Nat.{ℕ, ◌-◌}
+use Prim.Native.Nat.{ℕ}
 use mathlib.Core.Path.{sym, ap, ◌∙◌}
 use mathlib.Core.List.{List}
 use lib.ListN.{length}

@@ -1,5 +1,5 @@
 -- `store_ids::write_all` meets its contract: the front of the output is the identifiers passed, the bytes after it are what they were. Assumes nothing.
-use Prim.Native.Nat.{ℕ, ◌-◌}
+use Prim.Native.Nat.{ℕ}
 use mathlib.Core.Path.{sym, ap, ◌∙◌}
 use mathlib.Core.List.{List}
 use Rattle.edit.specs.Edit.{over}

@@ -23,4 +23,3 @@ returns-clause-out_after c =
     let a = c.args in
     let s = a.bytes.now in
     (second2 (wrote_three a.to (text.write (part_in s a.ids.call_id)) (text.write (part_in s a.ids.local_tag)) (text.write (part_in s a.ids.remote_tag)) a.out.now (omega arith) (c.write_part-a.ensures.value, c.write_part-a.ensures.out_after) (c.write_part-b.ensures.value, c.write_part-b.ensures.out_after) (c.write_part.ensures.value, c.write_part.ensures.out_after)))
-
