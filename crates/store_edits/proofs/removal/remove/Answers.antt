@@ -45,4 +45,3 @@ pub returns-in-Refused-clause-bytes_after : goal.returns-in-Refused-clause-bytes
 returns-in-Refused-clause-bytes_after c =
     let a = c.args in
     (second2 (turned_back (refuses rust_limits (length a.bytes.now) a.call_id.now a.local_tag.now a.remote_tag.now a.bytes.now a.used (bytes_all a.bytes.now (λ i. (c.slice_known-1.given i).fits)) c.in-Refused.cause (ap answer_in (sym c.in-Refused.is) ∙ c.get.ensures))))
-

@@ -6,7 +6,7 @@ use lib.ListN.{length}
 use Rattle.edit.specs.Edit.{over}
 use Rattle.codec.proofs.CodecLaws.{bytes_all}
 use Rattle.store_edits.specs.Edits.{StayingAt}
-use Rattle.store_edits.proofs.SweepLaws.{Closing, start, stands, Next, next, done, same_long}
+use Rattle.store_edits.proofs.SweepLaws.{start, stands, Next, next, done, same_long}
 use native.Mathlib.Omega.{arith}
 use Rattle.store_edits.proofs.sweeps.close_up.Goals as goal
 

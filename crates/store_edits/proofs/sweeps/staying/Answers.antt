@@ -1,5 +1,5 @@
 -- `sweeps::staying` meets its contract: the state byte tells whether the record is Terminated. Assumes nothing.
-use Rattle.codec.proofs.CodecLaws.{Bytes, bytes_all}
+use Rattle.codec.proofs.CodecLaws.{bytes_all}
 use Rattle.store_edits.proofs.StateLaws.{state_within, none_stay, all_stay}
 use Rattle.store_edits.proofs.sweeps.staying.Goals as goal
 
