@@ -133,6 +133,6 @@ returns-clause-bytes_after c =
     let section : section_in true (routes_of rust_limits a.block.now) ≡ section_of l = ap (section_in true) (read (goal.at.returns-clause-bytes_after c).Start).is in
     let written : c.write_tail.new.bytes ≡ put_at (to + m) tail c.open_gaps-n.new.bytes = c.write_tail.ensures ∙ ap (λ (q : List ℕ). put_at (to + m) (numbers_bytes x ++ q) c.open_gaps-n.new.bytes) section in
     c.write_head.ensures
-          ∙ ap (λ (k : ℕ). put_at a.at (two.write (map_from x a.r.ids k)) (put_at a.r.state ((state_byte_number (record { state = x.state; we_are_uac = a.r.we_are_uac; secure = a.r.uris.local_secure || a.r.uris.remote_secure }) ∷ []) ++ text.write a.target.now) c.write_tail.new.bytes)) (read (goal.at.returns-clause-bytes_after c).Start).count_is
-          ∙ ap (λ (q : List ℕ). put_at a.at (two.write (map_from x a.r.ids (length l))) (put_at a.r.state ((state_byte_number (record { state = x.state; we_are_uac = a.r.we_are_uac; secure = a.r.uris.local_secure || a.r.uris.remote_secure }) ∷ []) ++ text.write a.target.now) q)) (written ∙ ap (put_at (to + m) tail) opened)
-          ∙ all_edit s a.used a.at a.r c.requires.used_in_bounds.0 (stood (goal.at.returns-clause-bytes_after c).Start (λ i. (c.slice_known-1.given i).fits)) x a.target.now l (renewed x (routes_of rust_limits a.block.now) a.target.now) (becomes (goal.at.returns-clause-bytes_after c).Start (λ i. (c.slice_known-1.given i).fits)) (omega (arith, room (goal.at.returns-clause-bytes_after c).Start (λ i. (c.slice_known-1.given i).fits), (read (goal.at.returns-clause-bytes_after c).Start).size_is))
+    ∙ ap (λ (k : ℕ). put_at a.at (two.write (map_from x a.r.ids k)) (put_at a.r.state ((state_byte_number (record { state = x.state; we_are_uac = a.r.we_are_uac; secure = a.r.uris.local_secure || a.r.uris.remote_secure }) ∷ []) ++ text.write a.target.now) c.write_tail.new.bytes)) (read (goal.at.returns-clause-bytes_after c).Start).count_is
+    ∙ ap (λ (q : List ℕ). put_at a.at (two.write (map_from x a.r.ids (length l))) (put_at a.r.state ((state_byte_number (record { state = x.state; we_are_uac = a.r.we_are_uac; secure = a.r.uris.local_secure || a.r.uris.remote_secure }) ∷ []) ++ text.write a.target.now) q)) (written ∙ ap (put_at (to + m) tail) opened)
+    ∙ all_edit s a.used a.at a.r c.requires.used_in_bounds.0 (stood (goal.at.returns-clause-bytes_after c).Start (λ i. (c.slice_known-1.given i).fits)) x a.target.now l (renewed x (routes_of rust_limits a.block.now) a.target.now) (becomes (goal.at.returns-clause-bytes_after c).Start (λ i. (c.slice_known-1.given i).fits)) (omega (arith, room (goal.at.returns-clause-bytes_after c).Start (λ i. (c.slice_known-1.given i).fits), (read (goal.at.returns-clause-bytes_after c).Start).size_is))
