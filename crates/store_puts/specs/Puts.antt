@@ -1,6 +1,6 @@
 -- Steps of the code: the put of one record image (document 01, "A request arrives", "Entry": "a put is an `insert` of one record image"). What it leaves is
 -- `run` (book/specs/Store.antt); here the call is set out, and what the functions below it promise.
-use Rattle.std.specs.Prelude.{ℕ, ◌≤◌, ◌≡◌, Bool, true, false, cond, not, ◌&&◌, List, length, take, get_or, leb}
+use Rattle.std.specs.Prelude.{ℕ, ◌≤◌, ◌≡◌, Bool, false, cond, not, ◌&&◌, List, length, take, get_or, leb}
 use Rattle.std.proofs.Math.Option.{Option, none, some}
 use Rattle.limits.specs.Limits.{LimitSet}
 use Rattle.limits.specs.Outcome.{given}

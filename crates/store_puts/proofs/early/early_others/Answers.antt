@@ -1,5 +1,5 @@
 -- `early::early_others` meets its contract: those counted so far, and those of the records left. Assumes nothing.
-use Prim.Native.Nat.{ℕ, ◌+◌, ◌-◌}
+use Prim.Native.Nat.{ℕ, ◌+◌}
 use mathlib.Core.Path.{sym, subst}
 use Rattle.codec.proofs.CodecLaws.{Bytes, bytes_all}
 use Rattle.dialog_id.specs.Ident.{ident}

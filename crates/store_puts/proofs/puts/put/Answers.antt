@@ -13,7 +13,6 @@ use Rattle.store.specs.declared.Held.TheVariants as held
 use Rattle.store_puts.proofs.PutLaws.{store_unread, not_one, too_many, full, open_to, texts_within, image_named}
 use Rattle.store_edits.proofs.RemoveLaws.{turned_back}
 use native.Mathlib.Omega.{arith}
-use borrow.Author.Rules.{rules}
 use Rattle.store_puts.proofs.puts.put.Goals as goal
 use Rattle.store_puts.proofs.puts.put.Goals.{In-Of, In-Records}
 

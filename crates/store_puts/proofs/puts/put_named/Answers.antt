@@ -1,16 +1,11 @@
 -- `puts::put_named` meets its contract: 17, then the image in its place, or after all others. Assumes nothing.
 use Prim.Native.Nat.{◌≤◌}
-use mathlib.Core.Path.{◌≡◌, sym, subst, ◌∙◌}
-use mathlib.Core.Bool.{false}
+use mathlib.Core.Path.{sym, subst, ◌∙◌}
 use lib.ListN.{length, take}
 use Rattle.limits.specs.Limits.{rust_limits}
-use Rattle.record.specs.NumbersForm.{state_in}
 use Rattle.codec.proofs.CodecLaws.{Bytes, bytes_all}
-use Rattle.dialog_id.specs.Ident.{ident}
-use Rattle.record.specs.Store.{decode_all}
 use Rattle.dialog_manager.specs.Search.{Stands}
 use Rattle.dialog_manager.specs.declared.finding.Found.TheVariants as found
-use Rattle.store_puts.specs.Puts.{crowded_in}
 use Rattle.store_puts.proofs.PutLaws.{crowded, added_new, replaced_old, found_within}
 use Rattle.store_edits.proofs.RemoveLaws.{turned_back}
 use native.Mathlib.Omega.{arith}
