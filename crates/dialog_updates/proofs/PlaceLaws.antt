@@ -1,5 +1,5 @@
 -- A step on the record that stands at a place of the used bytes, and on the one record of an image. Assumes nothing.
-use Prim.Native.Nat.{ℕ, ◌≤◌, ◌<◌}
+use Prim.Native.Nat.{ℕ, ◌<◌}
 use native.Mathlib.Omega.{arith}
 use mathlib.Core.Path.{◌≡◌, refl, sym, ap, subst, ◌∙◌}
 use mathlib.Core.List.{List, [], ◌++◌}
@@ -19,7 +19,7 @@ use Rattle.image_edit.specs.Changes.{changed}
 use Rattle.image_edit.proofs.ImageCuts.{Held, held_used, changed_held}
 use Rattle.dialog_changes.specs.ImageUpdates.{image_after}
 use Rattle.dialog_changes.proofs.ImageUpdateLaws.{One, changed_one}
-use Rattle.dialog_updates.specs.AtPlace.{stepped_by, stepped}
+use Rattle.dialog_updates.specs.AtPlace.{stepped}
 
 -- ---- at a place
 

@@ -2,7 +2,7 @@
 -- read there, the update's own refusals, 18 where the used bytes with the changed record are more than the lent ones. The images around it stay.
 use Rattle.std.specs.Prelude.{ℕ, List, length}
 use Rattle.std.proofs.Math.Option.{Option, none, some}
-use Rattle.limits.specs.Outcome.{Outcome, refused, given, and_then}
+use Rattle.limits.specs.Outcome.{Outcome, refused, and_then}
 use Rattle.limits.specs.declared.Refusal.TheVariants.{BadStore}
 use Rattle.edit.specs.Edit.{spliced}
 use Rattle.output.specs.Output.{fitted}
