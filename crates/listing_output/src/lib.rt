@@ -11,9 +11,10 @@ ghost use Rattle.listing_lines.specs.Listing.{listing};
 use limits::Refusal;
 use output::Written;
 use std::io;
+use std::io::Write;
 
 // A line for each record of a store and their number, or `refused` and its number.
-pub fn print_listing(rt: &(impl Print + Eprint + AllocGlobal), store: &[u8]) -> io::Result<()> {
+pub fn print_listing(rt: &(impl Print + Eprint), store: &[u8]) {
     let mut text = [0u8; 131072];
     match list_any(store, &mut text) {
         Written::Length(n) => print(rt, &text[..n]),
@@ -31,34 +32,35 @@ fn list_any(store: &[u8], out: &mut [u8]) -> Written
 }
 
 // `refused` and the number, which isn't 18.
-fn print_refused(rt: &(impl Print + Eprint + AllocGlobal), cause: Refusal) -> io::Result<()>
+fn print_refused(rt: &(impl Print + Eprint), cause: Refusal)
     requires { cause ≢ NoRoom }
 {
     let mut text = [0u8; 192];
     let n = listing_text::write_refused(&mut text, cause);
-    print(rt, &text[..n])
+    print(rt, &text[..n]);
 }
 
 // A text as it is. Where it can't be written, standard error says so.
-pub fn print(rt: &(impl Print + Eprint + AllocGlobal), text: &[u8]) -> io::Result<()> {
-    match rt.write_all(text) {
-        Ok(()) => Ok(()),
-        Err(error) => report(rt, "standard output", error),
+pub fn print(rt: &(impl Print + Eprint), text: &[u8]) {
+    if let Err(error) = rt.write_all(text) {
+        report(rt, "standard output", error);
     }
 }
 
-// A line on standard error: what failed, and why, as the system words it. An error that isn't the system's, as of memory, is handed back.
-pub fn report(rt: &(impl Eprint + AllocGlobal), what: &str, error: io::Error) -> io::Result<()> {
-    if error.raw_os_error().is_none() {
-        return Err(error);
-    }
-    let text = error.to_string(rt.alloc())?;
-    let why = words(text.as_str());
-    eprintln!(rt; "{what}: {why}")
+// A line on standard error: what failed, and why, as the system words it.
+pub fn report(rt: &impl Eprint, what: &str, error: io::Error) {
+    let mut text = [0u8; 320];
+    let mut rest: &mut [u8] = &mut text;
+    let _ = write!(rest, "{error}");
+    let left = rest.len();
+    let n = text.len().saturating_sub(left);
+    let why = words(&text[..n]);
+    let _ = eprintln!(rt; "{what}: {why}");
 }
 
 // What the system says, without the error's number.
-fn words(text: &str) -> &str {
+fn words(text: &[u8]) -> &str {
+    let text = str::from_utf8(text).unwrap_or("");
     match text.split_once(" (os error ") {
         Some((words, _number)) => words,
         None => text,
