@@ -11,4 +11,3 @@ pub returns-clause-ready : goal.returns-clause-ready
 returns-clause-ready c =
     let a = c.args in
     c.locate.ensures.ready
-

@@ -108,4 +108,3 @@ pub returns-in-Refused-clause-used_value : goal.returns-in-Refused-clause-used_v
 returns-in-Refused-clause-used_value c =
     let a = c.args in
     (second_second (request_bad a.method.now a.block.now a.bytes.now a.used (sym c.too_long.ensures ∙ c.if-too_long.false) (headers_bad (block_cause rust_limits a.block.now) _ _ (sym c.read_headers.ensures ∙ c.in-Refused.is))))
-
