@@ -2,21 +2,24 @@
 #![tactic(auto)]
 
 use listing_output::{print_listing, report};
-use std::io;
 use std::io::Read;
 
-// One byte more than a listed store may have, so that a longer input is seen to be longer.
-const MOST: u64 = 65537;
-
-fn main(rt: HostRuntime) -> io::Result<()> {
-    list_input(&rt)
+fn main(rt: HostRuntime) {
+    // One byte more than a listed store may have, so that a longer input is seen to be longer.
+    let mut store = [0u8; 65537];
+    list_input(&rt, &mut store);
 }
 
-// Reads the input to its end, or as far as bytes are listed, and prints its listing. A read that fails is not taken for the end.
-fn list_input(rt: &(impl Input + Print + Eprint + AllocGlobal)) -> io::Result<()> {
-    let mut store = Vec::new(rt.alloc());
-    match rt.reader().take(MOST).read_to_end(&mut store) {
-        Ok(_) => print_listing(rt, store.as_slice()),
-        Err(error) => report(rt, "standard input", error),
+// Reads the input to its end, or as far as bytes go, and prints its listing. A read that fails is not taken for the end.
+fn list_input(rt: &(impl Input + Print + Eprint), bytes: &mut [u8]) {
+    let mut input = rt.reader();
+    let mut at = 0;
+    while at < bytes.len() {
+        match input.read(&mut bytes[at..]) {
+            Ok(0) => break,
+            Ok(n) => at += n,
+            Err(error) => return report(rt, "standard input", error),
+        }
     }
+    print_listing(rt, &bytes[..at]);
 }
