@@ -41,4 +41,3 @@ returns-in-Refused-clause-bytes_after c =
 pub returns-in-Refused-clause-used_value : goal.returns-in-Refused-clause-used_value
 returns-in-Refused-clause-used_value c =
     (second_second (raise_not (name (goal.at.returns-in-Refused-clause-used_value c).Start) c.args.bytes.now c.args.used (call_refused (raises (name (goal.at.returns-in-Refused-clause-used_value c).Start)) c.args.bytes.now c.args.used c.find_record.ensures.value c.in-Refused.is)))
-

@@ -65,4 +65,3 @@ returns-in-Refused-clause-bytes_after c =
 pub returns-in-Refused-clause-used_value : goal.returns-in-Refused-clause-used_value
 returns-in-Refused-clause-used_value c =
     (second_second (call_refused (responds (name (goal.at.returns-in-Refused-clause-used_value c).Start) c.args.status c.args.block.now) c.args.bytes.now c.args.used (found (goal.at.returns-in-Refused-clause-used_value c).After-find_record) c.in-Refused.is))
-

@@ -45,4 +45,3 @@ returns-in-Refused-clause-bytes_after c =
 pub returns-in-Refused-clause-used_value : goal.returns-in-Refused-clause-used_value
 returns-in-Refused-clause-used_value c =
     (second_second (call_refused (sets (name (goal.at.returns-in-Refused-clause-used_value c).Start) c.args.seconds) c.args.bytes.now c.args.used c.find_record.ensures.value c.in-Refused.is))
-
