@@ -2,41 +2,52 @@
 // The stores and what is to be printed are made by tests/stores.py.
 #![tactic(auto)]
 
+ghost use Rattle.std.specs.Prelude.{◌≤◌, IfOk, length};
+
 use listing_output::{print, print_listing, report};
 use std::io::Read;
 use std::rt::Files;
 use std::{env, fs, io};
 
-// One byte more than a listed store may have, as in `listing`.
-const MOST: u64 = 65537;
-
 fn main(rt: HostRuntime) -> io::Result<()> {
     for path in env::args(&rt)?.skip(1) {
-        list_file(&rt, path.as_str())?;
+        list_file(&rt, path.as_str());
     }
     Ok(())
 }
 
 // The file at a path.
-fn list_file(rt: &(impl Files + Print + Eprint + AllocGlobal), path: &str) -> io::Result<()> {
+fn list_file(rt: &(impl Files + Print + Eprint), path: &str) {
     match fs::open(rt, path) {
         Ok(file) => {
-            print(rt, path.as_bytes())?;
-            print(rt, b"\n")?;
-            list_opened(rt, path, file)
+            print(rt, path.as_bytes());
+            print(rt, b"\n");
+            list_opened(rt, path, file);
         }
         Err(error) => report(rt, path, error),
     }
 }
 
-fn list_opened(
-    rt: &(impl Print + Eprint + AllocGlobal),
-    path: &str,
-    file: impl Read + Drop,
-) -> io::Result<()> {
-    let mut store = Vec::new(rt.alloc());
-    match file.take(MOST).read_to_end(&mut store) {
-        Ok(_) => print_listing(rt, store.as_slice()),
+fn list_opened(rt: &(impl Print + Eprint), path: &str, mut file: impl Read + Drop) {
+    // One byte more than a listed store may have, as in `listing`.
+    let mut store = [0u8; 65537];
+    match read_full(&mut file, &mut store) {
+        Ok(n) => print_listing(rt, &store[..n]),
         Err(error) => report(rt, path, error),
     }
+}
+
+// Reads to the end, or until the bytes are full: how many there are.
+fn read_full(file: &mut impl Read, bytes: &mut [u8]) -> io::Result<usize>
+    ensures { IfOk result (λ n. n ≤ length bytes.new) }
+{
+    let mut at = 0;
+    while at < bytes.len() {
+        let n = file.read(&mut bytes[at..])?;
+        if n == 0 {
+            break;
+        }
+        at += n;
+    }
+    Ok(at)
 }
