@@ -1,9 +1,9 @@
 -- The lines of records, a record at a time: those written so far, and those of the records that are left. Assumes nothing.
-use Prim.Native.Nat.{ℕ, zero, suc, ◌+◌, ◌*◌, ◌-◌, ◌≤◌, ◌<◌}
+use Prim.Native.Nat.{ℕ, zero, suc, ◌+◌, ◌*◌, ◌≤◌, ◌<◌}
 use native.Mathlib.Numerals.{add-one}
 use native.Mathlib.Omega.{arith}
-use mathlib.Core.Path.{◌≡◌, refl, sym, ap, subst, ◌∙◌}
-use mathlib.Core.Bool.{Bool, true, false}
+use mathlib.Core.Path.{◌≡◌, refl, sym, ap, ◌∙◌}
+use mathlib.Core.Bool.{true}
 use mathlib.Core.List.{List, [], ◌∷◌, ◌++◌, append_assoc, append-nil}
 use mathlib.Core.Option.{Option, none, some}
 use lib.ListN.{length, drop, length-append, drop_of_length-le}
@@ -12,13 +12,13 @@ use Rattle.codec.specs.Codec.{Reading}
 use Rattle.record.specs.Record.{Numbers, Record, is_given, image}
 use Rattle.record.specs.NumbersForm.{meaning}
 use Rattle.record.proofs.NumberLaws.{meaning_same}
-use Rattle.record.specs.Store.{records_in, record_before, read_on, unless_done}
+use Rattle.record.specs.Store.{records_in, record_before}
 use Rattle.image.specs.Places.{record_from, record_places}
 use Rattle.image.specs.declared.RecordAt.{RecordAt}
 use Rattle.image.specs.declared.RecordReading.TheVariants.{Whole, Broken}
-use Rattle.image.proofs.AnswerLaws.{RecordGot, record_got, record_not}
+use Rattle.image.proofs.AnswerLaws.{record_got, record_not}
 use Rattle.listing_lines.specs.Listing.{columns, columns_of, line_of, lines_from}
-use Rattle.listing_lines.specs.Steps.{records_of, listed, listed_lines}
+use Rattle.listing_lines.specs.Steps.{records_of, listed_lines}
 
 -- ---- the line of a record
 

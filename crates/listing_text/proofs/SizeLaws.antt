@@ -1,7 +1,7 @@
 -- The listing of a store of at most 65,536 bytes has at most 131,072: a line and 11 bytes more, as many as the total has at most, are no longer
 -- than two images of its record. An image has at least 24 bytes and 4 more for each number that stands, its line at most 37 and 8 more for
 -- each. Assumes nothing.
-use Prim.Native.Nat.{ℕ, suc, ◌+◌, ◌*◌, ◌/◌, ◌^◌, ◌≤◌, ◌<◌}
+use Prim.Native.Nat.{ℕ, suc, ◌+◌, ◌*◌, ◌^◌, ◌≤◌, ◌<◌}
 use native.Mathlib.Omega.{arith}
 use mathlib.Core.Path.{◌≡◌, refl, sym, ap, ◌∙◌}
 use mathlib.Core.Bool.{Bool, true, false, cond, false≢true}
@@ -23,7 +23,7 @@ use Rattle.codec.proofs.CodecLaws.{Bytes}
 use Rattle.record.proofs.WellFormedLaws.{image_round}
 use Rattle.record.proofs.StoreLaws.{EachFormed, decoded}
 use Rattle.image.specs.Places.{number_size, option_size}
-use Rattle.image.proofs.SizeLaws.{record_size, record_sized}
+use Rattle.image.proofs.SizeLaws.{record_sized}
 use Rattle.listing_lines.proofs.HalfLaws.{half_least}
 use Rattle.listing_lines.specs.Listing.{state_letter, side_text, or_dash, half_to_even, refresh_second, columns, line_of, lines_from, total_line, listing_of}
 

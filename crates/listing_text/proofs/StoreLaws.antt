@@ -1,12 +1,11 @@
 -- The listing of a store: its refusals in their order, and the text of the records that were read. Assumes nothing.
-use Prim.Native.Nat.{ℕ, ◌+◌, ◌≤◌, ◌<◌}
+use Prim.Native.Nat.{ℕ, ◌≤◌, ◌<◌}
 use native.Mathlib.Omega.{arith}
-use mathlib.Core.Path.{◌≡◌, refl, sym, ap, subst, ◌∙◌}
+use mathlib.Core.Path.{◌≡◌, refl, sym, ap, ◌∙◌}
 use mathlib.Core.Bool.{Bool, true, false}
 use mathlib.Core.List.{List, ◌++◌}
 use mathlib.Core.Option.{Option, none, some}
-use lib.ListN.{length, length-append}
-use lib.Dec.{ltb}
+use lib.ListN.{length}
 use borrow.Author.Tests.{lt-ltb, le-ltb}
 use Rattle.limits.specs.Limits.{LimitSet}
 use Rattle.limits.specs.Outcome.{refused, given}
@@ -16,7 +15,7 @@ use Rattle.record.specs.Store.{distinct, records_in, only_distinct, decode_all}
 use Rattle.store.specs.Reading.{store_from}
 use Rattle.store.specs.declared.StoreReading.TheVariants.{Records, Broken}
 use Rattle.listing_lines.specs.Listing.{lines_from, total_line, listing_of, listing}
-use Rattle.listing_lines.specs.Steps.{records_of, listed, listed_lines}
+use Rattle.listing_lines.specs.Steps.{records_of, listed_lines}
 
 -- ---- what the reading of the store answered
 

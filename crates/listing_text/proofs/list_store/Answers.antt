@@ -122,4 +122,3 @@ returns-clause-out_after c =
     let a = c.args in
     let d = store (goal.at.returns-clause-out_after c).In-Records in
     (second2 (wrote a.out.now (listed_all rust_limits a.bytes.now (length a.out.now) (omega (arith, c.if-bytes-gt-MAX_LISTED_STORE.false)) d (omega (arith, c.if-out-size.false, sizes (goal.at.returns-clause-out_after c).After-lines_length))) (sizes (goal.at.returns-clause-out_after c).After-lines_length) (written (goal.at.returns-clause-out_after c).After-put)))
-
