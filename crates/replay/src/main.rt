@@ -5,34 +5,45 @@
 mod calls;
 mod lines;
 
-ghost use Rattle.std.specs.Prelude.{◌≡◌, IfOk, vec_len};
+ghost use Rattle.std.specs.Prelude.{◌≡◌, ◌≤◌, IfOk, length};
 
 use lines::one_line;
 use replay_answers::{report, show, take};
 use replay_lines::{find_row, line_end, part};
-use std::alloc::{AllocError, Global};
 use std::io;
 use std::io::Read;
 
-// A list has fewer bytes, and so has the memory of a store.
-const ROOM: usize = 786432;
-
 fn main(rt: HostRuntime) -> io::Result<()> {
-    let mut list = Vec::new(rt.alloc());
-    rt.reader().take(ROOM as u64).read_to_end(&mut list)?;
-    replay(&rt, list.as_slice())
+    let mut list = zeros();
+    let n = read_full(&mut rt.reader(), &mut list)?;
+    replay(&rt, &list[..n])
 }
 
-// Room for the memory of a store, or for a line's texts.
-fn zeros(alloc: Global) -> Result<Vec<u8>, AllocError>
-    ensures { IfOk result (λ room. vec_len room ≡ 786432) }
+// Room for a list, or for the memory of a store.
+fn zeros() -> [u8; 786432]
+    ensures { 786432 ≡ length result }
 {
-    vec![in alloc; 0; ROOM]
+    [0; 786432]
+}
+
+// Reads to the end, or until the bytes are full: how many there are.
+fn read_full(input: &mut impl Read, bytes: &mut [u8]) -> io::Result<usize>
+    ensures { IfOk result (λ n. n ≤ length bytes.new) }
+{
+    let mut at = 0;
+    while at < bytes.len() {
+        let n = input.read(&mut bytes[at..])?;
+        if n == 0 {
+            break;
+        }
+        at += n;
+    }
+    Ok(at)
 }
 
 // The head of the list has a row for each of the 84 operations, and ends before the first empty line.
-fn replay(rt: &(impl Print + AllocGlobal), list: &[u8]) -> io::Result<()> {
-    if list.len() == ROOM {
+fn replay(rt: &impl Print, list: &[u8]) -> io::Result<()> {
+    if list.len() == 786432 {
         return show(rt, b"the list is too long\n");
     }
     let rows = part(list, 0, head_end(list));
@@ -61,14 +72,14 @@ fn head_end(list: &[u8]) -> usize {
 
 // Goes through the lines behind the head. They are numbered from 1 at the list's start.
 fn each_line(
-    rt: &(impl Print + AllocGlobal),
+    rt: &impl Print,
     list: &[u8],
     rows: &[u8],
     tallies: &mut [u64; 253],
 ) -> io::Result<()> {
-    let mut store = zeros(rt.alloc())?;
-    let mut old = zeros(rt.alloc())?;
-    let mut bytes = zeros(rt.alloc())?;
+    let mut store = zeros();
+    let mut old = zeros();
+    let mut bytes = zeros();
     let mut size = 0;
     let mut at = rows.len();
     let mut number = 85;
@@ -78,14 +89,7 @@ fn each_line(
             return Ok(());
         }
         let line = part(list, at, end - at);
-        let outcome = one_line(
-            line,
-            rows,
-            store.as_mut_slice(),
-            old.as_mut_slice(),
-            bytes.as_mut_slice(),
-            size,
-        );
+        let outcome = one_line(line, rows, &mut store, &mut old, &mut bytes, size);
         size = take(rt, outcome, number, tallies, size)?;
         if end >= list.len() {
             return Ok(());
