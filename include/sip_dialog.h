@@ -8,10 +8,9 @@
  * - A byte run is a pointer and its length in bytes; no zero byte ends it. A null pointer is allowed only with length 0.
  * - Byte runs of one call must not overlap, neither each other nor a lent number. (Runs that are only read do no harm where they
  *   are the same bytes, as a compiler may make of equal literals: no call writes them. The proofs speak of runs apart.)
- * - Stack, as measured on a painted stack: a call on a store of records takes up to 267,000 bytes, however small the store is (tables
- *   for the comparison of identifiers), sip_dialog_request up to 530,000, sip_dialog_listing up to 48,000; of the others those that were
- *   measured (sip_dialog_check_block, sip_dialog_prack_register, sip_dialog_worst_minute) took less than 1,000. The archive calls
- *   memcpy, memmove and memset, whose own are counted too.
+ * - Stack, as read off the archive's code, frame by frame along the calls: sip_dialog_request up to 540,000 bytes, every other call on a
+ *   store of records up to 270,000, however small the store is (tables for the comparison of identifiers), sip_dialog_listing up to
+ *   50,000, every other call less than 2,700. The archive calls memcpy, memmove and memset, whose own are not counted.
  * - A lent number (found, place, ..) is a pointer to a number of its own, never null. It keeps its value except where its
  *   answer is given: a refused call changes none of them (but 13's `least`, and `used` of sip_dialog_prack_validate with 19 to 24),
  *   and with `found` 0 the others keep theirs.

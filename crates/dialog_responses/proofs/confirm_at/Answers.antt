@@ -1,6 +1,7 @@
 -- `dialog_responses::confirm_at` meets its contract: by what the measuring of the routes says. Assumes nothing.
 use Prim.Native.Nat.{ℕ, ◌<◌}
-use mathlib.Core.Path.{sym, ap, subst, ◌∙◌}
+use native.Mathlib.Omega.{arith}
+use mathlib.Core.Path.{◌≡◌, sym, ap, subst, ◌∙◌}
 use lib.ListN.{length, take, get_or}
 use Rattle.limits.specs.Limits.{rust_limits}
 use Rattle.output.specs.Output.{fitted}
@@ -43,12 +44,13 @@ returns-then-count-eq0 c =
     let a = c.args in
     let s = take a.used a.bytes.now in
     let x = meaning a.numbers in
+    let none : c.in-Of.count ≡ 0 = omega arith in
     let o = routes_of rust_limits a.block.now in
     let h = stood (goal.at.returns-then-count-eq0 c).Start (λ i. (c.slice_known-1.given i).fits) in
     let f : Record → Record = λ v. retargeted a.block.now (with_numbers x (with_routes (routes_or v.routes o) v)) in
     let g : Record → Record = λ v. retargeted a.block.now (with_numbers x v) in
     let old : _ × _ = result_as a.bytes.now (fitted (length a.bytes.now) (changed f a.at s)) (fitted (length a.bytes.now) (changed g a.at s)) c.revise-then-count-eq0.result c.revise-then-count-eq0.new.bytes
-    (ap (fitted (length a.bytes.now)) (changed_as s a.at a.r h f g (ap (retargeted a.block.now) (empty_routes o x h.value (sym c.measure_routes.ensures.value ∙ c.in-Of.is) c.if-count-eq0.true))))
+    (ap (fitted (length a.bytes.now)) (changed_as s a.at a.r h f g (ap (retargeted a.block.now) (empty_routes o x h.value (sym c.measure_routes.ensures.value ∙ c.in-Of.is) none))))
     (c.revise-then-count-eq0.ensures.value, c.revise-then-count-eq0.ensures.bytes_after) in
     record { value = old.0; bytes_after = old.1 }
 
@@ -69,11 +71,12 @@ returns c =
     let a = c.args in
     let s = take a.used a.bytes.now in
     let x = meaning a.numbers in
+    let some : c.in-Of.count ≡ 0 → ⊥ = λ (q : c.in-Of.count ≡ 0). omega arith in
     let o = routes_of rust_limits a.block.now in
     let h = stood (goal.at.returns c).Start (λ i. (c.slice_known-1.given i).fits) in
     let f : Record → Record = λ v. retargeted a.block.now (with_numbers x (with_routes (routes_or v.routes o) v)) in
     let g : Record → Record = λ v. retargeted a.block.now (renewed_by x o v) in
     let old : _ × _ = result_as a.bytes.now (fitted (length a.bytes.now) (changed f a.at s)) (fitted (length a.bytes.now) (changed g a.at s)) c.renew.result c.renew.new.bytes
-    (ap (fitted (length a.bytes.now)) (changed_as s a.at a.r h f g (ap (retargeted a.block.now) (some_routes o x h.value (sym c.measure_routes.ensures.value ∙ c.in-Of.is) c.if-count-eq0.false))))
+    (ap (fitted (length a.bytes.now)) (changed_as s a.at a.r h f g (ap (retargeted a.block.now) (some_routes o x h.value (sym c.measure_routes.ensures.value ∙ c.in-Of.is) some))))
     (c.renew.ensures.value, c.renew.ensures.bytes_after) in
     record { value = old.0; bytes_after = old.1 }
