@@ -7,8 +7,8 @@ use mathlib.Core.Path.{◌≡◌, refl, sym, ap, ◌∙◌, subst}
 use mathlib.Core.Logic.{◌≢◌}
 use mathlib.Core.Bool.{Bool, true, false, cond, not}
 use mathlib.Core.List.{List, [], ◌∷◌}
-use mathlib.Core.Option.{none, some}
 use lib.ListN.{length}
+use Rattle.std.specs.Prelude.{None, Some}
 use Rattle.record.specs.Record.{Record}
 use Rattle.record.specs.Store.{same_id, lacks, distinct}
 use Rattle.dialog_id.specs.Ident.{Ident, same_ident}
@@ -18,13 +18,13 @@ use Rattle.book.proofs.IdentLaws.{same_ident_lem, other_ident, here, there, id_c
 
 -- ---- a record that may be held
 
-pub some_is : {x y : Record} → some x ≡ some y → x ≡ y
+pub some_is : {x y : Record} → Some x ≡ Some y → x ≡ y
 some_is e = cc
 
-pub no_record : {X : Type 0} {r : Record} → none ≡ some r → X
+pub no_record : {X : Type 0} {r : Record} → None ≡ Some r → X
 no_record e = absurd (let z : ◌≡◌ {A = ℕ} 0 1 = cc in omega arith)
 
-pub not_none : {X : Type 0} {r : Record} → some r ≡ none → X
+pub not_none : {X : Type 0} {r : Record} → Some r ≡ None → X
 not_none e = absurd (let z : ◌≡◌ {A = ℕ} 0 1 = cc in omega arith)
 
 -- ---- found or not
@@ -32,13 +32,13 @@ not_none e = absurd (let z : ◌≡◌ {A = ℕ} 0 1 = cc in omega arith)
 -- no identifier twice
 abbrev pub Distinct : Book → Type 0
 Distinct [] = Unit {0}
-Distinct (r ∷ b) = (find (ident_of r) b ≡ none) × Distinct b
+Distinct (r ∷ b) = (find (ident_of r) b ≡ None) × Distinct b
 
-pub find_here : (i : Ident) (r : Record) (b : Book) → ident_of r ≡ i → find i (r ∷ b) ≡ some r
-find_here i r b e = here _ _ e (some r) (find i b)
+pub find_here : (i : Ident) (r : Record) (b : Book) → ident_of r ≡ i → find i (r ∷ b) ≡ Some r
+find_here i r b e = here _ _ e (Some r) (find i b)
 
 pub find_there : (i : Ident) (r : Record) (b : Book) → ident_of r ≢ i → find i (r ∷ b) ≡ find i b
-find_there i r b n = there _ _ n (some r) (find i b)
+find_there i r b n = there _ _ n (Some r) (find i b)
 
 -- ---- place
 
@@ -48,7 +48,7 @@ place_here r x b e = here _ _ e (r ∷ b) (x ∷ place r b)
 pub place_there : (r x : Record) (b : Book) → ident_of x ≢ ident_of r → place r (x ∷ b) ≡ x ∷ place r b
 place_there r x b n = there _ _ n (r ∷ b) (x ∷ place r b)
 
-pub find_place_same : (r : Record) (b : Book) → find (ident_of r) (place r b) ≡ some r
+pub find_place_same : (r : Record) (b : Book) → find (ident_of r) (place r b) ≡ Some r
 find_place_same r [] = find_here (ident_of r) r [] refl
 find_place_same r (x ∷ b) =
     id_cases (ident_of r) x
@@ -68,7 +68,7 @@ pub place_distinct : (r : Record) (b : Book) → Distinct b → Distinct (place 
 place_distinct r [] d = (refl, tt)
 place_distinct r (x ∷ b) d =
     id_cases (ident_of r) x
-    (λ e. subst Distinct (sym (place_here r x b e)) (subst (λ i. find i b ≡ none) e d.0, d.1))
+    (λ e. subst Distinct (sym (place_here r x b e)) (subst (λ i. find i b ≡ None) e d.0, d.1))
     (λ n. subst Distinct (sym (place_there r x b n)) (find_place_other (ident_of x) r b (λ q. n (sym q)) ∙ d.0, place_distinct r b d.1))
 
 pub place_length : (r : Record) (b : Book) → length (place r b) ≤ suc (length b)
@@ -102,33 +102,33 @@ module _ (k : Staying) (P : Book → Type 0) (r : Record) (b : Book) where
       go true = p
       go false = q
 
-pub keep_none : (k : Staying) (i : Ident) (b : Book) → find i b ≡ none → find i (keep k b) ≡ none
+pub keep_none : (k : Staying) (i : Ident) (b : Book) → find i b ≡ None → find i (keep k b) ≡ None
 keep_none k i [] h = refl
 keep_none k i (x ∷ b) h =
     id_cases i x
     (λ e. not_none (sym (find_here i x b e) ∙ h))
-    (λ n. let t : find i b ≡ none = sym (find_there i x b n) ∙ h in
-    keep_step k (λ l. find i l ≡ none) x b (find_there i x (keep k b) n ∙ keep_none k i b t) (keep_none k i b t))
+    (λ n. let t : find i b ≡ None = sym (find_there i x b n) ∙ h in
+    keep_step k (λ l. find i l ≡ None) x b (find_there i x (keep k b) n ∙ keep_none k i b t) (keep_none k i b t))
 
 pub keep_distinct : (k : Staying) (b : Book) → Distinct b → Distinct (keep k b)
 keep_distinct k [] d = tt
 keep_distinct k (x ∷ b) d = keep_step k Distinct x b (keep_none k (ident_of x) b d.0, keep_distinct k b d.1) (keep_distinct k b d.1)
 
 -- a record that is found after a drop was found before
-pub keep_found : (k : Staying) (i : Ident) (r : Record) (b : Book) → Distinct b → find i (keep k b) ≡ some r → find i b ≡ some r
+pub keep_found : (k : Staying) (i : Ident) (r : Record) (b : Book) → Distinct b → find i (keep k b) ≡ Some r → find i b ≡ Some r
 keep_found k i r [] d h = h
-keep_found k i r (x ∷ b) d h = keep_step k (λ l. find i l ≡ some r → find i (x ∷ b) ≡ some r) x b (stays (keep_found k i r b d.1)) (goes (keep_found k i r b d.1)) h
+keep_found k i r (x ∷ b) d h = keep_step k (λ l. find i l ≡ Some r → find i (x ∷ b) ≡ Some r) x b (stays (keep_found k i r b d.1)) (goes (keep_found k i r b d.1)) h
   where
-    stays : (find i (keep k b) ≡ some r → find i b ≡ some r) → find i (x ∷ keep k b) ≡ some r → find i (x ∷ b) ≡ some r
+    stays : (find i (keep k b) ≡ Some r → find i b ≡ Some r) → find i (x ∷ keep k b) ≡ Some r → find i (x ∷ b) ≡ Some r
     stays ih f =
         id_cases i x
         (λ e. find_here i x b e ∙ (sym (find_here i x (keep k b) e) ∙ f))
         (λ n. find_there i x b n ∙ ih (sym (find_there i x (keep k b) n) ∙ f))
 
-    goes : (find i (keep k b) ≡ some r → find i b ≡ some r) → find i (keep k b) ≡ some r → find i (x ∷ b) ≡ some r
+    goes : (find i (keep k b) ≡ Some r → find i b ≡ Some r) → find i (keep k b) ≡ Some r → find i (x ∷ b) ≡ Some r
     goes ih f =
         id_cases i x
-        (λ e. let z : find i (keep k b) ≡ none = keep_none k i b (subst (λ j. find j b ≡ none) e d.0) in cc)
+        (λ e. let z : find i (keep k b) ≡ None = keep_none k i b (subst (λ j. find j b ≡ None) e d.0) in cc)
         (λ n. find_there i x b n ∙ ih f)
 
 pub keep_length : (k : Staying) (b : Book) → length (keep k b) ≤ length b
@@ -151,7 +151,7 @@ amend_here r x b e = here _ _ e (r ∷ b) (x ∷ amend r b)
 pub amend_there : (r x : Record) (b : Book) → ident_of x ≢ ident_of r → amend r (x ∷ b) ≡ x ∷ amend r b
 amend_there r x b n = there _ _ n (r ∷ b) (x ∷ amend r b)
 
-pub find_amend_same : (r w : Record) (b : Book) → find (ident_of r) b ≡ some w → find (ident_of r) (amend r b) ≡ some r
+pub find_amend_same : (r w : Record) (b : Book) → find (ident_of r) b ≡ Some w → find (ident_of r) (amend r b) ≡ Some r
 find_amend_same r w [] h = cc
 find_amend_same r w (x ∷ b) h =
     id_cases (ident_of r) x
@@ -171,7 +171,7 @@ pub amend_distinct : (r : Record) (b : Book) → Distinct b → Distinct (amend 
 amend_distinct r [] d = tt
 amend_distinct r (x ∷ b) d =
     id_cases (ident_of r) x
-    (λ e. subst Distinct (sym (amend_here r x b e)) (subst (λ i. find i b ≡ none) e d.0, d.1))
+    (λ e. subst Distinct (sym (amend_here r x b e)) (subst (λ i. find i b ≡ None) e d.0, d.1))
     (λ n. subst Distinct (sym (amend_there r x b n)) (find_amend_other (ident_of x) r b (λ q. n (sym q)) ∙ d.0, amend_distinct r b d.1))
 
 pub amend_length : (r : Record) (b : Book) → length (amend r b) ≡ length b
@@ -188,7 +188,7 @@ amend_all P r (x ∷ b) p a =
     (λ e. subst (All P) (sym (amend_here r x b e)) (p, a.1))
     (λ n. subst (All P) (sym (amend_there r x b n)) (a.0, amend_all P r b p a.1))
 
-pub amend_early : (t : List ℕ) (r w : Record) (b : Book) → find (ident_of r) b ≡ some w → early_in t r ≤ early_in t w → early_of t (amend r b) ≤ early_of t b
+pub amend_early : (t : List ℕ) (r w : Record) (b : Book) → find (ident_of r) b ≡ Some w → early_in t r ≤ early_in t w → early_of t (amend r b) ≤ early_of t b
 amend_early t r w [] h q = le_refl _
 amend_early t r w (x ∷ b) h q =
     id_cases (ident_of r) x
@@ -199,14 +199,14 @@ amend_early t r w (x ∷ b) h q =
 
 -- ---- what is found has the identifier asked for, and is held
 
-pub find_ident : (i : Ident) (r : Record) (b : Book) → find i b ≡ some r → ident_of r ≡ i
+pub find_ident : (i : Ident) (r : Record) (b : Book) → find i b ≡ Some r → ident_of r ≡ i
 find_ident i r [] h = no_record h
 find_ident i r (x ∷ b) h =
     id_cases i x
     (λ e. let z : x ≡ r = some_is (sym (find_here i x b e) ∙ h) in sym (ap ident_of z) ∙ e)
     (λ n. find_ident i r b (sym (find_there i x b n) ∙ h))
 
-pub find_all : (P : Record → Type 0) (i : Ident) (r : Record) (b : Book) → find i b ≡ some r → All P b → P r
+pub find_all : (P : Record → Type 0) (i : Ident) (r : Record) (b : Book) → find i b ≡ Some r → All P b → P r
 find_all P i r [] h a = no_record h
 find_all P i r (x ∷ b) h a =
     id_cases i x
@@ -222,14 +222,14 @@ pub others_there : (i : Ident) (x : Record) → ident_of x ≢ i → stays (othe
 others_there i x n = ap not (other_ident (ident_of x) i n)
 
 -- a book without the identifier keeps all
-pub others_all : (i : Ident) (b : Book) → find i b ≡ none → keep (others i) b ≡ b
+pub others_all : (i : Ident) (b : Book) → find i b ≡ None → keep (others i) b ≡ b
 others_all i [] h = refl
 others_all i (x ∷ b) h =
     id_cases i x
     (λ e. not_none (sym (find_here i x b e) ∙ h))
     (λ n. keep_here (others i) x b (others_there i x n) ∙ ap (λ l. x ∷ l) (others_all i b (sym (find_there i x b n) ∙ h)))
 
-pub others_gone : (i : Ident) (b : Book) → find i (keep (others i) b) ≡ none
+pub others_gone : (i : Ident) (b : Book) → find i (keep (others i) b) ≡ None
 others_gone i [] = refl
 others_gone i (x ∷ b) =
     id_cases i x
@@ -242,21 +242,21 @@ place_early t r (x ∷ b) d =
     id_cases (ident_of r) x
     (λ e. ap (early_of t) (place_here r x b e)
     ∙ ap (λ l. early_in t r + early_of t l)
-    (sym (keep_there (others (ident_of r)) x b (others_here (ident_of r) x e) ∙ others_all (ident_of r) b (subst (λ i. find i b ≡ none) e d.0))))
+    (sym (keep_there (others (ident_of r)) x b (others_here (ident_of r) x e) ∙ others_all (ident_of r) b (subst (λ i. find i b ≡ None) e d.0))))
     (λ n. let p : early_of t (place r (x ∷ b)) ≡ early_in t x + early_of t (place r b) = ap (early_of t) (place_there r x b n) in
     let q : early_of t (keep (others (ident_of r)) (x ∷ b)) ≡ early_in t x + early_of t (keep (others (ident_of r)) b) = ap (early_of t) (keep_here (others (ident_of r)) x b (others_there (ident_of r) x n)) in
     omega (arith, place_early t r b d.1))
 
 -- ---- the record crate's test
 
-lacks_none : (r : Record) (b : Book) → find (ident_of r) b ≡ none → lacks b r ≡ true
+lacks_none : (r : Record) (b : Book) → find (ident_of r) b ≡ None → lacks b r ≡ true
 unfolding lacks same_ident
 lacks_none r [] h = refl
 lacks_none r (x ∷ b) h = by (same_id x r) refl (λ e. lacks_none r b e)
   where
-    by : (t : Bool) → same_id x r ≡ t → (find (ident_of r) b ≡ none → lacks b r ≡ true) → lacks (x ∷ b) r ≡ true
-    by true e ih = not_none (sym (ap (λ t. cond t (some x) (find (ident_of r) b)) e) ∙ h)
-    by false e ih = rw e (ih (sym (ap (λ t. cond t (some x) (find (ident_of r) b)) e) ∙ h))
+    by : (t : Bool) → same_id x r ≡ t → (find (ident_of r) b ≡ None → lacks b r ≡ true) → lacks (x ∷ b) r ≡ true
+    by true e ih = not_none (sym (ap (λ t. cond t (Some x) (find (ident_of r) b)) e) ∙ h)
+    by false e ih = rw e (ih (sym (ap (λ t. cond t (Some x) (find (ident_of r) b)) e) ∙ h))
 
 -- a book without an identifier twice passes it
 pub distinct_test : (b : Book) → Distinct b → distinct b ≡ true

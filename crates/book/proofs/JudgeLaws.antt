@@ -4,9 +4,9 @@ use Prim.Native.Nat.{ℕ}
 use mathlib.Core.Path.{◌≡◌, refl, ap}
 use mathlib.Core.Bool.{true, false}
 use mathlib.Core.List.{List}
-use mathlib.Core.Option.{none, some}
+use Rattle.std.specs.Prelude.{Err, None, Ok, Some}
 use Rattle.limits.specs.Limits.{LimitSet}
-use Rattle.limits.specs.Outcome.{refused, given, and_then}
+use Rattle.limits.specs.Outcome.{and_then}
 use Rattle.limits.specs.declared.Refusal.{Refusal}
 use Rattle.limits.specs.declared.Refusal.TheVariants.{NotFound, TooManyDialogs, TooManyEarlyDialogs}
 use Rattle.record.specs.Record.{Record}
@@ -19,23 +19,23 @@ use Rattle.book.specs.Book.{Book, name_of, find, find_named, others, living, is_
 
 module _ (L : LimitSet) (n : ℕ) (img : List ℕ) where
   -- bytes that aren't one image: 3
-  pub put_unread : {cause : Refusal} → one_record img ≡ refused cause → argument_cause L (put n img) ≡ some cause
+  pub put_unread : {cause : Refusal} → one_record img ≡ Err cause → argument_cause L (put n img) ≡ Some cause
   unfolding argument_cause
   put_unread e = ap cause_in e
 
-  module _ (r : Record) (one : one_record img ≡ given r) where
+  module _ (r : Record) (one : one_record img ≡ Ok r) where
     -- the image of one record has no cause of its own
-    pub put_clear : argument_cause L (put n img) ≡ none
+    pub put_clear : argument_cause L (put n img) ≡ None
     unfolding argument_cause
     put_clear = ap cause_in one
 
     -- 16
-    pub put_full : (b : Book) → is_full L b ≡ true → judge L (put n img) b ≡ refused TooManyDialogs
+    pub put_full : (b : Book) → is_full L b ≡ true → judge L (put n img) b ≡ Err TooManyDialogs
     unfolding judge
     put_full b full = rw (one, full)
 
     -- 17
-    pub put_crowded : (b : Book) → is_full L b ≡ false → is_crowded L r b ≡ true → judge L (put n img) b ≡ refused TooManyEarlyDialogs
+    pub put_crowded : (b : Book) → is_full L b ≡ false → is_crowded L r b ≡ true → judge L (put n img) b ≡ Err TooManyEarlyDialogs
     unfolding judge
     put_crowded b free crowded = rw (one, free, crowded)
 
@@ -53,12 +53,12 @@ module _ (L : LimitSet) (n : ℕ) (u : Update) where
   update_causes = refl
 
   -- no record is named: 15
-  pub update_unheld : (b : Book) → find_named (name_of u) b ≡ none → judge L (update n u) b ≡ refused NotFound
+  pub update_unheld : (b : Book) → find_named (name_of u) b ≡ None → judge L (update n u) b ≡ Err NotFound
   unfolding judge
   update_unheld b e = rw e
 
   -- a record is named: what the update makes of it is refused, or stands in its place
-  pub update_held : (b : Book) (r : Record) → find_named (name_of u) b ≡ some r → judge L (update n u) b ≡ and_then (revised L u r) (λ now. taking (alter now) (told_by u now))
+  pub update_held : (b : Book) (r : Record) → find_named (name_of u) b ≡ Some r → judge L (update n u) b ≡ and_then (revised L u r) (λ now. taking (alter now) (told_by u now))
   unfolding judge
   update_held b r e = rw e
 
@@ -71,12 +71,12 @@ module _ (L : LimitSet) (n : ℕ) (i : Ident) where
   remove_causes = refl
 
   -- no record of the identifier: 15
-  pub remove_unheld : (b : Book) → find i b ≡ none → judge L (remove n i) b ≡ refused NotFound
+  pub remove_unheld : (b : Book) → find i b ≡ None → judge L (remove n i) b ≡ Err NotFound
   unfolding judge
   remove_unheld b e = rw e
 
   -- a held record goes
-  pub remove_held : (b : Book) (r : Record) → find i b ≡ some r → judge L (remove n i) b ≡ taking (only (others i)) no_value
+  pub remove_held : (b : Book) (r : Record) → find i b ≡ Some r → judge L (remove n i) b ≡ taking (only (others i)) no_value
   unfolding judge
   remove_held b r e = rw e
 
@@ -84,7 +84,7 @@ module _ (L : LimitSet) (n : ℕ) (i : Ident) where
 
 module _ (L : LimitSet) (n : ℕ) where
   -- it has no arguments to refuse
-  pub sweep_clear : argument_cause L (sweep n) ≡ none
+  pub sweep_clear : argument_cause L (sweep n) ≡ None
   unfolding argument_cause
   sweep_clear = refl
 

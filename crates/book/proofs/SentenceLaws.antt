@@ -6,13 +6,13 @@ use mathlib.Core.Path.{◌≡◌, refl, sym, ap, ap₂, subst, ◌∙◌}
 use mathlib.Core.Logic.{◌≢◌}
 use mathlib.Core.Bool.{Bool, true, false, cond, not, ◌&&◌, false≢true}
 use mathlib.Core.List.{List, [], ◌∷◌, ◌++◌, map}
-use mathlib.Core.Option.{Option, none, some}
 use lib.ListN.{length, take, drop, length-append}
 use lib.Seq.{take-append_seam, drop-append-add}
 use lib.Dec.{leb, ltb}
 use borrow.Author.Tests.{le-leb, lt-leb, le-ltb}
+use Rattle.std.specs.Prelude.{Err, None, Ok, Option, Result, Some}
 use Rattle.limits.specs.Limits.{LimitSet}
-use Rattle.limits.specs.Outcome.{Outcome, refused, given, refuse_by, refuse_if, and_then, or_refuse}
+use Rattle.limits.specs.Outcome.{refuse_by, refuse_if, and_then, or_refuse}
 use Rattle.limits.specs.declared.Refusal.{Refusal}
 use Rattle.limits.specs.declared.Refusal.TheVariants.{BadStore, NotFound, TooManyDialogs, TooManyEarlyDialogs, NoRoom}
 use Rattle.text.specs.Text.{equal}
@@ -33,14 +33,14 @@ use Rattle.book.proofs.WindowLaws.{no_refusal}
 
 -- ---- "Records lie one after another in insertion order (added); a replacement keeps its place"
 
-pub new_last : (r : Record) (b : Book) → find (ident_of r) b ≡ none → place r b ≡ b ++ (r ∷ [])
+pub new_last : (r : Record) (b : Book) → find (ident_of r) b ≡ None → place r b ≡ b ++ (r ∷ [])
 new_last r [] h = refl
 new_last r (x ∷ b) h =
     id_cases (ident_of r) x
     (λ e. not_none (sym (find_here (ident_of r) x b e) ∙ h))
     (λ n. place_there r x b n ∙ ap (λ l. x ∷ l) (new_last r b (sym (find_there (ident_of r) x b n) ∙ h)))
 
-pub replaced_there : (r w : Record) (b : Book) → find (ident_of r) b ≡ some w → map ident_of (place r b) ≡ map ident_of b
+pub replaced_there : (r w : Record) (b : Book) → find (ident_of r) b ≡ Some w → map ident_of (place r b) ≡ map ident_of b
 replaced_there r w [] h = no_record h
 replaced_there r w (x ∷ b) h =
     id_cases (ident_of r) x
@@ -49,7 +49,7 @@ replaced_there r w (x ∷ b) h =
 
 -- ---- "it refuses at 10,000 even a replacement"
 
-pub full_refused : (L : LimitSet) (n : ℕ) (s : List ℕ) (r : Record) (b : Book) → one_record s ≡ given r → L.dialogs ≤ length b → judge L (put n s) b ≡ refused TooManyDialogs
+pub full_refused : (L : LimitSet) (n : ℕ) (s : List ℕ) (r : Record) (b : Book) → one_record s ≡ Ok r → L.dialogs ≤ length b → judge L (put n s) b ≡ Err TooManyDialogs
 unfolding judge is_full
 full_refused L n s r b e h =
     ap (λ o. and_then o (λ x. refuse_if (leb L.dialogs (length b)) TooManyDialogs (refuse_if (is_crowded L x b) TooManyEarlyDialogs (taking (set x) no_value)))) e
@@ -58,18 +58,18 @@ full_refused L n s r b e h =
 -- ---- "Early put, 100 other Early of this Call-ID"
 
 -- the Early of a Call-ID are those of one held identifier and the others
-early_split : (t : List ℕ) (i : Ident) (w : Record) (b : Book) → Distinct b → find i b ≡ some w → early_of t b ≡ early_in t w + early_of t (keep (others i) b)
+early_split : (t : List ℕ) (i : Ident) (w : Record) (b : Book) → Distinct b → find i b ≡ Some w → early_of t b ≡ early_in t w + early_of t (keep (others i) b)
 early_split t i w [] d h = no_record h
 early_split t i w (x ∷ b) d h =
     id_cases i x
     (λ e. let z : x ≡ w = some_is (sym (find_here i x b e) ∙ h) in
-    ap₂ (λ y l. early_in t y + early_of t l) z (sym (keep_there (others i) x b (others_here i x e) ∙ others_all i b (subst (λ j. find j b ≡ none) e d.0))))
+    ap₂ (λ y l. early_in t y + early_of t l) z (sym (keep_there (others i) x b (others_here i x e) ∙ others_all i b (subst (λ j. find j b ≡ None) e d.0))))
     (λ n. let k : early_of t (keep (others i) (x ∷ b)) ≡ early_in t x + early_of t (keep (others i) b) = ap (early_of t) (keep_here (others i) x b (others_there i x n)) in
     let ih = early_split t i w b d.1 (sym (find_there i x b n) ∙ h) in
     omega (arith, k, ih))
 
 -- an Early record that is held is put again, with 100 of its Call-ID held
-pub own_uncounted : (L : LimitSet) (r w : Record) (b : Book) → Distinct b → find (ident_of r) b ≡ some w → is_early_of r.call_id w ≡ true → early_of r.call_id b ≤ L.early_per_call_id → is_crowded L r b ≡ false
+pub own_uncounted : (L : LimitSet) (r w : Record) (b : Book) → Distinct b → find (ident_of r) b ≡ Some w → is_early_of r.call_id w ≡ true → early_of r.call_id b ≤ L.early_per_call_id → is_crowded L r b ≡ false
 unfolding is_crowded
 own_uncounted L r w b d h e c =
     let one : ◌≡◌ {A = ℕ} (early_in r.call_id w) 1 = ap (λ t. cond t 1 0) e in
@@ -87,16 +87,16 @@ crowded_refused L r b e h = ap₂ (λ p q. p && q) e (le-leb L.early_per_call_id
 
 -- ---- "A removal drops one, a sweep all that are Terminated"
 
-pub removed : (i : Ident) (b : Book) → find i (keep (others i) b) ≡ none
+pub removed : (i : Ident) (b : Book) → find i (keep (others i) b) ≡ None
 removed i b = others_gone i b
 
-pub removal_drops : (L : LimitSet) (n : ℕ) (i : Ident) (b : Book) (t : Taken) → judge L (remove n i) b ≡ given t → revise t.change b ≡ keep (others i) b
+pub removal_drops : (L : LimitSet) (n : ℕ) (i : Ident) (b : Book) (t : Taken) → judge L (remove n i) b ≡ Ok t → revise t.change b ≡ keep (others i) b
 unfolding judge
 removal_drops L n i b t h = by (find i b) h
   where
-    by : (o : Option Record) → and_then (or_refuse NotFound o) (λ r. taking (only (others i)) no_value) ≡ given t → revise t.change b ≡ keep (others i) b
-    by none e = absurd (never_given e)
-    by (some r) e = sym (ap (λ (y : Taken). revise y.change b) (given_same e))
+    by : (o : Option Record) → and_then (or_refuse NotFound o) (λ r. taking (only (others i)) no_value) ≡ Ok t → revise t.change b ≡ keep (others i) b
+    by None e = absurd (never_given e)
+    by (Some r) e = sym (ap (λ (y : Taken). revise y.change b) (given_same e))
 
 pub others_found : (i j : Ident) (b : Book) → j ≢ i → find j (keep (others i) b) ≡ find j b
 others_found i j [] n = refl
@@ -128,11 +128,11 @@ swept (r ∷ b) = by (is_terminated r.numbers.state) refl (swept b)
     by true e h = h
     by false e h = (going r.numbers.state e, h)
 
-pub living_found : (i : Ident) (r : Record) (b : Book) → find i b ≡ some r → Living r → find i (keep living b) ≡ some r
+pub living_found : (i : Ident) (r : Record) (b : Book) → find i b ≡ Some r → Living r → find i (keep living b) ≡ Some r
 living_found i r [] h l = h
 living_found i r (x ∷ b) h l = by (is_terminated x.numbers.state) refl (λ e. living_found i r b e l)
   where
-    by : (t : Bool) → is_terminated x.numbers.state ≡ t → (find i b ≡ some r → find i (keep living b) ≡ some r) → find i (cond (not t) (x ∷ keep living b) (keep living b)) ≡ some r
+    by : (t : Bool) → is_terminated x.numbers.state ≡ t → (find i b ≡ Some r → find i (keep living b) ≡ Some r) → find i (cond (not t) (x ∷ keep living b) (keep living b)) ≡ Some r
     by true e ih =
         id_cases i x
         (λ q. let z : x ≡ r = some_is (sym (find_here i x b q) ∙ h) in absurd (l (ap (λ (y : Record). y.numbers.state) (sym z) ∙ ended x.numbers.state e)))
@@ -144,20 +144,20 @@ living_found i r (x ∷ b) h l = by (is_terminated x.numbers.state) refl (λ e. 
 
 -- ---- "Look-ups, other readings and refused calls change nothing"
 
-pub reading_keeps : (L : LimitSet) (n : ℕ) (q : Reading) (b : Book) (t : Taken) → judge L (read n q) b ≡ given t → revise t.change b ≡ b
+pub reading_keeps : (L : LimitSet) (n : ℕ) (q : Reading) (b : Book) (t : Taken) → judge L (read n q) b ≡ Ok t → revise t.change b ≡ b
 unfolding judge
 reading_keeps L n q b t h = by (reply q b) h
   where
-    by : (o : Outcome Value) → and_then o (λ v. taking unchanged v) ≡ given t → revise t.change b ≡ b
-    by (refused cause) e = absurd (never_given e)
-    by (given v) e = sym (ap (λ (y : Taken). revise y.change b) (given_same e))
+    by : (o : Result Value Refusal) → and_then o (λ v. taking unchanged v) ≡ Ok t → revise t.change b ≡ b
+    by (Err cause) e = absurd (never_given e)
+    by (Ok v) e = sym (ap (λ (y : Taken). revise y.change b) (given_same e))
 
-pub refusal_keeps : (b : Contents) (cause : Refusal) → after (refused cause) b ≡ b
+pub refusal_keeps : (b : Contents) (cause : Refusal) → after (Err cause) b ≡ b
 refusal_keeps b cause = refl
 
 -- ---- 18 "result larger than its lent bytes": only then
 
-pub fits_taken : (L : LimitSet) (c : Call) (x : Contents) (t : Taken) → argument_cause L c ≡ none → size x ≤ lent c → judge L c x.records ≡ given t → size (apply t.change x) ≤ lent c → decide L c x ≡ given t
+pub fits_taken : (L : LimitSet) (c : Call) (x : Contents) (t : Taken) → argument_cause L c ≡ None → size x ≤ lent c → judge L c x.records ≡ Ok t → size (apply t.change x) ≤ lent c → decide L c x ≡ Ok t
 unfolding decide fitting
 fits_taken L c x t a h j f =
     ap (λ y. refuse_by y (refuse_if (ltb (lent c) (size x)) BadStore (and_then (judge L c x.records) (λ s. fitting (lent c) x s)))) a
@@ -183,58 +183,58 @@ only_size k x = kept_size k x.records
 -- the image of the record found lies there
 pub record Lies (i : Ident) (r : Record) (at : ℕ) (b : Book) : Type 0 where
   pub before : ℕ
-  pub answer : place_of (is_of i) at b ≡ some (image_at (at + before) (length (image.write r)))
+  pub answer : place_of (is_of i) at b ≡ Some (image_at (at + before) (length (image.write r)))
   pub lies : take (length (image.write r)) (drop before (records_image b)) ≡ image.write r
 
-pub lies_there : (i : Ident) (r : Record) (at : ℕ) (b : Book) → find i b ≡ some r → Lies i r at b
+pub lies_there : (i : Ident) (r : Record) (at : ℕ) (b : Book) → find i b ≡ Some r → Lies i r at b
 unfolding place_of write_all
 lies_there i r at [] h = no_record h
 lies_there i r at (x ∷ b) h = by (is_of i x) refl (λ e. lies_there i r (at + length (image.write x)) b e)
   where
-    by : (t : Bool) → is_of i x ≡ t → (find i b ≡ some r → Lies i r (at + length (image.write x)) b) → Lies i r at (x ∷ b)
+    by : (t : Bool) → is_of i x ≡ t → (find i b ≡ Some r → Lies i r (at + length (image.write x)) b) → Lies i r at (x ∷ b)
     by true e ih =
-        let z : x ≡ r = some_is (sym (ap (λ t. cond t (some x) (find i b)) e) ∙ h) in
+        let z : x ≡ r = some_is (sym (ap (λ t. cond t (Some x) (find i b)) e) ∙ h) in
         subst (λ y. Lies i y at (x ∷ b)) z
         (record {
           before = 0;
-          answer = ap (λ t. cond t (some (image_at at (length (image.write x)))) (place_of (is_of i) (at + length (image.write x)) b)) e ∙ ap (λ k. some (image_at k (length (image.write x)))) (omega arith);
+          answer = ap (λ t. cond t (Some (image_at at (length (image.write x)))) (place_of (is_of i) (at + length (image.write x)) b)) e ∙ ap (λ k. Some (image_at k (length (image.write x)))) (omega arith);
           lies = take-append_seam (image.write x) (records_image b);
         })
     by false e ih =
-        let l = ih (sym (ap (λ t. cond t (some x) (find i b)) e) ∙ h) in
+        let l = ih (sym (ap (λ t. cond t (Some x) (find i b)) e) ∙ h) in
         record {
           before = length (image.write x) + l.before;
           answer =
-              ap (λ t. cond t (some (image_at at (length (image.write x)))) (place_of (is_of i) (at + length (image.write x)) b)) e
-              ∙ (l.answer ∙ ap (λ k. some (image_at k (length (image.write r)))) (omega arith));
+              ap (λ t. cond t (Some (image_at at (length (image.write x)))) (place_of (is_of i) (at + length (image.write x)) b)) e
+              ∙ (l.answer ∙ ap (λ k. Some (image_at k (length (image.write r)))) (omega arith));
           lies = ap (take (length (image.write r))) (drop-append-add (image.write x) (records_image b) l.before) ∙ l.lies;
         }
 
 -- ---- the record that `find_by_request` finds is the one that `matches_request` says yes to
 
-pub found_matches : (block : List ℕ) (b : Book) (r : Record) → find_named (named_in block) b ≡ some r → named_by r (identifier_of from_name to_name block) ≡ true
+pub found_matches : (block : List ℕ) (b : Book) (r : Record) → find_named (named_in block) b ≡ Some r → named_by r (identifier_of from_name to_name block) ≡ true
 unfolding named_in
 found_matches block b r h = by (identifier_of from_name to_name block) h
   where
-    by : (o : Option Identifier) → find_named (swapped o) b ≡ some r → named_by r o ≡ true
-    by none h = no_record h
-    by (some i) h =
+    by : (o : Option Identifier) → find_named (swapped o) b ≡ Some r → named_by r o ≡ true
+    by None h = no_record h
+    by (Some i) h =
         let e = find_ident (record { call_id = i.call_id.text; local_tag = i.remote_tag.text; remote_tag = i.local_tag.text }) r b h in
         let c : r.call_id ≡ i.call_id.text = ap (λ (z : Ident). z.call_id) e in
         let l : r.local_tag ≡ i.remote_tag.text = ap (λ (z : Ident). z.local_tag) e in
         let m : r.remote_tag ≡ i.local_tag.text = ap (λ (z : Ident). z.remote_tag) e in
         rw (c, l, m, equal_same i.call_id.text, equal_same i.local_tag.text, equal_same i.remote_tag.text)
 
-pub matching_found : (block : List ℕ) (b : Book) (r : Record) → find (ident_of r) b ≡ some r → named_by r (identifier_of from_name to_name block) ≡ true → find_named (named_in block) b ≡ some r
+pub matching_found : (block : List ℕ) (b : Book) (r : Record) → find (ident_of r) b ≡ Some r → named_by r (identifier_of from_name to_name block) ≡ true → find_named (named_in block) b ≡ Some r
 unfolding named_in
 matching_found block b r f h = by (identifier_of from_name to_name block) h
   where
-    by : (o : Option Identifier) → named_by r o ≡ true → find_named (swapped o) b ≡ some r
-    by none h = absurd (false≢true h)
-    by (some i) h =
+    by : (o : Option Identifier) → named_by r o ≡ true → find_named (swapped o) b ≡ Some r
+    by None h = absurd (false≢true h)
+    by (Some i) h =
         let p = both (equal i.call_id.text r.call_id) (equal i.local_tag.text r.remote_tag && equal i.remote_tag.text r.local_tag) h in
         let q = both (equal i.local_tag.text r.remote_tag) (equal i.remote_tag.text r.local_tag) p.1 in
         let c : i.call_id.text ≡ r.call_id = equal_is i.call_id.text r.call_id p.0 in
         let m : i.local_tag.text ≡ r.remote_tag = equal_is i.local_tag.text r.remote_tag q.0 in
         let l : i.remote_tag.text ≡ r.local_tag = equal_is i.remote_tag.text r.local_tag q.1 in
-        subst (λ j. find j b ≡ some r) (λ k. record { call_id = sym c k; local_tag = sym l k; remote_tag = sym m k }) f
+        subst (λ j. find j b ≡ Some r) (λ k. record { call_id = sym c k; local_tag = sym l k; remote_tag = sym m k }) f

@@ -5,12 +5,13 @@ use mathlib.Core.Path.{◌≡◌, refl, sym, ap, ◌∙◌}
 use mathlib.Core.Logic.{◌≢◌}
 use mathlib.Core.Bool.{Bool, false}
 use mathlib.Core.List.{[], ◌∷◌}
-use mathlib.Core.Option.{Option, none, some}
 use lib.ListN.{length, length-append}
 use lib.Dec.{ltb}
 use borrow.Author.Tests.{le-ltb}
+use Rattle.limits.specs.declared.Refusal.{Refusal}
+use Rattle.std.specs.Prelude.{Err, None, Ok, Option, Result, Some}
 use Rattle.limits.specs.Limits.{LimitSet}
-use Rattle.limits.specs.Outcome.{Outcome, refused, given, refuse_if, and_then}
+use Rattle.limits.specs.Outcome.{refuse_if, and_then}
 use Rattle.limits.specs.declared.Refusal.TheVariants.{NotFound, NoRoom}
 use Rattle.codec.specs.Codec.{write_all}
 use Rattle.record.specs.Record.{State, Record, map_of, image}
@@ -30,7 +31,7 @@ unfolding map_of
 state_length s r = simp length-append
 
 -- a record as long as the old one, in its place
-amend_size : (i : Ident) (r new : Record) (b : Book) → ident_of new ≡ i → length (image.write new) ≡ length (image.write r) → find i b ≡ some r → records_size (amend new b) ≡ records_size b
+amend_size : (i : Ident) (r new : Record) (b : Book) → ident_of new ≡ i → length (image.write new) ≡ length (image.write r) → find i b ≡ Some r → records_size (amend new b) ≡ records_size b
 unfolding write_all
 amend_size i r new [] e l h = refl
 amend_size i r new (x ∷ b) e l h =
@@ -45,19 +46,19 @@ abbrev ended : Record → Taken
 ended r = record { change = alter (terminate_update r); value = no_value }
 
 -- a store that fits its lent bytes fits them after a termination too: no cause that is read over the book, and 18 last, is 18
-pub terminate_fits : (L : LimitSet) (n : ℕ) (i : Ident) (x : Contents) → size x ≤ n → and_then (judge L (update n (terminate i)) x.records) (λ t. fitting n x t) ≢ refused NoRoom
+pub terminate_fits : (L : LimitSet) (n : ℕ) (i : Ident) (x : Contents) → size x ≤ n → and_then (judge L (update n (terminate i)) x.records) (λ t. fitting n x t) ≢ Err NoRoom
 unfolding revised fitting
 terminate_fits L n i x h e = by (find i x.records) refl
   where
     by : (o : Option Record) → find i x.records ≡ o → ⊥
-    by none q =
-        let k : ◌≡◌ {A = Outcome Taken} (refused NotFound) (refused NoRoom) = sym (ap (λ (j : Outcome Taken). and_then j (λ t. fitting n x t)) (update_unheld L n (terminate i) x.records q)) ∙ e in
+    by None q =
+        let k : ◌≡◌ {A = Result Taken Refusal} (Err NotFound) (Err NoRoom) = sym (ap (λ (j : Result Taken Refusal). and_then j (λ t. fitting n x t)) (update_unheld L n (terminate i) x.records q)) ∙ e in
         let z : ◌≡◌ {A = ℕ} 0 1 = cc in
         omega arith
-    by (some r) q =
+    by (Some r) q =
         let m : records_size (amend (terminate_update r) x.records) ≡ records_size x.records = amend_size i r (terminate_update r) x.records (find_ident i r x.records q) (state_length _ r) q in
         let t : ltb n (records_size (amend (terminate_update r) x.records)) ≡ false = le-ltb n (records_size (amend (terminate_update r) x.records)) (omega (arith, m)) in
-        let k : fitting n x (ended r) ≡ refused NoRoom = sym (ap (λ (j : Outcome Taken). and_then j (λ y. fitting n x y)) (update_held L n (terminate i) x.records r q)) ∙ e in
-        let y : given (ended r) ≡ refused NoRoom = sym (ap (λ (u : Bool). refuse_if u NoRoom (given (ended r))) t) ∙ k in
+        let k : fitting n x (ended r) ≡ Err NoRoom = sym (ap (λ (j : Result Taken Refusal). and_then j (λ y. fitting n x y)) (update_held L n (terminate i) x.records r q)) ∙ e in
+        let y : Ok (ended r) ≡ Err NoRoom = sym (ap (λ (u : Bool). refuse_if u NoRoom (Ok (ended r))) t) ∙ k in
         let z : ◌≡◌ {A = ℕ} 0 1 = cc in
         omega arith

@@ -4,9 +4,9 @@ use mathlib.Core.Path.{◌≡◌, refl, sym, ap, ap₂, subst, ◌∙◌}
 use mathlib.Core.Logic.{◌≢◌}
 use mathlib.Core.Bool.{Bool, true, false}
 use mathlib.Core.List.{List, [], ◌∷◌, ◌++◌, append_assoc, append-nil}
-use mathlib.Core.Option.{none, some}
 use lib.ListN.{length, take, drop}
 use lib.Seq.{take-append_seam, drop-append_seam, drop-append-add}
+use Rattle.std.specs.Prelude.{None, Some}
 use Rattle.edit.specs.Edit.{spliced}
 use Rattle.codec.specs.Codec.{write_all}
 use Rattle.record.specs.Record.{Record, image}
@@ -22,10 +22,10 @@ pub record Stands (i : Ident) (r : Record) (b : Book) : Type 0 where
   pub front : Book
   pub back : Book
   pub split : b ≡ front ++ (r ∷ back)
-  pub first : find i front ≡ none
+  pub first : find i front ≡ None
   pub ident_is : ident_of r ≡ i
 
-pub stands : (i : Ident) (r : Record) (b : Book) → find i b ≡ some r → Stands i r b
+pub stands : (i : Ident) (r : Record) (b : Book) → find i b ≡ Some r → Stands i r b
 stands i r [] h = no_record h
 stands i r (x ∷ b) h =
     id_cases i x
@@ -37,19 +37,19 @@ stands i r (x ∷ b) h =
     deeper n s = record { front = x ∷ s.front; back = s.back; split = ap (λ l. x ∷ l) s.split; first = find_there i x s.front n ∙ s.first; ident_is = s.ident_is }
 
 -- a record in front has another identifier
-apart : (i : Ident) (x : Record) (b : Book) → find i (x ∷ b) ≡ none → ident_of x ≢ i
+apart : (i : Ident) (x : Record) (b : Book) → find i (x ∷ b) ≡ None → ident_of x ≢ i
 apart i x b h e = not_none (sym (find_here i x b e) ∙ h)
 
-rest : (i : Ident) (x : Record) (b : Book) → find i (x ∷ b) ≡ none → find i b ≡ none
+rest : (i : Ident) (x : Record) (b : Book) → find i (x ∷ b) ≡ None → find i b ≡ None
 rest i x b h = sym (find_there i x b (apart i x b h)) ∙ h
 
-pub amend_at : (now was : Record) (front back : Book) → ident_of was ≡ ident_of now → find (ident_of now) front ≡ none → amend now (front ++ (was ∷ back)) ≡ front ++ (now ∷ back)
+pub amend_at : (now was : Record) (front back : Book) → ident_of was ≡ ident_of now → find (ident_of now) front ≡ None → amend now (front ++ (was ∷ back)) ≡ front ++ (now ∷ back)
 amend_at now was [] back e h = amend_here now was back e
 amend_at now was (x ∷ front) back e h =
     amend_there now x (front ++ (was ∷ back)) (apart (ident_of now) x front h) ∙ ap (λ l. x ∷ l) (amend_at now was front back e (rest (ident_of now) x front h))
 
 -- a put over a held record is a change in its place
-pub place_held : (now was : Record) (b : Book) → find (ident_of now) b ≡ some was → place now b ≡ amend now b
+pub place_held : (now was : Record) (b : Book) → find (ident_of now) b ≡ Some was → place now b ≡ amend now b
 place_held now was [] h = no_record h
 place_held now was (x ∷ b) h =
     id_cases (ident_of now) x
@@ -90,11 +90,11 @@ module _ (i : Ident) (was : Record) (b : Book) (s : Stands i was b) where
   pub amend_bytes : (now : Record) → ident_of now ≡ i → records_image (amend now b) ≡ spliced (length (records_image s.front)) (length (image.write was)) (image.write now) (records_image b)
   unfolding write_all
   amend_bytes now e =
-      ap records_image (ap (amend now) s.split ∙ amend_at now was s.front s.back (s.ident_is ∙ sym e) (subst (λ j. find j s.front ≡ none) (sym e) s.first))
+      ap records_image (ap (amend now) s.split ∙ amend_at now was s.front s.back (s.ident_is ∙ sym e) (subst (λ j. find j s.front ≡ None) (sym e) s.first))
       ∙ (images_append s.front (now ∷ s.back) ∙ instead (image.write now))
 
   -- a record that goes: its image cut out
-  pub removed_bytes : find i s.back ≡ none → records_image (keep (others i) b) ≡ spliced (length (records_image s.front)) (length (image.write was)) [] (records_image b)
+  pub removed_bytes : find i s.back ≡ None → records_image (keep (others i) b) ≡ spliced (length (records_image s.front)) (length (image.write was)) [] (records_image b)
   removed_bytes h =
       let e : keep (others i) b ≡ s.front ++ s.back =
       ap (keep (others i)) s.split
@@ -103,6 +103,6 @@ module _ (i : Ident) (was : Record) (b : Book) (s : Stands i was b) where
       ap records_image e ∙ (images_append s.front s.back ∙ instead [])
 
 -- a new record: its image after all others
-pub new_bytes : (r : Record) (b : Book) → find (ident_of r) b ≡ none → records_image (place r b) ≡ records_image b ++ image.write r
+pub new_bytes : (r : Record) (b : Book) → find (ident_of r) b ≡ None → records_image (place r b) ≡ records_image b ++ image.write r
 unfolding write_all
 new_bytes r b h = ap records_image (new_last r b h) ∙ (images_append b (r ∷ []) ∙ ap (λ l. records_image b ++ l) (append-nil (image.write r)))

@@ -6,8 +6,8 @@ use mathlib.Core.Path.{◌≡◌, refl, sym, ap, ap₂, subst, ◌∙◌}
 use mathlib.Core.Logic.{◌≢◌}
 use mathlib.Core.Bool.{Bool, true, false, cond, ◌&&◌, false≢true}
 use mathlib.Core.List.{List, [], ◌∷◌}
-use mathlib.Core.Option.{Option, none, some}
 use lib.ListN.{length}
+use Rattle.std.specs.Prelude.{None, Option, Some}
 use Rattle.text.specs.Text.{equal}
 use Rattle.text.proofs.Sames.{both, equal_same, equal_is}
 use Rattle.record.specs.Record.{State, early, confirmed, terminated, Record}
@@ -39,14 +39,14 @@ module _ (S : Course) where
   pub record Follows (i : S.Key) (c : S.Call) (was now : Record) : Type 0 where
     pub forward : stage was.numbers.state ≤ stage now.numbers.state
     pub routes : OnlyConfirming S (record { call = c; was = was; now = now })
-    pub number : or_earlier (S.says i c) (some was.numbers.remote) ≡ some now.numbers.remote
+    pub number : or_earlier (S.says i c) (Some was.numbers.remote) ≡ Some now.numbers.remote
 
   -- what becomes of one key's record by a taken call
   pub data Fate (c : S.Call) (i : S.Key) : Option Record → Option Record → Type 0 where
-    stays : {o : Option Record} → S.says i c ≡ none → S.put_of i c ≡ none → Fate c i o o
-    goes : {o : Option Record} → S.put_of i c ≡ none → Fate c i o none
-    moves : {was now : Record} → Follows i c was now → S.put_of i c ≡ none → Fate c i (some was) (some now)
-    anew : {o : Option Record} (p : Record) → S.says i c ≡ some p.numbers.remote → S.put_of i c ≡ some p → Fate c i o (some p)
+    stays : {o : Option Record} → S.says i c ≡ None → S.put_of i c ≡ None → Fate c i o o
+    goes : {o : Option Record} → S.put_of i c ≡ None → Fate c i o None
+    moves : {was now : Record} → Follows i c was now → S.put_of i c ≡ None → Fate c i (Some was) (Some now)
+    anew : {o : Option Record} (p : Record) → S.says i c ≡ Some p.numbers.remote → S.put_of i c ≡ Some p → Fate c i o (Some p)
 
   -- of every step
   abbrev pub Fated : S.Key → Bool → S.Call → Option Record → Option Record → Type 0
@@ -55,19 +55,19 @@ module _ (S : Course) where
 
   -- the steps of a trace follow one another, from nothing held
   abbrev pub Course_of : S.Key → Option Record → List (Step S) → Type 0
-  Course_of i held [] = held ≡ none
+  Course_of i held [] = held ≡ None
   Course_of i held (e ∷ es) = (e.now i ≡ held) × Fated i e.taken e.call (e.was i) (e.now i) × Course_of i (e.was i) es
 
   -- ---- the remote number
 
   abbrev Number : Option ℕ → Option Record → Type 0
-  Number n o = (r : Record) → o ≡ some r → n ≡ some r.numbers.remote
+  Number n o = (r : Record) → o ≡ Some r → n ≡ Some r.numbers.remote
 
   remote_fate : (c : S.Call) (i : S.Key) (old : Option ℕ) (o new : Option Record) → Number old o → Fate c i o new → Number (or_earlier (S.says i c) old) new
   remote_fate c i old o new ih (stays q p) r e = ap (λ x. or_earlier x old) q ∙ ih r e
   remote_fate c i old o new ih (goes p) r e = no_record e
-  remote_fate c i old o new ih (moves {was} {now} l p) r e = ap (or_earlier (S.says i c)) (ih was refl) ∙ (l.number ∙ ap (λ (y : Record). some y.numbers.remote) (some_is e))
-  remote_fate c i old o new ih (anew x q p) r e = ap (λ y. or_earlier y old) q ∙ ap (λ (y : Record). some y.numbers.remote) (some_is e)
+  remote_fate c i old o new ih (moves {was} {now} l p) r e = ap (or_earlier (S.says i c)) (ih was refl) ∙ (l.number ∙ ap (λ (y : Record). Some y.numbers.remote) (some_is e))
+  remote_fate c i old o new ih (anew x q p) r e = ap (λ y. or_earlier y old) q ∙ ap (λ (y : Record). Some y.numbers.remote) (some_is e)
 
   remote_step : (c : S.Call) (i : S.Key) (t : Bool) (old : Option ℕ) (o new : Option Record) → Number old o → Fated i t c o new → Number (cond t (or_earlier (S.says i c) old) old) new
   remote_step c i true old o new ih f = remote_fate c i old o new ih f
@@ -84,14 +84,14 @@ module _ (S : Course) where
     forward : All (Forward S) ms
     confirming : All (OnlyConfirming S) ms
     once : route_changes S ms ≤ 1
-    fresh : (r : Record) → o ≡ some r → r.numbers.state ≡ early → route_changes S ms ≡ 0
+    fresh : (r : Record) → o ≡ Some r → r.numbers.state ≡ early → route_changes S ms ≡ 0
 
   no_tale : (o : Option Record) → Tale o []
   no_tale o = record { forward = tt; confirming = tt; once = zero-le; fresh = λ r e s. refl }
 
   same_tale : (c : S.Call) (o : Option Record) (ms : List (Moment S)) → Tale o ms → Tale o (between S c o o ms)
-  same_tale c none ms t = no_tale none
-  same_tale c (some w) ms t =
+  same_tale c None ms t = no_tale None
+  same_tale c (Some w) ms t =
       let z : ◌≡◌ {A = ℕ} (cond (same_routes w.routes w.routes) 0 1) 0 = ap (λ p. cond p 0 1) (routes_same w.routes) in
       record {
         forward = (le_refl _, t.forward);
@@ -100,11 +100,11 @@ module _ (S : Course) where
         fresh = λ r e s. omega (arith, z, t.fresh r e s);
       }
 
-  gone_tale : (c : S.Call) (o : Option Record) (ms : List (Moment S)) → Tale none (between S c o none ms)
-  gone_tale c none ms = no_tale none
-  gone_tale c (some w) ms = no_tale none
+  gone_tale : (c : S.Call) (o : Option Record) (ms : List (Moment S)) → Tale None (between S c o None ms)
+  gone_tale c None ms = no_tale None
+  gone_tale c (Some w) ms = no_tale None
 
-  move_tale : (i : S.Key) (c : S.Call) (was now : Record) (ms : List (Moment S)) → Follows i c was now → Tale (some was) ms → Tale (some now) (between S c (some was) (some now) ms)
+  move_tale : (i : S.Key) (c : S.Call) (was now : Record) (ms : List (Moment S)) → Follows i c was now → Tale (Some was) ms → Tale (Some now) (between S c (Some was) (Some now) ms)
   move_tale i c was now ms l t = record {
     forward = (l.forward, t.forward);
     confirming = (l.routes, t.confirming);
@@ -122,17 +122,17 @@ module _ (S : Course) where
           let k : now.numbers.state ≡ confirmed = (l.routes (differ was.routes now.routes q)).to_confirmed in
           absurd (let z : stage early ≡ stage confirmed = ap stage (sym s ∙ k) in omega (arith, z))
 
-  pass : (c : S.Call) (i : S.Key) (X : List (Moment S) → Type 0) (ms : List (Moment S)) → S.put_of i c ≡ none → X ms → X (cond (is_some (S.put_of i c)) [] ms)
+  pass : (c : S.Call) (i : S.Key) (X : List (Moment S) → Type 0) (ms : List (Moment S)) → S.put_of i c ≡ None → X ms → X (cond (is_some (S.put_of i c)) [] ms)
   pass c i X ms p x = subst (λ o. X (cond (is_some o) [] ms)) (sym p) x
 
-  cut : (c : S.Call) (i : S.Key) (X : List (Moment S) → Type 0) (ms : List (Moment S)) (r : Record) → S.put_of i c ≡ some r → X [] → X (cond (is_some (S.put_of i c)) [] ms)
+  cut : (c : S.Call) (i : S.Key) (X : List (Moment S) → Type 0) (ms : List (Moment S)) (r : Record) → S.put_of i c ≡ Some r → X [] → X (cond (is_some (S.put_of i c)) [] ms)
   cut c i X ms r p x = subst (λ o. X (cond (is_some o) [] ms)) (sym p) x
 
   tale_fate : (c : S.Call) (i : S.Key) (ms : List (Moment S)) (o new : Option Record) → Tale o ms → Fate c i o new → Tale new (cond (is_some (S.put_of i c)) [] (between S c o new ms))
   tale_fate c i ms o new t (stays {o = x} q p) = pass c i (Tale x) (between S c x x ms) p (same_tale c x ms t)
-  tale_fate c i ms o new t (goes {o = x} p) = pass c i (Tale none) (between S c x none ms) p (gone_tale c x ms)
-  tale_fate c i ms o new t (moves {was} {now} l p) = pass c i (Tale (some now)) (between S c (some was) (some now) ms) p (move_tale i c was now ms l t)
-  tale_fate c i ms o new t (anew {o = y} x q p) = cut c i (Tale (some x)) (between S c y (some x) ms) x p (no_tale (some x))
+  tale_fate c i ms o new t (goes {o = x} p) = pass c i (Tale None) (between S c x None ms) p (gone_tale c x ms)
+  tale_fate c i ms o new t (moves {was} {now} l p) = pass c i (Tale (Some now)) (between S c (Some was) (Some now) ms) p (move_tale i c was now ms l t)
+  tale_fate c i ms o new t (anew {o = y} x q p) = cut c i (Tale (Some x)) (between S c y (Some x) ms) x p (no_tale (Some x))
 
   tale_step : (c : S.Call) (i : S.Key) (t : Bool) (ms : List (Moment S)) (o new : Option Record) → Tale o ms → Fated i t c o new → Tale new (cond (t && is_some (S.put_of i c)) [] (between S c o new ms))
   tale_step c i true ms o new t f = tale_fate c i ms o new t f
@@ -147,19 +147,19 @@ module _ (S : Course) where
 
   record Whole (origin : Option Record) (r : Record) (ms : List (Moment S)) (n : ℕ) : Type 0 where
     from : Record
-    is : origin ≡ some from
+    is : origin ≡ Some from
     leads : Leads S from ms r
     every : length ms ≡ n
 
   abbrev SoFar : Option Record → List (Moment S) → ℕ → Option Record → Type 0
-  SoFar origin ms n o = (r : Record) → o ≡ some r → Whole origin r ms n
+  SoFar origin ms n o = (r : Record) → o ≡ Some r → Whole origin r ms n
 
   longer : (c : S.Call) (origin : Option Record) (was now : Record) (ms : List (Moment S)) (n : ℕ) → Whole origin was ms n → Whole origin now (record { call = c; was = was; now = now } ∷ ms) (suc n)
   longer c origin was now ms n s = record { from = s.from; is = s.is; leads = (refl, s.leads); every = ap suc s.every }
 
   whole_same : (c : S.Call) (origin : Option Record) (ms : List (Moment S)) (n : ℕ) (o : Option Record) → SoFar origin ms n o → SoFar origin (between S c o o ms) (suc n) o
-  whole_same c origin ms n none ih r e = no_record e
-  whole_same c origin ms n (some w) ih r e = subst (λ y. Whole origin y (between S c (some w) (some w) ms) (suc n)) (some_is e) (longer c origin w w ms n (ih w refl))
+  whole_same c origin ms n None ih r e = no_record e
+  whole_same c origin ms n (Some w) ih r e = subst (λ y. Whole origin y (between S c (Some w) (Some w) ms) (suc n)) (some_is e) (longer c origin w w ms n (ih w refl))
 
   abbrev Next : S.Call → S.Key → Option Record → List (Moment S) → ℕ → Option Record → Option Record → Option Record → Type 0
   Next c i origin ms n o new p = SoFar (or_earlier p origin) (cond (is_some p) [] (between S c o new ms)) (cond (is_some p) 0 (suc n)) new
@@ -168,8 +168,8 @@ module _ (S : Course) where
   whole_fate c i origin ms n o new ih (stays {o = x} q p) = subst (Next c i origin ms n x x) (sym p) (whole_same c origin ms n x ih)
   whole_fate c i origin ms n o new ih (goes p) = λ r e. no_record e
   whole_fate c i origin ms n o new ih (moves {was} {now} l p) =
-      subst (Next c i origin ms n (some was) (some now)) (sym p) (λ r e. subst (λ y. Whole origin y (between S c (some was) (some now) ms) (suc n)) (some_is e) (longer c origin was now ms n (ih was refl)))
-  whole_fate c i origin ms n o new ih (anew {o = y} x q p) = subst (Next c i origin ms n y (some x)) (sym p) (λ r e. record { from = x; is = refl; leads = some_is e; every = refl })
+      subst (Next c i origin ms n (Some was) (Some now)) (sym p) (λ r e. subst (λ y. Whole origin y (between S c (Some was) (Some now) ms) (suc n)) (some_is e) (longer c origin was now ms n (ih was refl)))
+  whole_fate c i origin ms n o new ih (anew {o = y} x q p) = subst (Next c i origin ms n y (Some x)) (sym p) (λ r e. record { from = x; is = refl; leads = some_is e; every = refl })
 
   whole_step : (c : S.Call) (i : S.Key) (t : Bool) (origin : Option Record) (ms : List (Moment S)) (n : ℕ) (o new : Option Record) → SoFar origin ms n o → Fated i t c o new
       → SoFar (cond t (or_earlier (S.put_of i c) origin) origin) (cond (t && is_some (S.put_of i c)) [] (between S c o new ms)) (cond (t && is_some (S.put_of i c)) 0 (suc n)) new

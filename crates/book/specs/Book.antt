@@ -2,10 +2,9 @@
 -- answers; it refuses a call exactly when the table of "Turned back", read over the book, turns it back. An accepted put sets its identifier's record,
 -- a removal drops one, a sweep all that are Terminated; a taken request and the four calls by identifier change their record by the definitions of
 -- demand 2 (dialog_rules/specs/Updates.antt); look-ups, other readings and refused calls change nothing.
-use Rattle.std.specs.Prelude.{ℕ, ◌+◌, Bool, true, false, cond, not, ◌&&◌, List, [], ◌∷◌, ◌++◌, length, leb, ltb}
-use Rattle.std.proofs.Math.Option.{Option, none, some}
+use Rattle.std.specs.Prelude.{ℕ, ◌+◌, Bool, true, false, cond, not, ◌&&◌, List, [], ◌∷◌, ◌++◌, length, leb, ltb, Err, None, Ok, Option, Result, Some}
 use Rattle.limits.specs.Limits.{LimitSet}
-use Rattle.limits.specs.Outcome.{Outcome, refused, given, or_else, refuse_by, refuse_if, and_then, or_refuse}
+use Rattle.limits.specs.Outcome.{or_else, refuse_by, refuse_if, and_then, or_refuse}
 use Rattle.limits.specs.declared.Refusal.{Refusal}
 use Rattle.limits.specs.declared.Refusal.TheVariants.{BadStore, NotFound, TooManyDialogs, TooManyEarlyDialogs, NoRoom}
 use Rattle.text.specs.Text.{equal}
@@ -46,8 +45,8 @@ abbrev pub store_image : Contents → List ℕ
 store_image x = records_image x.records
 
 abbrev pub contents_of : Option Book → Option Contents
-contents_of none = none
-contents_of (some b) = some (record { records = b })
+contents_of None = None
+contents_of (Some b) = Some (record { records = b })
 
 abbrev pub store_read : List ℕ → Option Contents
 store_read bytes = contents_of (decode_all bytes)
@@ -75,8 +74,8 @@ is_of i r = same_ident (ident_of r) i
 
 -- a request from the peer has From as remote tag: `from_request` calls that tag local, and look-up swaps the two
 abbrev pub swapped : Option Identifier → Option Ident
-swapped none = none
-swapped (some i) = some (ident i.call_id.text i.remote_tag.text i.local_tag.text)
+swapped None = None
+swapped (Some i) = Some (ident i.call_id.text i.remote_tag.text i.local_tag.text)
 
 -- the identifier that a request's block names, if all its parts can be read
 unfoldable pub named_in : List ℕ → Option Ident
@@ -85,22 +84,22 @@ named_in block = swapped (identifier_of from_name to_name block)
 -- the identifier that an update names
 abbrev pub name_of : Update → Option Ident
 name_of (request method block) = named_in block
-name_of (response id status block) = some id
-name_of (terminate id) = some id
-name_of (local_number id) = some id
-name_of (interval id s) = some id
+name_of (response id status block) = Some id
+name_of (terminate id) = Some id
+name_of (local_number id) = Some id
+name_of (interval id s) = Some id
 
 -- ---- the records held
 
 -- the record of an identifier
 abbrev pub find : Ident → Book → Option Record
-find i [] = none
-find i (r ∷ b) = cond (is_of i r) (some r) (find i b)
+find i [] = None
+find i (r ∷ b) = cond (is_of i r) (Some r) (find i b)
 
 -- a block that names no identifier names no record
 abbrev pub find_named : Option Ident → Book → Option Record
-find_named none b = none
-find_named (some i) b = find i b
+find_named None b = None
+find_named (Some i) b = find i b
 
 -- where an accepted put sets its record ("Record image"): a replacement keeps its place, a new record goes to the end
 abbrev pub place : Record → Book → Book
@@ -170,29 +169,29 @@ unfoldable pub reading_cause : LimitSet → Reading → Option Refusal
 reading_cause L (get id) = ident_cause L id
 reading_cause L (find_by_request block) = block_cause L block
 reading_cause L (find_by_call_id t) = length_cause L t
-reading_cause L count = none
-reading_cause L (all_ids room) = none
+reading_cause L count = None
+reading_cause L (all_ids room) = None
 
 -- 3 of a put's image; 3 of the store and this one are the same refusal
-abbrev pub cause_in : {A : Type 0} → Outcome A → Option Refusal
-cause_in (refused cause) = some cause
-cause_in (given a) = none
+abbrev pub cause_in : {A : Type 0} → Result A Refusal → Option Refusal
+cause_in (Err cause) = Some cause
+cause_in (Ok a) = None
 
 unfoldable pub argument_cause : LimitSet → Call → Option Refusal
 argument_cause L (put n image) = cause_in (one_record image)
 argument_cause L (update n u) = update_cause L u
 argument_cause L (remove n id) = ident_cause L id
-argument_cause L (sweep n) = none
+argument_cause L (sweep n) = None
 argument_cause L (read n q) = reading_cause L q
 
 -- ---- what an update makes of its record: the definitions of demand 2
 
 -- request: 4, 9; ACK: 11; others: 10, 11, 12. Interval: 13 with the least, 14
-unfoldable pub revised : LimitSet → Update → Record → Outcome Record
+unfoldable pub revised : LimitSet → Update → Record → Result Record Refusal
 revised L (request method block) r = request_update L (kind_of method) block r
-revised L (response id status block) r = given (response_update L status block r)
-revised L (terminate id) r = given (terminate_update r)
-revised L (local_number id) r = given (local_update r)
+revised L (response id status block) r = Ok (response_update L status block r)
+revised L (terminate id) r = Ok (terminate_update r)
+revised L (local_number id) r = Ok (local_update r)
 revised L (interval id s) r = interval_update L s r
 
 -- the next local number is answered
@@ -207,12 +206,12 @@ told_by (interval id s) now = no_value
 
 -- where the image of the first record that passes the test lies, the first image at a place
 unfoldable pub place_of : (Record → Bool) → ℕ → Book → Option Value
-place_of test at [] = none
-place_of test at (r ∷ b) = cond (test r) (some (image_at at (length (image.write r)))) (place_of test (at + length (image.write r)) b)
+place_of test at [] = None
+place_of test at (r ∷ b) = cond (test r) (Some (image_at at (length (image.write r)))) (place_of test (at + length (image.write r)) b)
 
 abbrev pub place_named : Option Ident → Book → Option Value
-place_named none b = none
-place_named (some i) b = place_of (is_of i) first_place b
+place_named None b = None
+place_named (Some i) b = place_of (is_of i) first_place b
 
 -- three texts with two length bytes each, in order
 unfoldable pub identifiers_of : Book → List ℕ
@@ -220,12 +219,12 @@ identifiers_of [] = []
 identifiers_of (r ∷ b) = (text.write r.call_id ++ (text.write r.local_tag ++ text.write r.remote_tag)) ++ identifiers_of b
 
 -- 15; of allIds, 18
-unfoldable pub reply : Reading → Book → Outcome Value
+unfoldable pub reply : Reading → Book → Result Value Refusal
 reply (get id) b = or_refuse NotFound (place_of (is_of id) first_place b)
 reply (find_by_request block) b = or_refuse NotFound (place_named (named_in block) b)
 reply (find_by_call_id t) b = or_refuse NotFound (place_of (λ r. equal r.call_id t) first_place b)
-reply count b = given (number (length b))
-reply (all_ids room) b = and_then (fitted room (identifiers_of b)) (λ bytes. given (written bytes))
+reply count b = Ok (number (length b))
+reply (all_ids room) b = and_then (fitted room (identifiers_of b)) (λ bytes. Ok (written bytes))
 
 -- ---- the verdict on a call
 
@@ -250,11 +249,11 @@ pub record Taken : Type 0 where
   pub change : Change
   pub value : Value
 
-abbrev pub taking : Change → Value → Outcome Taken
-taking c v = given (record { change = c; value = v })
+abbrev pub taking : Change → Value → Result Taken Refusal
+taking c v = Ok (record { change = c; value = v })
 
 -- the causes that are read over the records held: 3 of a put image, 15, 16, 17, and those of the update and of the reading
-unfoldable pub judge : LimitSet → Call → Book → Outcome Taken
+unfoldable pub judge : LimitSet → Call → Book → Result Taken Refusal
 judge L (put n image) b =
     and_then (one_record image) (λ r.
     refuse_if (is_full L b) TooManyDialogs
@@ -265,18 +264,18 @@ judge L (sweep n) b = taking (only living) no_value
 judge L (read n q) b = and_then (reply q b) (λ v. taking unchanged v)
 
 -- 18, last: the store written from the book with the change is larger than the lent bytes
-unfoldable pub fitting : ℕ → Contents → Taken → Outcome Taken
-fitting n x t = refuse_if (ltb n (size (apply t.change x))) NoRoom (given t)
+unfoldable pub fitting : ℕ → Contents → Taken → Result Taken Refusal
+fitting n x t = refuse_if (ltb n (size (apply t.change x))) NoRoom (Ok t)
 
 -- the book's verdict: 1, 2; 3 where the used length is over the lent; then the causes over the records; 18
-unfoldable pub decide : LimitSet → Call → Contents → Outcome Taken
+unfoldable pub decide : LimitSet → Call → Contents → Result Taken Refusal
 decide L c x = refuse_by (argument_cause L c) (refuse_if (ltb (lent c) (size x)) BadStore (and_then (judge L c x.records) (λ t. fitting (lent c) x t)))
 
 -- the book after the verdict, and the answer
-abbrev pub after : Outcome Taken → Contents → Contents
-after (refused cause) x = x
-after (given t) x = apply t.change x
+abbrev pub after : Result Taken Refusal → Contents → Contents
+after (Err cause) x = x
+after (Ok t) x = apply t.change x
 
-abbrev pub answer_of : Outcome Taken → Answer
-answer_of (refused cause) = refused cause
-answer_of (given t) = given t.value
+abbrev pub answer_of : Result Taken Refusal → Answer
+answer_of (Err cause) = Err cause
+answer_of (Ok t) = Ok t.value

@@ -3,8 +3,8 @@
 -- Book.antt; these rules are said without it and without its words (`find`, `is_of`, `named_in`, `place`, `amend`, `keep`, `kind_of`, `one_record`), so a book that refuses
 -- what is to be taken, or takes a call and changes nothing, doesn't keep them. What they share with it: the readings of a block and the record's image, which are demand
 -- 2's, the change by a response, likewise, and `store_read` and `size`.
-use Rattle.std.specs.Prelude.{ℕ, ◌+◌, ◌-◌, ◌≤◌, ◌<◌, ◌^◌, min, ◌≡◌, ◌≢◌, ◌↔◌, Bool, true, false, cond, not, ◌&&◌, List, [], ◌∷◌, ◌++◌, length, eqb, ltb}
-use Rattle.std.proofs.Math.Option.{Option, none, some, map}
+use Rattle.std.specs.Prelude.{ℕ, ◌+◌, ◌-◌, ◌≤◌, ◌<◌, ◌^◌, min, ◌≡◌, ◌≢◌, ◌↔◌, Bool, true, false, cond, not, ◌&&◌, List, [], ◌∷◌, ◌++◌, length, eqb, ltb, None, Option, Some}
+use Rattle.std.specs.Option.{option_map}
 use Rattle.limits.specs.Limits.{LimitSet}
 use Rattle.text.specs.Text.{Piece, equal}
 use Rattle.msg.specs.Block.{is_block, value_named}
@@ -32,14 +32,14 @@ pub record Has (i : Ident) (r : Record) : Type 0 where
   pub remote_tag : r.remote_tag ≡ i.remote_tag
 
 abbrev pub text_of : Option Piece → Option (List ℕ)
-text_of none = none
-text_of (some p) = some p.text
+text_of None = None
+text_of (Some p) = Some p.text
 
 -- the request names the record: "A request from the peer has From as remote tag"
 pub record Names (block : List ℕ) (r : Record) : Type 0 where
-  pub call_id : text_of (value_named call_id_name block) ≡ some r.call_id
-  pub remote_tag : text_of (tag_named from_name block) ≡ some r.remote_tag
-  pub local_tag : text_of (tag_named to_name block) ≡ some r.local_tag
+  pub call_id : text_of (value_named call_id_name block) ≡ Some r.call_id
+  pub remote_tag : text_of (tag_named from_name block) ≡ Some r.remote_tag
+  pub local_tag : text_of (tag_named to_name block) ≡ Some r.local_tag
 
 -- the update is of this record
 abbrev pub Of : Update → Record → Type 0
@@ -102,18 +102,18 @@ pub record Answered (status : ℕ) (r now : Record) : Type 0 where
 
 -- the new value of a number that was lent
 abbrev pub instead : ℕ → Option ℕ → Option ℕ
-instead n lent = map (λ (old : ℕ). n) lent
+instead n lent = option_map (λ (old : ℕ). n) lent
 
 -- the created or terminated count of an accepted call: one more, up to the largest u64
 abbrev pub one_more : Option ℕ → Option ℕ
-one_more lent = map (λ (old : ℕ). min (old + 1) (2 ^ 64 - 1)) lent
+one_more lent = option_map (λ (old : ℕ). min (old + 1) (2 ^ 64 - 1)) lent
 
 -- an accepted call leaves its value in what was lent for it, and the rest as it was
 abbrev pub given_back : Value → Lent → Lent
 given_back no_value l = record { number = l.number; place = l.place; length = l.length; least = l.least; count = one_more l.count; output = l.output }
 given_back (number n) l = record { number = instead n l.number; place = l.place; length = l.length; least = l.least; count = one_more l.count; output = l.output }
 given_back (image_at p n) l = record { number = l.number; place = instead p l.place; length = instead n l.length; least = l.least; count = one_more l.count; output = l.output }
-given_back (written s) l = record { number = l.number; place = l.place; length = instead (length s) l.length; least = l.least; count = one_more l.count; output = map (over s) l.output }
+given_back (written s) l = record { number = l.number; place = l.place; length = instead (length s) l.length; least = l.least; count = one_more l.count; output = option_map (over s) l.output }
 
 -- 13 leaves the least interval
 abbrev pub least_given : ℕ → Lent → Lent
@@ -228,27 +228,27 @@ pub record CallRules (L : LimitSet) (x : Contents) (e : Returned) (held : Conten
       → r.numbers.state ≡ early → L.early_per_call_id ≤ length (those (is_early_other r) x.records) → e.number ≡ 17
   -- requests: one other than ACK exactly in the window, an ACK exactly at the remote number; 4 where the CSeq can't be read
   pub request_rule : (n : ℕ) (method block : List ℕ) (cseq : ℕ) (r : Record) (front rest : Book) → e.call ≡ update n (request method block)
-      → Admitted L x (update n (request method block)) → x.records ≡ front ++ (r ∷ rest) → Names block r → cseq_number block ≡ some cseq → method ≢ ack_name
+      → Admitted L x (update n (request method block)) → x.records ≡ front ++ (r ∷ rest) → Names block r → cseq_number block ≡ Some cseq → method ≢ ack_name
       → TakenIf n e held (InWindow L r.numbers.remote cseq) (holding (front ++ (heard block cseq r ∷ rest))) no_value
   pub ack_rule : (n : ℕ) (method block : List ℕ) (cseq : ℕ) (r : Record) (front rest : Book) → e.call ≡ update n (request method block)
-      → Admitted L x (update n (request method block)) → x.records ≡ front ++ (r ∷ rest) → Names block r → cseq_number block ≡ some cseq → method ≡ ack_name
+      → Admitted L x (update n (request method block)) → x.records ≡ front ++ (r ∷ rest) → Names block r → cseq_number block ≡ Some cseq → method ≡ ack_name
       → TakenIf n e held (AtRemote r.numbers.remote cseq) (holding (front ++ (acknowledged block cseq r ∷ rest))) no_value
   pub request_4 : (n : ℕ) (method block : List ℕ) (r : Record) (front rest : Book) → e.call ≡ update n (request method block) → Admitted L x (update n (request method block))
-      → x.records ≡ front ++ (r ∷ rest) → Names block r → cseq_number block ≡ none → e.number ≡ 4
+      → x.records ≡ front ++ (r ∷ rest) → Names block r → cseq_number block ≡ None → e.number ≡ 4
   -- the number outside the window: 9, 10, 11, 12; of an ACK 9, 11
   pub request_9 : (n : ℕ) (method block : List ℕ) (r : Record) (front rest : Book) → e.call ≡ update n (request method block) → Admitted L x (update n (request method block))
-      → x.records ≡ front ++ (r ∷ rest) → Names block r → cseq_number block ≡ some 0 → e.number ≡ 9
+      → x.records ≡ front ++ (r ∷ rest) → Names block r → cseq_number block ≡ Some 0 → e.number ≡ 9
   pub request_10 : (n : ℕ) (method block : List ℕ) (cseq : ℕ) (r : Record) (front rest : Book) → e.call ≡ update n (request method block)
-      → Admitted L x (update n (request method block)) → x.records ≡ front ++ (r ∷ rest) → Names block r → cseq_number block ≡ some cseq → method ≢ ack_name
+      → Admitted L x (update n (request method block)) → x.records ≡ front ++ (r ∷ rest) → Names block r → cseq_number block ≡ Some cseq → method ≢ ack_name
       → 0 < cseq → L.cseq < cseq → e.number ≡ 10
   pub request_11 : (n : ℕ) (method block : List ℕ) (cseq : ℕ) (r : Record) (front rest : Book) → e.call ≡ update n (request method block)
-      → Admitted L x (update n (request method block)) → x.records ≡ front ++ (r ∷ rest) → Names block r → cseq_number block ≡ some cseq → method ≢ ack_name
+      → Admitted L x (update n (request method block)) → x.records ≡ front ++ (r ∷ rest) → Names block r → cseq_number block ≡ Some cseq → method ≢ ack_name
       → 0 < cseq → cseq ≤ L.cseq → cseq ≤ r.numbers.remote → e.number ≡ 11
   pub request_12 : (n : ℕ) (method block : List ℕ) (cseq : ℕ) (r : Record) (front rest : Book) → e.call ≡ update n (request method block)
-      → Admitted L x (update n (request method block)) → x.records ≡ front ++ (r ∷ rest) → Names block r → cseq_number block ≡ some cseq → method ≢ ack_name
+      → Admitted L x (update n (request method block)) → x.records ≡ front ++ (r ∷ rest) → Names block r → cseq_number block ≡ Some cseq → method ≢ ack_name
       → cseq ≤ L.cseq → 0 < r.numbers.remote → r.numbers.remote + L.cseq_jump < cseq → e.number ≡ 12
   pub ack_11 : (n : ℕ) (method block : List ℕ) (cseq : ℕ) (r : Record) (front rest : Book) → e.call ≡ update n (request method block)
-      → Admitted L x (update n (request method block)) → x.records ≡ front ++ (r ∷ rest) → Names block r → cseq_number block ≡ some cseq → method ≡ ack_name
+      → Admitted L x (update n (request method block)) → x.records ≡ front ++ (r ∷ rest) → Names block r → cseq_number block ≡ Some cseq → method ≡ ack_name
       → 0 < cseq → cseq ≢ r.numbers.remote → e.number ≡ 11
   -- by identifier: a response, a termination and a next local number of a held record are taken wherever their change fits
   pub response_rule : (n : ℕ) (id : Ident) (status : ℕ) (block : List ℕ) (r : Record) (front rest : Book) → e.call ≡ update n (response id status block)
@@ -294,8 +294,8 @@ pub record CallRules (L : LimitSet) (x : Contents) (e : Returned) (held : Conten
 pub record NextCall (L : LimitSet) (w : World) (e : Returned) (now : World) : Type 0 where
   pub was_held : Contents
   pub held : Contents
-  pub reads_before : store_read (used_bytes w) ≡ some was_held
-  pub reads_after : store_read (used_bytes now) ≡ some held
+  pub reads_before : store_read (used_bytes w) ≡ Some was_held
+  pub reads_after : store_read (used_bytes now) ≡ Some held
   pub used_before : w.used ≡ size was_held
   pub rules : CallRules L was_held e held
   -- a refused call keeps every byte and the used length

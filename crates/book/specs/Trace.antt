@@ -1,8 +1,7 @@
 -- Demand 3's clauses on the remote number, the routes and the state of one record since its latest accepted put (document 01, "The book of demand 3"), said of any list
 -- of calls, whatever they are on: one store, several, or joined records. A history sees of a call only its data, whether it was taken, and the record held under each key
 -- before and after it. A trace has the LATEST step first.
-use Rattle.std.specs.Prelude.{ℕ, suc, ◌+◌, ◌≤◌, ◌≡◌, ◌≢◌, Bool, true, false, cond, ◌&&◌, List, [], ◌∷◌, length}
-use Rattle.std.proofs.Math.Option.{Option, none, some}
+use Rattle.std.specs.Prelude.{ℕ, suc, ◌+◌, ◌≤◌, ◌≡◌, ◌≢◌, Bool, true, false, cond, ◌&&◌, List, [], ◌∷◌, length, None, Option, Some}
 use Rattle.text.specs.Text.{equal}
 use Rattle.record.specs.Record.{State, early, confirmed, terminated, Record}
 
@@ -11,12 +10,12 @@ All P [] = Unit {0}
 All P (x ∷ xs) = P x × All P xs
 
 abbrev pub or_earlier : {A : Type 0} → Option A → Option A → Option A
-or_earlier none earlier = earlier
-or_earlier (some x) earlier = some x
+or_earlier None earlier = earlier
+or_earlier (Some x) earlier = Some x
 
 abbrev pub is_some : Option Record → Bool
-is_some none = false
-is_some (some r) = true
+is_some None = false
+is_some (Some r) = true
 
 -- "States go on from Early to Confirmed to Terminated"
 abbrev pub stage : State → ℕ
@@ -51,11 +50,11 @@ module _ (S : Course) where
 
   -- ---- the remote number: of the last request other than ACK that named the key and was taken since its latest accepted put, or else the number put
   unfoldable pub remote_by : S.Key → List Step → Option ℕ
-  remote_by i [] = none
+  remote_by i [] = None
   remote_by i (e ∷ es) = cond e.taken (or_earlier (S.says i e.call) (remote_by i es)) (remote_by i es)
 
   unfoldable pub last_put : S.Key → List Step → Option Record
-  last_put i [] = none
+  last_put i [] = None
   last_put i (e ∷ es) = cond e.taken (or_earlier (S.put_of i e.call) (last_put i es)) (last_put i es)
 
   -- the step is an accepted put of the key
@@ -73,9 +72,9 @@ module _ (S : Course) where
     pub now : Record
 
   abbrev pub between : S.Call → Option Record → Option Record → List Moment → List Moment
-  between c none new ms = []
-  between c (some was) none ms = []
-  between c (some was) (some now) ms = record { call = c; was = was; now = now } ∷ ms
+  between c None new ms = []
+  between c (Some was) None ms = []
+  between c (Some was) (Some now) ms = record { call = c; was = was; now = now } ∷ ms
 
   unfoldable pub moments : S.Key → List Step → List Moment
   moments i [] = []
@@ -88,7 +87,7 @@ module _ (S : Course) where
   -- one moment for each call since the latest accepted put, from the record put to the record held
   pub record Story (i : S.Key) (r : Record) (es : List Step) : Type 0 where
     pub origin : Record
-    pub was_put : last_put i es ≡ some origin
+    pub was_put : last_put i es ≡ Some origin
     pub leads : Leads origin (moments i es) r
     pub every_call : length (moments i es) ≡ calls_since i es
 
@@ -109,8 +108,8 @@ module _ (S : Course) where
 
   -- ---- the claim about one key, of the record that is held at the end
   pub record Told (i : S.Key) (held : Option Record) (es : List Step) : Type 0 where
-    pub remote_rule : (r : Record) → held ≡ some r → remote_by i es ≡ some r.numbers.remote
-    pub story : (r : Record) → held ≡ some r → Story i r es
+    pub remote_rule : (r : Record) → held ≡ Some r → remote_by i es ≡ Some r.numbers.remote
+    pub story : (r : Record) → held ≡ Some r → Story i r es
     pub routes_once : route_changes (moments i es) ≤ 1
     pub routes_confirming : All OnlyConfirming (moments i es)
     pub forward : All Forward (moments i es)

@@ -4,53 +4,52 @@
 ghost use Rattle.std.specs.Prelude.{◌≡◌};
 ghost use Rattle.c_answers.specs.Given.{flag, refresher_number, least_after, optional_time, optional_seconds, check_number, port_flag, port_after, LookupGives, NextGives, PartGives, IdGives, UriGives, EstimateGives, ExpiresGives, CountGives, HeldGives, NumberGives, MethodGives, MethodLookupGives, ReliableGives, RackGives, WrittenGives, ValidatedGives, IntervalGives, RoleGives};
 
-use dialog_id::IdAnswer;
-use headers::{ExpiresAnswer, PartAnswer, Refresher};
-use limits::{Check, Refusal};
-use methods::MethodLookup;
-use output::Written;
-use prack_headers::{MethodAnswer, NumberAnswer, Reliable};
-use rack::RAckAnswer;
-use route_set::Count;
-use session_timer_manager::{Interval, OptionalSeconds, OptionalTime, RefresherRole};
-use store::Held;
-use text::{Lookup, Next};
-use uri::{Estimate, Port, UriAnswer};
+use dialog_id::DialogId;
+use headers::Refresher;
+use limits::Refusal;
+use rack::RAck;
+use text::Span;
+use uri::SipUri;
 
 // Whether a text, a number or an interval was found, as it is handed over.
 const FOUND: u8 = 1;
 
 const NOTHING: u8 = 0;
 
-pub fn check_number(c: Check) -> u8
+pub fn check_number(c: Result<(), Refusal>) -> u8
     ensures { result ≡ check_number c }
 {
     match c {
-        Check::Passed => 0,
-        Check::Refused(x) => x.number(),
+        Ok(()) => 0,
+        Err(x) => x.number(),
     }
 }
 
-pub fn give_lookup(answer: Lookup, found: &mut u8, place: &mut usize, length: &mut usize) -> u8
+pub fn give_lookup(
+    answer: Result<Option<Span>, Refusal>,
+    found: &mut u8,
+    place: &mut usize,
+    length: &mut usize,
+) -> u8
     ensures { LookupGives answer (record { found = found.old; place = place.old; length = length.old }) result (record { found = found.new; place = place.new; length = length.new }) }
 {
     match answer {
-        Lookup::At(s) => {
+        Ok(Some(s)) => {
             *found = FOUND;
             *place = s.start;
             *length = s.length;
             0
         }
-        Lookup::Nothing => {
+        Ok(None) => {
             *found = NOTHING;
             0
         }
-        Lookup::Refused(x) => x.number(),
+        Err(x) => x.number(),
     }
 }
 
 pub fn give_next(
-    answer: Next,
+    answer: Result<Option<(Span, usize)>, Refusal>,
     found: &mut u8,
     place: &mut usize,
     length: &mut usize,
@@ -59,36 +58,36 @@ pub fn give_next(
     ensures { NextGives answer (record { found = found.old; place = place.old; length = length.old; next = next.old }) result (record { found = found.new; place = place.new; length = length.new; next = next.new }) }
 {
     match answer {
-        Next::At(s, after) => {
+        Ok(Some((s, after))) => {
             *found = FOUND;
             *place = s.start;
             *length = s.length;
             *next = after;
             0
         }
-        Next::Nothing => {
+        Ok(None) => {
             *found = NOTHING;
             0
         }
-        Next::Refused(x) => x.number(),
+        Err(x) => x.number(),
     }
 }
 
-pub fn give_part(answer: PartAnswer, place: &mut usize, length: &mut usize) -> u8
+pub fn give_part(answer: Result<Span, Refusal>, place: &mut usize, length: &mut usize) -> u8
     ensures { PartGives answer (record { place = place.old; length = length.old }) result (record { place = place.new; length = length.new }) }
 {
     match answer {
-        PartAnswer::At(s) => {
+        Ok(s) => {
             *place = s.start;
             *length = s.length;
             0
         }
-        PartAnswer::Refused(x) => x.number(),
+        Err(x) => x.number(),
     }
 }
 
 pub fn give_id(
-    answer: IdAnswer,
+    answer: Result<DialogId, Refusal>,
     call: &mut usize,
     call_length: &mut usize,
     local: &mut usize,
@@ -99,7 +98,7 @@ pub fn give_id(
     ensures { IdGives answer (record { call = call.old; call_length = call_length.old; local = local.old; local_length = local_length.old; remote = remote.old; remote_length = remote_length.old }) result (record { call = call.new; call_length = call_length.new; local = local.new; local_length = local_length.new; remote = remote.new; remote_length = remote_length.new }) }
 {
     match answer {
-        IdAnswer::At(i) => {
+        Ok(i) => {
             *call = i.call_id.start;
             *call_length = i.call_id.length;
             *local = i.local_tag.start;
@@ -108,12 +107,12 @@ pub fn give_id(
             *remote_length = i.remote_tag.length;
             0
         }
-        IdAnswer::Refused(x) => x.number(),
+        Err(x) => x.number(),
     }
 }
 
 pub fn give_uri(
-    answer: UriAnswer,
+    answer: Result<SipUri, Refusal>,
     secure: &mut u8,
     user: &mut usize,
     user_length: &mut usize,
@@ -125,7 +124,7 @@ pub fn give_uri(
     ensures { UriGives answer (record { secure = secure.old; user = user.old; user_length = user_length.old; host = host.old; host_length = host_length.old; has_port = has_port.old; port = port.old }) result (record { secure = secure.new; user = user.new; user_length = user_length.new; host = host.new; host_length = host_length.new; has_port = has_port.new; port = port.new }) }
 {
     match answer {
-        UriAnswer::Read(u) => {
+        Ok(u) => {
             *secure = flag_number(u.secure);
             *user = u.user.start;
             *user_length = u.user.length;
@@ -136,24 +135,24 @@ pub fn give_uri(
             *port = port_after(p, *port);
             0
         }
-        UriAnswer::Refused(x) => x.number(),
+        Err(x) => x.number(),
     }
 }
 
-pub fn give_estimate(answer: Estimate, estimate: &mut usize) -> u8
+pub fn give_estimate(answer: Result<usize, Refusal>, estimate: &mut usize) -> u8
     ensures { EstimateGives answer estimate.old result estimate.new }
 {
     match answer {
-        Estimate::Length(n) => {
+        Ok(n) => {
             *estimate = n;
             0
         }
-        Estimate::Refused(x) => x.number(),
+        Err(x) => x.number(),
     }
 }
 
 pub fn give_expires(
-    answer: ExpiresAnswer,
+    answer: Result<Option<(u32, Refresher)>, Refusal>,
     found: &mut u8,
     seconds: &mut u32,
     refresher: &mut u8,
@@ -161,163 +160,172 @@ pub fn give_expires(
     ensures { ExpiresGives answer (record { found = found.old; seconds = seconds.old; refresher = refresher.old }) result (record { found = found.new; seconds = seconds.new; refresher = refresher.new }) }
 {
     match answer {
-        ExpiresAnswer::Of(n, r) => {
+        Ok(Some((n, r))) => {
             *found = FOUND;
             *seconds = n;
             *refresher = refresher_number(r);
             0
         }
-        ExpiresAnswer::Nothing => {
+        Ok(None) => {
             *found = NOTHING;
             0
         }
-        ExpiresAnswer::Refused(x) => x.number(),
+        Err(x) => x.number(),
     }
 }
 
-pub fn give_count(answer: Count, count: &mut usize) -> u8
+pub fn give_count(answer: Result<usize, Refusal>, count: &mut usize) -> u8
     ensures { CountGives answer count.old result count.new }
 {
     match answer {
-        Count::Routes(n) => {
+        Ok(n) => {
             *count = n;
             0
         }
-        Count::Refused(x) => x.number(),
+        Err(x) => x.number(),
     }
 }
 
-pub fn give_held(answer: Held, count: &mut usize) -> u8
+pub fn give_held(answer: Result<usize, Refusal>, count: &mut usize) -> u8
     ensures { HeldGives answer count.old result count.new }
 {
     match answer {
-        Held::Records(n) => {
+        Ok(n) => {
             *count = n;
             0
         }
-        Held::Refused(x) => x.number(),
+        Err(x) => x.number(),
     }
 }
 
-pub fn give_number(answer: NumberAnswer, number: &mut u32) -> u8
+pub fn give_number(answer: Result<u32, Refusal>, number: &mut u32) -> u8
     ensures { NumberGives answer number.old result number.new }
 {
     match answer {
-        NumberAnswer::Value(n) => {
+        Ok(n) => {
             *number = n;
             0
         }
-        NumberAnswer::Refused(x) => x.number(),
+        Err(x) => x.number(),
     }
 }
 
-pub fn give_method(answer: MethodAnswer, method: &mut u8) -> u8
+pub fn give_method(answer: Result<u8, Refusal>, method: &mut u8) -> u8
     ensures { MethodGives answer method.old result method.new }
 {
     match answer {
-        MethodAnswer::Of(n) => {
+        Ok(n) => {
             *method = n;
             0
         }
-        MethodAnswer::Refused(x) => x.number(),
+        Err(x) => x.number(),
     }
 }
 
-pub fn give_method_lookup(answer: MethodLookup, found: &mut u8, method: &mut u8) -> u8
+pub fn give_method_lookup(
+    answer: Result<Option<u8>, Refusal>,
+    found: &mut u8,
+    method: &mut u8,
+) -> u8
     ensures { MethodLookupGives answer (record { found = found.old; method = method.old }) result (record { found = found.new; method = method.new }) }
 {
     match answer {
-        MethodLookup::Of(n) => {
+        Ok(Some(n)) => {
             *found = FOUND;
             *method = n;
             0
         }
-        MethodLookup::Unknown => {
+        Ok(None) => {
             *found = NOTHING;
             0
         }
-        MethodLookup::Refused(x) => x.number(),
+        Err(x) => x.number(),
     }
 }
 
-pub fn give_reliable(answer: Reliable, reliable: &mut u8) -> u8
+pub fn give_reliable(answer: Result<bool, Refusal>, reliable: &mut u8) -> u8
     ensures { ReliableGives answer reliable.old result reliable.new }
 {
     match answer {
-        Reliable::Yes => {
+        Ok(true) => {
             *reliable = 1;
             0
         }
-        Reliable::No => {
+        Ok(false) => {
             *reliable = 0;
             0
         }
-        Reliable::Refused(x) => x.number(),
+        Err(x) => x.number(),
     }
 }
 
-pub fn give_rack(answer: RAckAnswer, rseq: &mut u32, cseq: &mut u32, method: &mut u8) -> u8
+pub fn give_rack(
+    answer: Result<RAck, Refusal>,
+    rseq: &mut u32,
+    cseq: &mut u32,
+    method: &mut u8,
+) -> u8
     ensures { RackGives answer (record { rseq = rseq.old; cseq = cseq.old; method = method.old }) result (record { rseq = rseq.new; cseq = cseq.new; method = method.new }) }
 {
     match answer {
-        RAckAnswer::Of(a) => {
+        Ok(a) => {
             *rseq = a.rseq;
             *cseq = a.cseq;
             *method = a.method;
             0
         }
-        RAckAnswer::Refused(x) => x.number(),
+        Err(x) => x.number(),
     }
 }
 
-pub fn give_written(answer: Written, written: &mut usize) -> u8
+pub fn give_written(answer: Result<usize, Refusal>, written: &mut usize) -> u8
     ensures { WrittenGives answer written.old result written.new }
 {
     match answer {
-        Written::Length(n) => {
+        Ok(n) => {
             *written = n;
             0
         }
-        Written::Refused(x) => x.number(),
+        Err(x) => x.number(),
     }
 }
 
-pub fn give_validated(answer: Interval, least: &mut u64) -> u8
+pub fn give_validated(answer: Result<u64, Refusal>, least: &mut u64) -> u8
     ensures { ValidatedGives answer least.old result least.new }
 {
     match answer {
-        Interval::Nanos(_) => { 0 }
-        Interval::Refused(x) => {
+        Ok(_) => { 0 }
+        Err(x) => {
             *least = least_of(x, *least);
             x.number()
         }
     }
 }
 
-pub fn give_interval(answer: Interval, interval: &mut u64, least: &mut u64) -> u8
+pub fn give_interval(answer: Result<u64, Refusal>, interval: &mut u64, least: &mut u64) -> u8
     ensures { IntervalGives answer (record { interval = interval.old; least = least.old }) result (record { interval = interval.new; least = least.new }) }
 {
     match answer {
-        Interval::Nanos(n) => {
+        Ok(n) => {
             *interval = n;
             0
         }
-        Interval::Refused(x) => {
+        Err(x) => {
             *least = least_of(x, *least);
             x.number()
         }
     }
 }
 
-pub fn give_role(answer: RefresherRole, refresher: &mut u8) -> u8
+pub fn give_role(answer: Result<bool, Refusal>, refresher: &mut u8) -> u8
     ensures { RoleGives answer refresher.old result refresher.new }
 {
     match answer {
-        RefresherRole::WeRefresh(we) => {
+        Ok(we) => {
             *refresher = flag_number(we);
             0
         }
-        RefresherRole::Refused(x) => x.number(),
+        Err(x) => x.number(),
     }
 }
 
@@ -342,41 +350,41 @@ fn refresher_number(r: Refresher) -> u8
     }
 }
 
-fn port_flag(p: Port) -> u8
+fn port_flag(p: Option<u16>) -> u8
     ensures { result ≡ port_flag p }
 {
     match p {
-        Port::Number(_) => 1,
-        Port::Absent => 0,
+        Some(_) => 1,
+        None => 0,
     }
 }
 
-fn port_after(p: Port, old: u16) -> u16
+fn port_after(p: Option<u16>, old: u16) -> u16
     ensures { result ≡ port_after p old }
 {
     match p {
-        Port::Number(n) => n,
-        Port::Absent => old,
+        Some(n) => n,
+        None => old,
     }
 }
 
 // An argument that may be absent.
-pub fn time_if(given: bool, n: u64) -> OptionalTime
+pub fn time_if(given: bool, n: u64) -> Option<u64>
     ensures { result ≡ optional_time given n }
 {
     if given {
-        return OptionalTime::Nanos(n);
+        return Some(n);
     }
-    OptionalTime::Absent
+    None
 }
 
-pub fn seconds_if(given: bool, n: u32) -> OptionalSeconds
+pub fn seconds_if(given: bool, n: u32) -> Option<u32>
     ensures { result ≡ optional_seconds given n }
 {
     if given {
-        return OptionalSeconds::Of(n);
+        return Some(n);
     }
-    OptionalSeconds::Absent
+    None
 }
 
 // What 13 returns beside its number; any other cause keeps the value.

@@ -1,9 +1,9 @@
 -- Document 02, request 12. What a C caller of the interval contest gets: the number, and what the lent numbers then hold. A lent number keeps its value except where
 -- its answer is given: the two ends of an extent where there is one, and of a refusal the minimum of 13.
-use Rattle.std.specs.Prelude.{ℕ}
-use Rattle.std.proofs.Math.Option.{Option, none, some}
+use Rattle.std.specs.Prelude.{ℕ, Err, None, Ok, Option, Result, Some}
 use Rattle.limits.specs.Limits.{LimitSet}
-use Rattle.limits.specs.Outcome.{Outcome, refused, given, number_in}
+use Rattle.limits.specs.Outcome.{number_in}
+use Rattle.limits.specs.declared.Refusal.{Refusal}
 use Rattle.interval_contest.specs.Contest.{Offer, Extent, Power, Settles}
 use Rattle.c_answers.specs.Given.{Gives, flag, least_after}
 
@@ -19,19 +19,19 @@ pub record ContestNumbers : Type 0 where
 
 -- 1 where there is an extent, with its ends; otherwise 0, and the two numbers are kept
 abbrev pub extent_flag : Option Extent → ℕ
-extent_flag (some e) = 1
-extent_flag none = 0
+extent_flag (Some e) = 1
+extent_flag None = 0
 
 abbrev pub least_in : Option Extent → ℕ → ℕ
-least_in (some e) old = e.least
-least_in none old = old
+least_in (Some e) old = e.least
+least_in None old = old
 
 abbrev pub most_in : Option Extent → ℕ → ℕ
-most_in (some e) old = e.most
-most_in none old = old
+most_in (Some e) old = e.most
+most_in None old = old
 
-abbrev pub contest_after : Outcome Power → ContestNumbers → ContestNumbers
-contest_after (given power) old = record {
+abbrev pub contest_after : Result Power Refusal → ContestNumbers → ContestNumbers
+contest_after (Ok power) old = record {
   has_first = extent_flag power.first;
   first_least = least_in power.first old.first_least;
   first_most = most_in power.first old.first_most;
@@ -41,7 +41,7 @@ contest_after (given power) old = record {
   only_requested = flag power.only_requested;
   least = old.least;
 }
-contest_after (refused cause) old = record {
+contest_after (Err cause) old = record {
   has_first = old.has_first;
   first_least = old.first_least;
   first_most = old.first_most;
@@ -52,11 +52,11 @@ contest_after (refused cause) old = record {
   least = least_after cause old.least;
 }
 
-abbrev pub ContestGives : Outcome Power → ContestNumbers → ℕ → ContestNumbers → Type 0
+abbrev pub ContestGives : Result Power Refusal → ContestNumbers → ℕ → ContestNumbers → Type 0
 ContestGives outcome old r left = Gives (number_in outcome) (contest_after outcome old) r left
 
 -- what is handed over is what settles the offer; there is exactly one (`settled` and `settled_only`, interval_contest/proofs/Settled.antt)
 pub record ContestGiven (L : LimitSet) (offer : Offer) (old : ContestNumbers) (r : ℕ) (left : ContestNumbers) : Type 0 where
-  pub outcome : Outcome Power
+  pub outcome : Result Power Refusal
   pub settles : Settles L offer outcome
   pub gives : ContestGives outcome old r left

@@ -6,10 +6,11 @@ ghost use Rattle.interval_contest.specs.Answers.{extent_in, outcome_in};
 ghost use Rattle.c_contest_answers.specs.Given.{extent_flag, least_in, most_in, ContestGives};
 
 use c_answers::{flag_number, least_of};
-use interval_contest::{ContestAnswer, Forced};
+use interval_contest::Contest;
+use limits::Refusal;
 
 pub fn give_contest(
-    answer: ContestAnswer,
+    answer: Result<Contest, Refusal>,
     has_first: &mut u8,
     first_least: &mut u64,
     first_most: &mut u64,
@@ -22,7 +23,7 @@ pub fn give_contest(
     ensures { ContestGives (outcome_in answer) (record { has_first = has_first.old; first_least = first_least.old; first_most = first_most.old; has_retry = has_retry.old; retry_least = retry_least.old; retry_most = retry_most.old; only_requested = only_requested.old; least = least.old }) result (record { has_first = has_first.new; first_least = first_least.new; first_most = first_most.new; has_retry = has_retry.new; retry_least = retry_least.new; retry_most = retry_most.new; only_requested = only_requested.new; least = least.new }) }
 {
     match answer {
-        ContestAnswer::Of(c) => {
+        Ok(c) => {
             let first = c.first;
             let retry = c.retry;
             *has_first = extent_flag(first);
@@ -34,7 +35,7 @@ pub fn give_contest(
             *only_requested = flag_number(c.only_requested);
             0
         }
-        ContestAnswer::Refused(x) => {
+        Err(x) => {
             *least = least_of(x, *least);
             x.number()
         }
@@ -42,31 +43,31 @@ pub fn give_contest(
 }
 
 // 1 where something can be forced, otherwise 0.
-fn extent_flag(f: Forced) -> u8
+fn extent_flag(f: Option<(u64, u64)>) -> u8
     ensures { result ≡ extent_flag (extent_in f) }
 {
     match f {
-        Forced::Between(_, _) => 1,
-        Forced::Nothing => 0,
+        Some((_, _)) => 1,
+        None => 0,
     }
 }
 
 // The least that can be forced; the old value where that is nothing.
-fn least_in(f: Forced, old: u64) -> u64
+fn least_in(f: Option<(u64, u64)>, old: u64) -> u64
     ensures { result ≡ least_in (extent_in f) old }
 {
     match f {
-        Forced::Between(least, _) => least,
-        Forced::Nothing => old,
+        Some((least, _)) => least,
+        None => old,
     }
 }
 
 // The most, in the same way.
-fn most_in(f: Forced, old: u64) -> u64
+fn most_in(f: Option<(u64, u64)>, old: u64) -> u64
     ensures { result ≡ most_in (extent_in f) old }
 {
     match f {
-        Forced::Between(_, most) => most,
-        Forced::Nothing => old,
+        Some((_, most)) => most,
+        None => old,
     }
 }

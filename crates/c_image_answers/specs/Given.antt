@@ -2,24 +2,14 @@
 -- values of each case. For each kind of answer: the number that is returned (0 accepted, else that of "Turned back"), and what the lent numbers then hold.
 -- A lent number keeps its value except where its answer is given; a used length that is lent is the image's new length where the call is accepted, and keeps
 -- its value where it is refused.
-use Rattle.std.specs.Prelude.{ℕ, ◌||◌}
+use Rattle.std.specs.Prelude.{ℕ, ◌||◌, Bool, true, false, Err, None, Ok, Option, Result, Some}
 use Rattle.limits.specs.Refusal.{number_of}
-use Rattle.output.specs.declared.Written.{Written}
-use Rattle.output.specs.declared.Written.TheVariants as written
+use Rattle.limits.specs.declared.Refusal.{Refusal}
 use Rattle.record.specs.declared.numbers.State.{State}
 use Rattle.record.specs.declared.numbers.State.TheVariants as state
-use Rattle.record.specs.declared.numbers.Optional.{Optional}
-use Rattle.record.specs.declared.numbers.Optional.TheVariants as optional
 use Rattle.record.specs.declared.numbers.Refresher.{Refresher}
 use Rattle.record.specs.declared.numbers.Refresher.TheVariants as refresher
-use Rattle.dialog.specs.declared.readings.ImageAnswer.{ImageAnswer}
-use Rattle.dialog.specs.declared.readings.ImageAnswer.TheVariants as image
-use Rattle.dialog.specs.declared.readings.Refresh.{Refresh}
-use Rattle.dialog.specs.declared.readings.Refresh.TheVariants as refresh
-use Rattle.dialog.specs.declared.matching.Matches.{Matches}
-use Rattle.dialog.specs.declared.matching.Matches.TheVariants as matches
-use Rattle.dialog_changes.specs.declared.Raised.{Raised}
-use Rattle.dialog_changes.specs.declared.Raised.TheVariants as raised
+use Rattle.image.specs.declared.RecordAt.{RecordAt}
 use Rattle.c_answers.specs.Given.{Gives, IdNumbers, flag, least_after}
 
 -- ---- plain values
@@ -31,13 +21,13 @@ state_number state.Confirmed = 2
 state_number state.Terminated = 3
 
 -- a number that may be absent: whether it is present, and its value
-abbrev pub optional_flag : Optional → ℕ
-optional_flag (optional.Number n) = 1
-optional_flag optional.Absent = 0
+abbrev pub optional_flag : Option ℕ → ℕ
+optional_flag (Some n) = 1
+optional_flag None = 0
 
-abbrev pub optional_after : Optional → ℕ → ℕ
-optional_after (optional.Number n) old = n
-optional_after optional.Absent old = old
+abbrev pub optional_after : Option ℕ → ℕ → ℕ
+optional_after (Some n) old = n
+optional_after None old = old
 
 -- 0 none, 1 uac, 2 uas
 abbrev pub refresher_number : Refresher → ℕ
@@ -47,13 +37,13 @@ refresher_number refresher.Uas = 2
 
 -- ---- the accessors
 
-abbrev pub image_number : ImageAnswer → ℕ
-image_number (image.Of p) = 0
-image_number (image.Refused cause) = number_of cause
+abbrev pub image_number : Result RecordAt Refusal → ℕ
+image_number (Ok p) = 0
+image_number (Err cause) = number_of cause
 
 -- where the three parts of the identifier lie; one that is empty has length 0
-abbrev pub id_after : ImageAnswer → IdNumbers → IdNumbers
-id_after (image.Of p) old = record {
+abbrev pub id_after : Result RecordAt Refusal → IdNumbers → IdNumbers
+id_after (Ok p) old = record {
   call = p.ids.call_id.start;
   call_length = p.ids.call_id.length;
   local = p.ids.local_tag.start;
@@ -61,9 +51,9 @@ id_after (image.Of p) old = record {
   remote = p.ids.remote_tag.start;
   remote_length = p.ids.remote_tag.length;
 }
-id_after (image.Refused cause) old = old
+id_after (Err cause) old = old
 
-abbrev pub ImageIdGives : ImageAnswer → IdNumbers → ℕ → IdNumbers → Type 0
+abbrev pub ImageIdGives : Result RecordAt Refusal → IdNumbers → ℕ → IdNumbers → Type 0
 ImageIdGives answer old r left = Gives (image_number answer) (id_after answer old) r left
 
 -- the state, the side, and whether the local or the remote URI is `sips`
@@ -72,11 +62,11 @@ pub record StateNumbers : Type 0 where
   pub we_are_uac : ℕ
   pub secure : ℕ
 
-abbrev pub state_after : ImageAnswer → StateNumbers → StateNumbers
-state_after (image.Of p) old = record { state = state_number p.numbers.state; we_are_uac = flag p.we_are_uac; secure = flag (p.uris.local_secure || p.uris.remote_secure) }
-state_after (image.Refused cause) old = old
+abbrev pub state_after : Result RecordAt Refusal → StateNumbers → StateNumbers
+state_after (Ok p) old = record { state = state_number p.numbers.state; we_are_uac = flag p.we_are_uac; secure = flag (p.uris.local_secure || p.uris.remote_secure) }
+state_after (Err cause) old = old
 
-abbrev pub StateGives : ImageAnswer → StateNumbers → ℕ → StateNumbers → Type 0
+abbrev pub StateGives : Result RecordAt Refusal → StateNumbers → ℕ → StateNumbers → Type 0
 StateGives answer old r left = Gives (image_number answer) (state_after answer old) r left
 
 -- where the three URIs lie
@@ -88,8 +78,8 @@ pub record UrisNumbers : Type 0 where
   pub remote_uri : ℕ
   pub remote_uri_length : ℕ
 
-abbrev pub uris_after : ImageAnswer → UrisNumbers → UrisNumbers
-uris_after (image.Of p) old = record {
+abbrev pub uris_after : Result RecordAt Refusal → UrisNumbers → UrisNumbers
+uris_after (Ok p) old = record {
   target = p.uris.target.start;
   target_length = p.uris.target.length;
   local_uri = p.uris.local_uri.start;
@@ -97,9 +87,9 @@ uris_after (image.Of p) old = record {
   remote_uri = p.uris.remote_uri.start;
   remote_uri_length = p.uris.remote_uri.length;
 }
-uris_after (image.Refused cause) old = old
+uris_after (Err cause) old = old
 
-abbrev pub UrisGives : ImageAnswer → UrisNumbers → ℕ → UrisNumbers → Type 0
+abbrev pub UrisGives : Result RecordAt Refusal → UrisNumbers → ℕ → UrisNumbers → Type 0
 UrisGives answer old r left = Gives (image_number answer) (uris_after answer old) r left
 
 -- the numbers; an absent last ACK or interval keeps its lent number
@@ -112,8 +102,8 @@ pub record RecordNumbers : Type 0 where
   pub seconds : ℕ
   pub refresher : ℕ
 
-abbrev pub numbers_after : ImageAnswer → RecordNumbers → RecordNumbers
-numbers_after (image.Of p) old = record {
+abbrev pub numbers_after : Result RecordAt Refusal → RecordNumbers → RecordNumbers
+numbers_after (Ok p) old = record {
   local = p.numbers.local;
   remote = p.numbers.remote;
   has_last_ack = optional_flag p.numbers.last_ack;
@@ -122,47 +112,47 @@ numbers_after (image.Of p) old = record {
   seconds = optional_after p.numbers.seconds old.seconds;
   refresher = refresher_number p.numbers.refresher;
 }
-numbers_after (image.Refused cause) old = old
+numbers_after (Err cause) old = old
 
-abbrev pub NumbersGives : ImageAnswer → RecordNumbers → ℕ → RecordNumbers → Type 0
+abbrev pub NumbersGives : Result RecordAt Refusal → RecordNumbers → ℕ → RecordNumbers → Type 0
 NumbersGives answer old r left = Gives (image_number answer) (numbers_after answer old) r left
 
 -- how many routes there are
-abbrev pub route_count_after : ImageAnswer → ℕ → ℕ
-route_count_after (image.Of p) old = p.route_count
-route_count_after (image.Refused cause) old = old
+abbrev pub route_count_after : Result RecordAt Refusal → ℕ → ℕ
+route_count_after (Ok p) old = p.route_count
+route_count_after (Err cause) old = old
 
-abbrev pub RouteCountGives : ImageAnswer → ℕ → ℕ → ℕ → Type 0
+abbrev pub RouteCountGives : Result RecordAt Refusal → ℕ → ℕ → ℕ → Type 0
 RouteCountGives answer old r left = Gives (image_number answer) (route_count_after answer old) r left
 
 -- ---- whether a request belongs to a record
 
-abbrev pub matches_number : Matches → ℕ
-matches_number matches.Yes = 0
-matches_number matches.No = 0
-matches_number (matches.Refused cause) = number_of cause
+abbrev pub matches_number : Result Bool Refusal → ℕ
+matches_number (Ok true) = 0
+matches_number (Ok false) = 0
+matches_number (Err cause) = number_of cause
 
-abbrev pub matches_after : Matches → ℕ → ℕ
-matches_after matches.Yes old = 1
-matches_after matches.No old = 0
-matches_after (matches.Refused cause) old = old
+abbrev pub matches_after : Result Bool Refusal → ℕ → ℕ
+matches_after (Ok true) old = 1
+matches_after (Ok false) old = 0
+matches_after (Err cause) old = old
 
-abbrev pub MatchesGives : Matches → ℕ → ℕ → ℕ → Type 0
+abbrev pub MatchesGives : Result Bool Refusal → ℕ → ℕ → ℕ → Type 0
 MatchesGives answer old r left = Gives (matches_number answer) (matches_after answer old) r left
 
 -- ---- whether a session is to be refreshed
 
-abbrev pub refresh_number : Refresh → ℕ
-refresh_number refresh.Due = 0
-refresh_number refresh.NotDue = 0
-refresh_number (refresh.Refused cause) = number_of cause
+abbrev pub refresh_number : Result Bool Refusal → ℕ
+refresh_number (Ok true) = 0
+refresh_number (Ok false) = 0
+refresh_number (Err cause) = number_of cause
 
-abbrev pub refresh_after : Refresh → ℕ → ℕ
-refresh_after refresh.Due old = 1
-refresh_after refresh.NotDue old = 0
-refresh_after (refresh.Refused cause) old = old
+abbrev pub refresh_after : Result Bool Refusal → ℕ → ℕ
+refresh_after (Ok true) old = 1
+refresh_after (Ok false) old = 0
+refresh_after (Err cause) old = old
 
-abbrev pub RefreshGives : Refresh → ℕ → ℕ → ℕ → Type 0
+abbrev pub RefreshGives : Result Bool Refusal → ℕ → ℕ → ℕ → Type 0
 RefreshGives answer old r left = Gives (refresh_number answer) (refresh_after answer old) r left
 
 -- ---- a new local number, and the image's new length
@@ -171,15 +161,15 @@ pub record RaisedNumbers : Type 0 where
   pub used : ℕ
   pub number : ℕ
 
-abbrev pub raised_number : Raised → ℕ
-raised_number (raised.To n length) = 0
-raised_number (raised.Refused cause) = number_of cause
+abbrev pub raised_number : Result (ℕ × ℕ) Refusal → ℕ
+raised_number (Ok (n, length)) = 0
+raised_number (Err cause) = number_of cause
 
-abbrev pub raised_after : Raised → RaisedNumbers → RaisedNumbers
-raised_after (raised.To n length) old = record { used = length; number = n }
-raised_after (raised.Refused cause) old = old
+abbrev pub raised_after : Result (ℕ × ℕ) Refusal → RaisedNumbers → RaisedNumbers
+raised_after (Ok (n, length)) old = record { used = length; number = n }
+raised_after (Err cause) old = old
 
-abbrev pub RaisedGives : Raised → RaisedNumbers → ℕ → RaisedNumbers → Type 0
+abbrev pub RaisedGives : Result (ℕ × ℕ) Refusal → RaisedNumbers → ℕ → RaisedNumbers → Type 0
 RaisedGives answer old r left = Gives (raised_number answer) (raised_after answer old) r left
 
 -- ---- a new interval, and the image's new length: 13 gives the least
@@ -188,13 +178,13 @@ pub record SetNumbers : Type 0 where
   pub used : ℕ
   pub least : ℕ
 
-abbrev pub set_number : Written → ℕ
-set_number (written.Length n) = 0
-set_number (written.Refused cause) = number_of cause
+abbrev pub set_number : Result ℕ Refusal → ℕ
+set_number (Ok n) = 0
+set_number (Err cause) = number_of cause
 
-abbrev pub set_after : Written → SetNumbers → SetNumbers
-set_after (written.Length n) old = record { used = n; least = old.least }
-set_after (written.Refused cause) old = record { used = old.used; least = least_after cause old.least }
+abbrev pub set_after : Result ℕ Refusal → SetNumbers → SetNumbers
+set_after (Ok n) old = record { used = n; least = old.least }
+set_after (Err cause) old = record { used = old.used; least = least_after cause old.least }
 
-abbrev pub SetGives : Written → SetNumbers → ℕ → SetNumbers → Type 0
+abbrev pub SetGives : Result ℕ Refusal → SetNumbers → ℕ → SetNumbers → Type 0
 SetGives answer old r left = Gives (set_number answer) (set_after answer old) r left

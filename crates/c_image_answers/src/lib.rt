@@ -5,14 +5,12 @@ ghost use Rattle.std.specs.Prelude.{◌≡◌};
 ghost use Rattle.c_image_answers.specs.Given.{state_number, optional_flag, optional_after, refresher_number, ImageIdGives, StateGives, UrisGives, NumbersGives, RouteCountGives, MatchesGives, RefreshGives, RaisedGives, SetGives};
 
 use c_answers::{flag_number, least_of};
-use dialog::{ImageAnswer, Matches, Refresh};
-use dialog_changes::Raised;
-use image::either;
-use output::Written;
-use record::{Optional, Refresher, State};
+use image::{RecordAt, either};
+use limits::Refusal;
+use record::{Refresher, State};
 
 pub fn give_image_id(
-    answer: ImageAnswer,
+    answer: Result<RecordAt, Refusal>,
     call: &mut usize,
     call_length: &mut usize,
     local: &mut usize,
@@ -23,7 +21,7 @@ pub fn give_image_id(
     ensures { ImageIdGives answer (record { call = call.old; call_length = call_length.old; local = local.old; local_length = local_length.old; remote = remote.old; remote_length = remote_length.old }) result (record { call = call.new; call_length = call_length.new; local = local.new; local_length = local_length.new; remote = remote.new; remote_length = remote_length.new }) }
 {
     match answer {
-        ImageAnswer::Of(r) => {
+        Ok(r) => {
             let ids = r.ids;
             *call = ids.call_id.start;
             *call_length = ids.call_id.length;
@@ -33,15 +31,20 @@ pub fn give_image_id(
             *remote_length = ids.remote_tag.length;
             0
         }
-        ImageAnswer::Refused(x) => x.number(),
+        Err(x) => x.number(),
     }
 }
 
-pub fn give_state(answer: ImageAnswer, state: &mut u8, we_are_uac: &mut u8, secure: &mut u8) -> u8
+pub fn give_state(
+    answer: Result<RecordAt, Refusal>,
+    state: &mut u8,
+    we_are_uac: &mut u8,
+    secure: &mut u8,
+) -> u8
     ensures { StateGives answer (record { state = state.old; we_are_uac = we_are_uac.old; secure = secure.old }) result (record { state = state.new; we_are_uac = we_are_uac.new; secure = secure.new }) }
 {
     match answer {
-        ImageAnswer::Of(r) => {
+        Ok(r) => {
             let numbers = r.numbers;
             let s = numbers.state;
             let uris = r.uris;
@@ -50,12 +53,12 @@ pub fn give_state(answer: ImageAnswer, state: &mut u8, we_are_uac: &mut u8, secu
             *secure = flag_number(either(uris.local_secure, uris.remote_secure));
             0
         }
-        ImageAnswer::Refused(x) => x.number(),
+        Err(x) => x.number(),
     }
 }
 
 pub fn give_uris(
-    answer: ImageAnswer,
+    answer: Result<RecordAt, Refusal>,
     target: &mut usize,
     target_length: &mut usize,
     local_uri: &mut usize,
@@ -66,7 +69,7 @@ pub fn give_uris(
     ensures { UrisGives answer (record { target = target.old; target_length = target_length.old; local_uri = local_uri.old; local_uri_length = local_uri_length.old; remote_uri = remote_uri.old; remote_uri_length = remote_uri_length.old }) result (record { target = target.new; target_length = target_length.new; local_uri = local_uri.new; local_uri_length = local_uri_length.new; remote_uri = remote_uri.new; remote_uri_length = remote_uri_length.new }) }
 {
     match answer {
-        ImageAnswer::Of(r) => {
+        Ok(r) => {
             let uris = r.uris;
             *target = uris.target.start;
             *target_length = uris.target.length;
@@ -76,12 +79,12 @@ pub fn give_uris(
             *remote_uri_length = uris.remote_uri.length;
             0
         }
-        ImageAnswer::Refused(x) => x.number(),
+        Err(x) => x.number(),
     }
 }
 
 pub fn give_numbers(
-    answer: ImageAnswer,
+    answer: Result<RecordAt, Refusal>,
     local: &mut u32,
     remote: &mut u32,
     has_last_ack: &mut u8,
@@ -93,7 +96,7 @@ pub fn give_numbers(
     ensures { NumbersGives answer (record { local = local.old; remote = remote.old; has_last_ack = has_last_ack.old; last_ack = last_ack.old; has_seconds = has_seconds.old; seconds = seconds.old; refresher = refresher.old }) result (record { local = local.new; remote = remote.new; has_last_ack = has_last_ack.new; last_ack = last_ack.new; has_seconds = has_seconds.new; seconds = seconds.new; refresher = refresher.new }) }
 {
     match answer {
-        ImageAnswer::Of(r) => {
+        Ok(r) => {
             let numbers = r.numbers;
             let ack = numbers.last_ack;
             let interval = numbers.seconds;
@@ -107,76 +110,76 @@ pub fn give_numbers(
             *refresher = refresher_number(side);
             0
         }
-        ImageAnswer::Refused(x) => x.number(),
+        Err(x) => x.number(),
     }
 }
 
-pub fn give_route_count(answer: ImageAnswer, count: &mut usize) -> u8
+pub fn give_route_count(answer: Result<RecordAt, Refusal>, count: &mut usize) -> u8
     ensures { RouteCountGives answer count.old result count.new }
 {
     match answer {
-        ImageAnswer::Of(r) => {
+        Ok(r) => {
             *count = r.route_count;
             0
         }
-        ImageAnswer::Refused(x) => x.number(),
+        Err(x) => x.number(),
     }
 }
 
-pub fn give_matches(answer: Matches, matches: &mut u8) -> u8
+pub fn give_matches(answer: Result<bool, Refusal>, matches: &mut u8) -> u8
     ensures { MatchesGives answer matches.old result matches.new }
 {
     match answer {
-        Matches::Yes => {
+        Ok(true) => {
             *matches = 1;
             0
         }
-        Matches::No => {
+        Ok(false) => {
             *matches = 0;
             0
         }
-        Matches::Refused(x) => x.number(),
+        Err(x) => x.number(),
     }
 }
 
-pub fn give_refresh(answer: Refresh, due: &mut u8) -> u8
+pub fn give_refresh(answer: Result<bool, Refusal>, due: &mut u8) -> u8
     ensures { RefreshGives answer due.old result due.new }
 {
     match answer {
-        Refresh::Due => {
+        Ok(true) => {
             *due = 1;
             0
         }
-        Refresh::NotDue => {
+        Ok(false) => {
             *due = 0;
             0
         }
-        Refresh::Refused(x) => x.number(),
+        Err(x) => x.number(),
     }
 }
 
-pub fn give_raised(answer: Raised, used: &mut usize, number: &mut u32) -> u8
+pub fn give_raised(answer: Result<(u32, usize), Refusal>, used: &mut usize, number: &mut u32) -> u8
     ensures { RaisedGives answer (record { used = used.old; number = number.old }) result (record { used = used.new; number = number.new }) }
 {
     match answer {
-        Raised::To(n, length) => {
+        Ok((n, length)) => {
             *used = length;
             *number = n;
             0
         }
-        Raised::Refused(x) => x.number(),
+        Err(x) => x.number(),
     }
 }
 
-pub fn give_set(answer: Written, used: &mut usize, least: &mut u64) -> u8
+pub fn give_set(answer: Result<usize, Refusal>, used: &mut usize, least: &mut u64) -> u8
     ensures { SetGives answer (record { used = used.old; least = least.old }) result (record { used = used.new; least = least.new }) }
 {
     match answer {
-        Written::Length(n) => {
+        Ok(n) => {
             *used = n;
             0
         }
-        Written::Refused(x) => {
+        Err(x) => {
             *least = least_of(x, *least);
             x.number()
         }
@@ -194,21 +197,21 @@ fn state_number(s: State) -> u8
     }
 }
 
-fn optional_flag(o: Optional) -> u8
+fn optional_flag(o: Option<u32>) -> u8
     ensures { result ≡ optional_flag o }
 {
     match o {
-        Optional::Number(_) => 1,
-        Optional::Absent => 0,
+        Some(_) => 1,
+        None => 0,
     }
 }
 
-fn optional_after(o: Optional, old: u32) -> u32
+fn optional_after(o: Option<u32>, old: u32) -> u32
     ensures { result ≡ optional_after o old }
 {
     match o {
-        Optional::Number(n) => n,
-        Optional::Absent => old,
+        Some(n) => n,
+        None => old,
     }
 }
 

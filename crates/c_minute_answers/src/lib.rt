@@ -3,24 +3,29 @@
 
 ghost use Rattle.c_minute_answers.specs.Given.{WorstGives};
 
-use worst_minute::Worst;
+use limits::Refusal;
 
 // How many refusals, whether there is a start, and the start, which keeps its value where there is none.
-pub fn give_worst(answer: Worst, refusals: &mut usize, found: &mut u8, start: &mut u64) -> u8
+pub fn give_worst(
+    answer: Result<Option<(usize, u64)>, Refusal>,
+    refusals: &mut usize,
+    found: &mut u8,
+    start: &mut u64,
+) -> u8
     ensures { WorstGives answer (record { refusals = refusals.old; found = found.old; start = start.old }) result (record { refusals = refusals.new; found = found.new; start = start.new }) }
 {
     match answer {
-        Worst::Of(n, t) => {
+        Ok(Some((n, t))) => {
             *refusals = n;
             *found = 1;
             *start = t;
             0
         }
-        Worst::Empty => {
+        Ok(None) => {
             *refusals = 0;
             *found = 0;
             0
         }
-        Worst::Refused(x) => x.number(),
+        Err(x) => x.number(),
     }
 }

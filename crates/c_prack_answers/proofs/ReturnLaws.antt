@@ -4,8 +4,10 @@ use native.Mathlib.Omega.{arith}
 use mathlib.Core.Path.{◌≡◌, refl, ap, subst, ◌∙◌}
 use mathlib.Core.Bool.{false}
 use mathlib.Core.List.{List}
+use Rattle.std.specs.Prelude.{Bool, Err, Ok, Result}
 use Rattle.limits.specs.Limits.{rust_limits}
-use Rattle.limits.specs.Outcome.{Outcome, refused, given, and_then, number_in}
+use Rattle.limits.specs.Outcome.{and_then, number_in}
+use Rattle.limits.specs.declared.Refusal.{Refusal}
 use Rattle.output.specs.Output.{fitted}
 use Rattle.rack.specs.declared.RAck.{RAck}
 use Rattle.ordered_store.specs.Entries.{set_entry}
@@ -17,21 +19,18 @@ use Rattle.prack_entries.specs.Entries.{key_of, clean_for}
 use Rattle.prack_validator.specs.Validator.{validate, is_pracked, get_pending, Value, written, action_cause, rack_value, deciding, judged_for, judge, ran}
 use Rattle.prack_validator.specs.Answers.{rack_after, flag_after, length_after, no_rack, validated_by, validated_in, pracked_of, listed_by, listed_in, used_listed}
 use Rattle.prack_validator.specs.declared.Validated.{Validated}
-use Rattle.prack_validator.specs.declared.Pracked.{Pracked}
-use Rattle.prack_validator.specs.declared.Listed.{Listed}
-use Rattle.prack_validator.specs.declared.Listed.TheVariants as listed
 use Rattle.c_prack_answers.specs.Given.{pracked_after, ValidatedNumbers, ValidatedGives, validated_number, validated_after, PrackedGives, pracked_number, pracked_left, ListedNumbers, ListedGives, listed_number, listed_after}
 
 -- what was decided
-decided : {ts : List Tracked} {a : Outcome Value} {d : Decided Tracked Value} → deciding ts a ≡ given d → a ≡ d.answer
+decided : {ts : List Tracked} {a : Result Value Refusal} {d : Decided Tracked Value} → deciding ts a ≡ Ok d → a ≡ d.answer
 decided {ts} {a} {d} e = let k : record { entries = ts; answer = a } ≡ d = cc in ap (λ (x : Decided Tracked Value). x.answer) k
 
 -- ---- a PRACK
 
 -- an accepted PRACK answers its RAck, whatever the lent numbers were
-abbrev Racked : Outcome Value → Type 0
-Racked (refused cause) = Unit {0}
-Racked (given v) = (old : RAck) → rack_after (given v) no_rack ≡ rack_after (given v) old
+abbrev Racked : Result Value Refusal → Type 0
+Racked (Err cause) = Unit {0}
+Racked (Ok v) = (old : RAck) → rack_after (Ok v) no_rack ≡ rack_after (Ok v) old
 
 racked : (id block : List ℕ) (time : ℕ) (bytes : List ℕ) (used : ℕ) → Racked (ran rust_limits (validate id block time) bytes used).answer
 unfolding judge
@@ -39,9 +38,9 @@ racked id block time bytes used =
     answer_has (tracked_form rust_limits) key_of (action_cause rust_limits (validate id block time)) (judge rust_limits (validate id block time)) bytes used Racked (λ one. tt)
     (λ ts d j. subst Racked (decided j) (by (judged_for rust_limits id block time ts)))
   where
-    by : (v : Outcome RAck) → Racked (rack_value v)
-    by (refused cause) = tt
-    by (given k) = λ old. refl
+    by : (v : Result RAck Refusal) → Racked (rack_value v)
+    by (Err cause) = tt
+    by (Ok k) = λ old. refl
 
 pub validated_returns : (id block : List ℕ) (time : ℕ) (bytes : List ℕ) (used : ℕ) (w : Validated) (after : List ℕ) (old : RAck) (left : ValidatedNumbers) (r : ℕ)
     → w ≡ validated_in (ran rust_limits (validate id block time) bytes used) → after ≡ (ran rust_limits (validate id block time) bytes used).bytes
@@ -57,24 +56,24 @@ validated_returns id block time bytes used w after old left r e b g =
       ap (λ (x : ValidatedNumbers). x.rack) g.left_is ∙ (ap (λ (x : Validated). (validated_after x (record { used = used; rack = old })).rack) e ∙ rack_same l.answer l.used (racked id block time bytes used)),
     )
   where
-    used_same : (a : Outcome Value) (m : ℕ) → (validated_after (validated_by a m) (record { used = used; rack = old })).used ≡ m
-    used_same (refused cause) m = refl
-    used_same (given v) m = refl
+    used_same : (a : Result Value Refusal) (m : ℕ) → (validated_after (validated_by a m) (record { used = used; rack = old })).used ≡ m
+    used_same (Err cause) m = refl
+    used_same (Ok v) m = refl
 
-    number_same : (a : Outcome Value) (m : ℕ) → validated_number (validated_by a m) ≡ number_in a
-    number_same (refused cause) m = refl
-    number_same (given v) m = refl
+    number_same : (a : Result Value Refusal) (m : ℕ) → validated_number (validated_by a m) ≡ number_in a
+    number_same (Err cause) m = refl
+    number_same (Ok v) m = refl
 
-    rack_same : (a : Outcome Value) (m : ℕ) → Racked a → (validated_after (validated_by a m) (record { used = used; rack = old })).rack ≡ rack_after a old
-    rack_same (refused cause) m k = refl
-    rack_same (given v) m k = k old
+    rack_same : (a : Result Value Refusal) (m : ℕ) → Racked a → (validated_after (validated_by a m) (record { used = used; rack = old })).rack ≡ rack_after a old
+    rack_same (Err cause) m k = refl
+    rack_same (Ok v) m k = k old
 
 -- ---- whether a response is acknowledged
 
 -- the answer is yes or no, whatever the lent number was
-abbrev Flagged : Outcome Value → Type 0
-Flagged (refused cause) = Unit {0}
-Flagged (given v) = (old : ℕ) → to_bit (flag_after (given v) false) ≡ pracked_after (given v) old
+abbrev Flagged : Result Value Refusal → Type 0
+Flagged (Err cause) = Unit {0}
+Flagged (Ok v) = (old : ℕ) → to_bit (flag_after (Ok v) false) ≡ pracked_after (Ok v) old
 
 flagged : (id : List ℕ) (r : ℕ) (bytes : List ℕ) (used : ℕ) → Flagged (ran rust_limits (is_pracked id r) bytes used).answer
 unfolding judge
@@ -82,28 +81,28 @@ flagged id r bytes used =
     answer_has (tracked_form rust_limits) key_of (action_cause rust_limits (is_pracked id r)) (judge rust_limits (is_pracked id r)) bytes used Flagged (λ one. tt)
     (λ ts d j. subst Flagged (decided j) (λ old. refl))
 
-pub pracked_returns : (id : List ℕ) (rseq : ℕ) (bytes : List ℕ) (used : ℕ) (w : Pracked) (old left r : ℕ)
+pub pracked_returns : (id : List ℕ) (rseq : ℕ) (bytes : List ℕ) (used : ℕ) (w : Result Bool Refusal) (old left r : ℕ)
     → w ≡ pracked_of (ran rust_limits (is_pracked id rseq) bytes used).answer → bytes ≡ (ran rust_limits (is_pracked id rseq) bytes used).bytes → used ≡ (ran rust_limits (is_pracked id rseq) bytes used).used
     → PrackedGives w old r left
     → Returns (ran rust_limits (is_pracked id rseq) bytes used) bytes used r × (left ≡ pracked_after (ran rust_limits (is_pracked id rseq) bytes used).answer old)
 pracked_returns id rseq bytes used w old left r e b u g =
     let a = (ran rust_limits (is_pracked id rseq) bytes used).answer in
-    (record { bytes_are = b; used_is = u; number_is = g.number_is ∙ (ap pracked_number e ∙ number_same a) }, g.left_is ∙ (ap (λ (x : Pracked). pracked_left x old) e ∙ flag_same a (flagged id rseq bytes used)))
+    (record { bytes_are = b; used_is = u; number_is = g.number_is ∙ (ap pracked_number e ∙ number_same a) }, g.left_is ∙ (ap (λ (x : Result Bool Refusal). pracked_left x old) e ∙ flag_same a (flagged id rseq bytes used)))
   where
-    number_same : (a : Outcome Value) → pracked_number (pracked_of a) ≡ number_in a
-    number_same (refused cause) = refl
-    number_same (given v) = refl
+    number_same : (a : Result Value Refusal) → pracked_number (pracked_of a) ≡ number_in a
+    number_same (Err cause) = refl
+    number_same (Ok v) = refl
 
-    flag_same : (a : Outcome Value) → Flagged a → pracked_left (pracked_of a) old ≡ pracked_after a old
-    flag_same (refused cause) k = refl
-    flag_same (given v) k = k old
+    flag_same : (a : Result Value Refusal) → Flagged a → pracked_left (pracked_of a) old ≡ pracked_after a old
+    flag_same (Err cause) k = refl
+    flag_same (Ok v) k = k old
 
 -- ---- the pending ones
 
 -- the answer is the bytes written, whatever the lent length was
-abbrev Sized : Outcome Value → Type 0
-Sized (refused cause) = Unit {0}
-Sized (given v) = (old : ℕ) → length_after (given v) 0 ≡ length_after (given v) old
+abbrev Sized : Result Value Refusal → Type 0
+Sized (Err cause) = Unit {0}
+Sized (Ok v) = (old : ℕ) → length_after (Ok v) 0 ≡ length_after (Ok v) old
 
 sized : (id : List ℕ) (time room : ℕ) (bytes : List ℕ) (used : ℕ) → Sized (ran rust_limits (get_pending id time room) bytes used).answer
 unfolding judge
@@ -111,11 +110,11 @@ sized id time room bytes used =
     answer_has (tracked_form rust_limits) key_of (action_cause rust_limits (get_pending id time room)) (judge rust_limits (get_pending id time room)) bytes used Sized (λ one. tt)
     (λ ts d j. by ts d (fitted room (open_bytes (open_in (clean_for rust_limits time id ts).list))) j)
   where
-    by : (ts : List Tracked) (d : Decided Tracked Value) (o : Outcome (List ℕ)) → and_then o (λ s. deciding (set_entry key_of (clean_for rust_limits time id ts) ts) (given (written s))) ≡ given d → Sized d.answer
-    by ts d (refused cause) e = absurd (let z : ◌≡◌ {A = ℕ} 0 1 = cc in omega arith)
-    by ts d (given s) e = subst Sized (decided e) (λ old. refl)
+    by : (ts : List Tracked) (d : Decided Tracked Value) (o : Result (List ℕ) Refusal) → and_then o (λ s. deciding (set_entry key_of (clean_for rust_limits time id ts) ts) (Ok (written s))) ≡ Ok d → Sized d.answer
+    by ts d (Err cause) e = absurd (let z : ◌≡◌ {A = ℕ} 0 1 = cc in omega arith)
+    by ts d (Ok s) e = subst Sized (decided e) (λ old. refl)
 
-pub listed_returns : (id : List ℕ) (time room : ℕ) (bytes : List ℕ) (used : ℕ) (w : Listed) (after : List ℕ) (old : ℕ) (left : ListedNumbers) (r : ℕ)
+pub listed_returns : (id : List ℕ) (time room : ℕ) (bytes : List ℕ) (used : ℕ) (w : Result (ℕ × ℕ) Refusal) (after : List ℕ) (old : ℕ) (left : ListedNumbers) (r : ℕ)
     → w ≡ listed_in (ran rust_limits (get_pending id time room) bytes used) → after ≡ (ran rust_limits (get_pending id time room) bytes used).bytes
     → used_listed w used ≡ (ran rust_limits (get_pending id time room) bytes used).used → ListedGives w (record { used = used; written = old }) r left
     → Returns (ran rust_limits (get_pending id time room) bytes used) after left.used r × (left.written ≡ length_after (ran rust_limits (get_pending id time room) bytes used).answer old)
@@ -126,17 +125,17 @@ listed_returns id time room bytes used w after old left r e b u g =
         used_is = ap (λ (x : ListedNumbers). x.used) g.left_is ∙ (used_same w ∙ u);
         number_is = g.number_is ∙ (ap listed_number e ∙ number_same l.answer l.used);
       },
-      ap (λ (x : ListedNumbers). x.written) g.left_is ∙ (ap (λ (x : Listed). (listed_after x (record { used = used; written = old })).written) e ∙ size_same l.answer l.used (sized id time room bytes used)),
+      ap (λ (x : ListedNumbers). x.written) g.left_is ∙ (ap (λ (x : Result (ℕ × ℕ) Refusal). (listed_after x (record { used = used; written = old })).written) e ∙ size_same l.answer l.used (sized id time room bytes used)),
     )
   where
-    used_same : (x : Listed) → (listed_after x (record { used = used; written = old })).used ≡ used_listed x used
-    used_same (listed.Refused cause) = refl
-    used_same (listed.Is n m) = refl
+    used_same : (x : Result (ℕ × ℕ) Refusal) → (listed_after x (record { used = used; written = old })).used ≡ used_listed x used
+    used_same (Err cause) = refl
+    used_same (Ok (n, m)) = refl
 
-    number_same : (a : Outcome Value) (m : ℕ) → listed_number (listed_by a m) ≡ number_in a
-    number_same (refused cause) m = refl
-    number_same (given v) m = refl
+    number_same : (a : Result Value Refusal) (m : ℕ) → listed_number (listed_by a m) ≡ number_in a
+    number_same (Err cause) m = refl
+    number_same (Ok v) m = refl
 
-    size_same : (a : Outcome Value) (m : ℕ) → Sized a → (listed_after (listed_by a m) (record { used = used; written = old })).written ≡ length_after a old
-    size_same (refused cause) m k = refl
-    size_same (given v) m k = k old
+    size_same : (a : Result Value Refusal) (m : ℕ) → Sized a → (listed_after (listed_by a m) (record { used = used; written = old })).written ≡ length_after a old
+    size_same (Err cause) m k = refl
+    size_same (Ok v) m k = k old

@@ -3,7 +3,8 @@
 
 ghost use Rattle.c_prack_answers.specs.Given.{rack_of, ValidatedGives, PrackedGives, ListedGives};
 
-use prack_validator::{Listed, Pracked, Validated};
+use limits::Refusal;
+use prack_validator::Validated;
 
 // The parts of the RAck, and the new used length, which a refused PRACK may have too.
 pub fn give_validated(
@@ -31,28 +32,32 @@ pub fn give_validated(
 }
 
 // Whether the response is acknowledged: 1 or 0.
-pub fn give_pracked(answer: Pracked, pracked: &mut u8) -> u8
+pub fn give_pracked(answer: Result<bool, Refusal>, pracked: &mut u8) -> u8
     ensures { PrackedGives answer pracked.old result pracked.new }
 {
     match answer {
-        Pracked::Is(yes) => {
+        Ok(yes) => {
             *pracked = yes as u8;
             0
         }
-        Pracked::Refused(x) => x.number(),
+        Err(x) => x.number(),
     }
 }
 
 // How many bytes of the output were written, and the new used length.
-pub fn give_listed(answer: Listed, used: &mut usize, written: &mut usize) -> u8
+pub fn give_listed(
+    answer: Result<(usize, usize), Refusal>,
+    used: &mut usize,
+    written: &mut usize,
+) -> u8
     ensures { ListedGives answer (record { used = used.old; written = written.old }) result (record { used = used.new; written = written.new }) }
 {
     match answer {
-        Listed::Is(n, length) => {
+        Ok((n, length)) => {
             *used = length;
             *written = n;
             0
         }
-        Listed::Refused(x) => x.number(),
+        Err(x) => x.number(),
     }
 }

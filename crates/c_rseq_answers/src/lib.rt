@@ -4,60 +4,60 @@
 ghost use Rattle.std.specs.Prelude.{◌≡◌};
 ghost use Rattle.c_rseq_answers.specs.Given.{NumberedGives, current_number, current_after, counted_number, counted_after, flag_of, empty_after};
 
-use rseq_manager::{Counted, Current, Numbered};
+use limits::Refusal;
 
 // The number, and the new used length.
-pub fn give_numbered(answer: Numbered, used: &mut usize, rseq: &mut u32) -> u8
+pub fn give_numbered(answer: Result<(u32, usize), Refusal>, used: &mut usize, rseq: &mut u32) -> u8
     ensures { NumberedGives answer (record { used = used.old; rseq = rseq.old }) result (record { used = used.new; rseq = rseq.new }) }
 {
     match answer {
-        Numbered::Is(n, length) => {
+        Ok((n, length)) => {
             *used = length;
             *rseq = n;
             0
         }
-        Numbered::Refused(x) => x.number(),
+        Err(x) => x.number(),
     }
 }
 
-pub fn give_current(answer: Current, rseq: &mut u32) -> u8
+pub fn give_current(answer: Result<u32, Refusal>, rseq: &mut u32) -> u8
     ensures value { result ≡ current_number answer }
     ensures rseq_after { rseq.new ≡ current_after answer rseq.old }
 {
     match answer {
-        Current::Is(n) => {
+        Ok(n) => {
             *rseq = n;
             0
         }
-        Current::Refused(x) => x.number(),
+        Err(x) => x.number(),
     }
 }
 
 // How many dialogs have a number.
-pub fn give_count(answer: Counted, count: &mut usize) -> u8
+pub fn give_count(answer: Result<usize, Refusal>, count: &mut usize) -> u8
     ensures value { result ≡ counted_number answer }
     ensures count_after { count.new ≡ counted_after answer count.old }
 {
     match answer {
-        Counted::Is(n) => {
+        Ok(n) => {
             *count = n;
             0
         }
-        Counted::Refused(x) => x.number(),
+        Err(x) => x.number(),
     }
 }
 
 // Whether no dialog has a number: 1 or 0.
-pub fn give_empty(answer: Counted, empty: &mut u8) -> u8
+pub fn give_empty(answer: Result<usize, Refusal>, empty: &mut u8) -> u8
     ensures value { result ≡ counted_number answer }
     ensures empty_after { empty.new ≡ empty_after answer empty.old }
 {
     match answer {
-        Counted::Is(n) => {
+        Ok(n) => {
             *empty = flag_of(n);
             0
         }
-        Counted::Refused(x) => x.number(),
+        Err(x) => x.number(),
     }
 }
 

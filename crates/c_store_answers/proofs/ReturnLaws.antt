@@ -2,10 +2,10 @@
 use Prim.Native.Nat.{ℕ}
 use mathlib.Core.Path.{◌≡◌, refl, sym, ap, ◌∙◌}
 use mathlib.Core.List.{List}
+use Rattle.std.specs.Prelude.{Err, Ok, Result}
 use Rattle.limits.specs.Limits.{LimitSet}
-use Rattle.limits.specs.Outcome.{refused, given, number_in}
-use Rattle.output.specs.declared.Written.{Written}
-use Rattle.output.specs.declared.Written.TheVariants as written
+use Rattle.limits.specs.Outcome.{number_in}
+use Rattle.limits.specs.declared.Refusal.{Refusal}
 use Rattle.codec.proofs.CodecLaws.{Bytes}
 use Rattle.book.specs.Calls.{Call, read, Reading, Answer}
 use Rattle.book.specs.Store.{Left, run}
@@ -19,8 +19,8 @@ use Rattle.c_store_answers.specs.Given.{CountedGives, CountedNumbers, counted_af
 -- ---- a refused call keeps the used length
 
 number_same : (a : Answer) (n : ℕ) → written_number (written_by n a) ≡ number_in a
-number_same (refused cause) n = refl
-number_same (given v) n = refl
+number_same (Err cause) n = refl
+number_same (Ok v) n = refl
 
 module _ (L : LimitSet) (c : Call) (bytes : List ℕ) (used : ℕ) where
   -- the used length after a call is the one answered, or the old one
@@ -28,11 +28,11 @@ module _ (L : LimitSet) (c : Call) (bytes : List ℕ) (used : ℕ) where
   used_after_lem = by (run L c bytes used).answer refl
     where
       by : (a : Answer) → (run L c bytes used).answer ≡ a → written_after (written_in (run L c bytes used)) used ≡ (run L c bytes used).used
-      by (refused cause) e = ap (λ (a : Answer). written_after (written_by (run L c bytes used).used a) used) e ∙ sym (ap (λ (l : Left). l.used) (refusal_keeps L c bytes used cause e))
-      by (given v) e = ap (λ (a : Answer). written_after (written_by (run L c bytes used).used a) used) e
+      by (Err cause) e = ap (λ (a : Answer). written_after (written_by (run L c bytes used).used a) used) e ∙ sym (ap (λ (l : Left). l.used) (refusal_keeps L c bytes used cause e))
+      by (Ok v) e = ap (λ (a : Answer). written_after (written_by (run L c bytes used).used a) used) e
 
   -- a call that answers the new used length
-  pub written_returns : (w : Written) (after : List ℕ) (left r : ℕ) → w ≡ written_in (run L c bytes used) → after ≡ (run L c bytes used).bytes
+  pub written_returns : (w : Result ℕ Refusal) (after : List ℕ) (left r : ℕ) → w ≡ written_in (run L c bytes used) → after ≡ (run L c bytes used).bytes
       → WrittenGives w used r left → Returns (run L c bytes used) after left r
   written_returns w after left r e b g = record {
     bytes_are = b;
@@ -41,7 +41,7 @@ module _ (L : LimitSet) (c : Call) (bytes : List ℕ) (used : ℕ) where
   }
 
   -- a call that answers the new used length, and counts
-  pub counted_returns : (w : Written) (after : List ℕ) (old : ℕ) (left : CountedNumbers) (r : ℕ) → w ≡ written_in (run L c bytes used) → after ≡ (run L c bytes used).bytes
+  pub counted_returns : (w : Result ℕ Refusal) (after : List ℕ) (old : ℕ) (left : CountedNumbers) (r : ℕ) → w ≡ written_in (run L c bytes used) → after ≡ (run L c bytes used).bytes
       → CountedGives w (record { used = used; count = old }) r left → Returns (run L c bytes used) after left.used r × (left.count ≡ count_after (run L c bytes used).answer old)
   counted_returns w after old left r e b g = (
     record {
@@ -49,16 +49,16 @@ module _ (L : LimitSet) (c : Call) (bytes : List ℕ) (used : ℕ) where
       used_is = ap (λ (x : CountedNumbers). x.used) g.left_is ∙ (used_same w ∙ (ap (λ x. written_after x used) e ∙ used_after_lem));
       number_is = g.number_is ∙ (ap written_number e ∙ number_same (run L c bytes used).answer (run L c bytes used).used);
     },
-    ap (λ (x : CountedNumbers). x.count) g.left_is ∙ (ap (λ (x : Written). (counted_after x (record { used = used; count = old })).count) e ∙ count_same (run L c bytes used).answer (run L c bytes used).used),
+    ap (λ (x : CountedNumbers). x.count) g.left_is ∙ (ap (λ (x : Result ℕ Refusal). (counted_after x (record { used = used; count = old })).count) e ∙ count_same (run L c bytes used).answer (run L c bytes used).used),
   )
     where
-      used_same : (x : Written) → (counted_after x (record { used = used; count = old })).used ≡ written_after x used
-      used_same (written.Refused cause) = refl
-      used_same (written.Length n) = refl
+      used_same : (x : Result ℕ Refusal) → (counted_after x (record { used = used; count = old })).used ≡ written_after x used
+      used_same (Err cause) = refl
+      used_same (Ok n) = refl
 
       count_same : (a : Answer) (n : ℕ) → (counted_after (written_by n a) (record { used = used; count = old })).count ≡ count_after a old
-      count_same (refused cause) n = refl
-      count_same (given v) n = refl
+      count_same (Err cause) n = refl
+      count_same (Ok v) n = refl
 
 -- ---- a reading leaves every byte and the used length
 

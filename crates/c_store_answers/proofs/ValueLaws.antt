@@ -4,21 +4,15 @@ use native.Mathlib.Omega.{arith}
 use mathlib.Core.Path.{◌≡◌, refl, sym, ap, subst, ◌∙◌}
 use mathlib.Core.Bool.{Bool, true, false}
 use mathlib.Core.List.{List}
-use mathlib.Core.Option.{Option, none, some}
 use lib.ListN.{length, take}
 use lib.Dec.{ltb}
+use Rattle.std.specs.Prelude.{Err, None, Ok, Option, Result, Some}
 use Rattle.limits.specs.Limits.{LimitSet}
-use Rattle.limits.specs.Outcome.{refused, given, refuse_if, or_refuse, number_in}
+use Rattle.limits.specs.Outcome.{refuse_if, or_refuse, number_in}
 use Rattle.limits.specs.declared.Refusal.{Refusal}
 use Rattle.limits.specs.declared.Refusal.TheVariants.{BadStore}
-use Rattle.output.specs.declared.Written.{Written}
-use Rattle.output.specs.declared.Written.TheVariants as written
 use Rattle.codec.proofs.CodecLaws.{Bytes}
 use Rattle.store.specs.Counting.{records_held, count_answer}
-use Rattle.store.specs.declared.Held.{Held}
-use Rattle.store.specs.declared.Held.TheVariants as held
-use Rattle.dialog_changes.specs.declared.Raised.{Raised}
-use Rattle.dialog_changes.specs.declared.Raised.TheVariants as raised
 use Rattle.dialog_id.specs.Ident.{Ident}
 use Rattle.book.specs.Calls.{local_number, Call, update, read, count, all_ids, Value, number, Answer}
 use Rattle.record.specs.Store.{decode_all}
@@ -36,58 +30,58 @@ use Rattle.c_store_answers.proofs.ReturnLaws.{written_returns}
 -- ---- a new interval: 13's least
 
 module _ (L : LimitSet) (c : Call) (bytes : List ℕ) (used : ℕ) where
-  pub set_returns : (w : Written) (after : List ℕ) (old : ℕ) (left : SetNumbers) (r : ℕ) → w ≡ written_in (run L c bytes used) → after ≡ (run L c bytes used).bytes
+  pub set_returns : (w : Result ℕ Refusal) (after : List ℕ) (old : ℕ) (left : SetNumbers) (r : ℕ) → w ≡ written_in (run L c bytes used) → after ≡ (run L c bytes used).bytes
       → SetGives w (record { used = used; least = old }) r left → Returns (run L c bytes used) after left.used r × (left.least ≡ least_after (run L c bytes used).answer old)
   set_returns w after old left r e b g = (
     written_returns L c bytes used w after left.used r e b (record { number_is = g.number_is ∙ number_same w; left_is = ap (λ (x : SetNumbers). x.used) g.left_is ∙ used_same w }),
-    ap (λ (x : SetNumbers). x.least) g.left_is ∙ (ap (λ (x : Written). (set_after x (record { used = used; least = old })).least) e ∙ least_same (run L c bytes used).answer (run L c bytes used).used),
+    ap (λ (x : SetNumbers). x.least) g.left_is ∙ (ap (λ (x : Result ℕ Refusal). (set_after x (record { used = used; least = old })).least) e ∙ least_same (run L c bytes used).answer (run L c bytes used).used),
   )
     where
-      number_same : (x : Written) → set_number x ≡ written_number x
-      number_same (written.Refused cause) = refl
-      number_same (written.Length n) = refl
+      number_same : (x : Result ℕ Refusal) → set_number x ≡ written_number x
+      number_same (Err cause) = refl
+      number_same (Ok n) = refl
 
-      used_same : (x : Written) → (set_after x (record { used = used; least = old })).used ≡ written_after x used
-      used_same (written.Refused cause) = refl
-      used_same (written.Length n) = refl
+      used_same : (x : Result ℕ Refusal) → (set_after x (record { used = used; least = old })).used ≡ written_after x used
+      used_same (Err cause) = refl
+      used_same (Ok n) = refl
 
       least_same : (a : Answer) (n : ℕ) → (set_after (written_by n a) (record { used = used; least = old })).least ≡ least_after a old
-      least_same (refused cause) n = refl
-      least_same (given v) n = refl
+      least_same (Err cause) n = refl
+      least_same (Ok v) n = refl
 
 -- ---- the next local number
 
 -- an accepted call answers a number, whatever the lent one was
 abbrev Numbered : Answer → Type 0
-Numbered (refused cause) = Unit {0}
-Numbered (given v) = (old : ℕ) → number_after (given v) 0 ≡ number_after (given v) old
+Numbered (Err cause) = Unit {0}
+Numbered (Ok v) = (old : ℕ) → number_after (Ok v) 0 ≡ number_after (Ok v) old
 
 module _ (L : LimitSet) (n : ℕ) (i : Ident) (bytes : List ℕ) (used : ℕ) where
   abbrev the_call : Call
   the_call = update n (local_number i)
 
-  numbered : (v : Value) → (run L the_call bytes used).answer ≡ given v → Numbered (given v)
-  numbered v e = let k = local_value L n bytes used v i e in subst (λ (x : Value). Numbered (given x)) (sym k.1) (λ old. refl)
+  numbered : (v : Value) → (run L the_call bytes used).answer ≡ Ok v → Numbered (Ok v)
+  numbered v e = let k = local_value L n bytes used v i e in subst (λ (x : Value). Numbered (Ok x)) (sym k.1) (λ old. refl)
 
-  pub raised_returns : (w : Raised) (after : List ℕ) (old : ℕ) (left : RaisedNumbers) (r : ℕ) → w ≡ raised_in (run L the_call bytes used)
+  pub raised_returns : (w : Result (ℕ × ℕ) Refusal) (after : List ℕ) (old : ℕ) (left : RaisedNumbers) (r : ℕ) → w ≡ raised_in (run L the_call bytes used)
       → after ≡ (run L the_call bytes used).bytes → RaisedGives w (record { used = used; number = old }) r left
       → Returns (run L the_call bytes used) after left.used r × (left.number ≡ number_after (run L the_call bytes used).answer old)
   raised_returns w after old left r e b g = by (run L the_call bytes used).answer (run L the_call bytes used).used refl refl
     where
       by : (a : Answer) (m : ℕ) → (run L the_call bytes used).answer ≡ a → (run L the_call bytes used).used ≡ m
           → Returns (run L the_call bytes used) after left.used r × (left.number ≡ number_after (run L the_call bytes used).answer old)
-      by (refused cause) m p q =
-          let x : w ≡ raised.Refused cause = e ∙ ap (raised_by (run L the_call bytes used).used) p in
-          let y : left ≡ record { used = used; number = old } = g.left_is ∙ ap (λ (z : Raised). raised_after z (record { used = used; number = old })) x in (
-            written_returns L the_call bytes used (written.Refused cause) after left.used r (sym (ap (written_by (run L the_call bytes used).used) p)) b
+      by (Err cause) m p q =
+          let x : w ≡ Err cause = e ∙ ap (raised_by (run L the_call bytes used).used) p in
+          let y : left ≡ record { used = used; number = old } = g.left_is ∙ ap (λ (z : Result (ℕ × ℕ) Refusal). raised_after z (record { used = used; number = old })) x in (
+            written_returns L the_call bytes used (Err cause) after left.used r (sym (ap (written_by (run L the_call bytes used).used) p)) b
                 (record { number_is = g.number_is ∙ ap raised_number x; left_is = ap (λ (z : RaisedNumbers). z.used) y }),
             ap (λ (z : RaisedNumbers). z.number) y ∙ sym (ap (λ (a : Answer). number_after a old) p),
           )
-      by (given v) m p q =
-          let x : w ≡ raised.To (number_after (given v) 0) m = e ∙ (ap (raised_by (run L the_call bytes used).used) p ∙ ap (raised.To (number_after (given v) 0)) q) in
-          let y : left ≡ record { used = m; number = number_after (given v) 0 } = g.left_is ∙ ap (λ (z : Raised). raised_after z (record { used = used; number = old })) x in
-          let k : Numbered (given v) = numbered v p in (
-            written_returns L the_call bytes used (written.Length m) after left.used r (sym (ap (written_by (run L the_call bytes used).used) p ∙ ap written.Length q)) b
+      by (Ok v) m p q =
+          let x : w ≡ Ok (number_after (Ok v) 0, m) = e ∙ (ap (raised_by (run L the_call bytes used).used) p ∙ ap (λ (k : ℕ). Ok (number_after (Ok v) 0, k)) q) in
+          let y : left ≡ record { used = m; number = number_after (Ok v) 0 } = g.left_is ∙ ap (λ (z : Result (ℕ × ℕ) Refusal). raised_after z (record { used = used; number = old })) x in
+          let k : Numbered (Ok v) = numbered v p in (
+            written_returns L the_call bytes used (Ok m) after left.used r (sym (ap (written_by (run L the_call bytes used).used) p ∙ ap Ok q)) b
                 (record { number_is = g.number_is ∙ ap raised_number x; left_is = ap (λ (z : RaisedNumbers). z.used) y }),
             ap (λ (z : RaisedNumbers). z.number) y ∙ (k old ∙ sym (ap (λ (a : Answer). number_after a old) p)),
           )
@@ -95,60 +89,60 @@ module _ (L : LimitSet) (n : ℕ) (i : Ident) (bytes : List ℕ) (used : ℕ) wh
 -- ---- the count
 
 module _ (L : LimitSet) (n : ℕ) (bytes : List ℕ) (used : ℕ) (h : Bytes bytes) where
-  none_asked : reading_cause L count ≡ none
+  none_asked : reading_cause L count ≡ None
   unfolding reading_cause
   none_asked = refl
 
-  counts : (k : Kept bytes used) → given (number (length k.contents.records)) ≡ (run L (read n count) bytes used).answer
+  counts : (k : Kept bytes used) → Ok (number (length k.contents.records)) ≡ (run L (read n count) bytes used).answer
   unfolding reply
-  counts k = replies L n count bytes used h none_asked k (given (number (length k.contents.records))) refl
+  counts k = replies L n count bytes used h none_asked k (Ok (number (length k.contents.records))) refl
 
   -- 3 is the only cause
-  only : {c : Refusal} → count_answer (records_held bytes used) ≡ held.Refused c → c ≡ BadStore
+  only : {c : Refusal} → count_answer (records_held bytes used) ≡ Err c → c ≡ BadStore
   unfolding records_held
   only {c} e = from (ltb (length bytes) used) (decode_all (take used bytes)) e
     where
-      from : (t : Bool) (o : Option Book) → count_answer (refuse_if t BadStore (or_refuse BadStore o)) ≡ held.Refused c → c ≡ BadStore
+      from : (t : Bool) (o : Option Book) → count_answer (refuse_if t BadStore (or_refuse BadStore o)) ≡ Err c → c ≡ BadStore
       from true o e = cc
-      from false none e = cc
-      from false (some b) e = absurd (let z : ◌≡◌ {A = ℕ} 0 1 = cc in omega arith)
+      from false None e = cc
+      from false (Some b) e = absurd (let z : ◌≡◌ {A = ℕ} 0 1 = cc in omega arith)
 
   -- the count of the records is the answer of the reading
   pub count_answers : (old r left : ℕ) → HeldGives (count_answer (records_held bytes used)) old r left
       → (r ≡ number_in (run L (read n count) bytes used).answer) × (left ≡ number_after (run L (read n count) bytes used).answer old)
   count_answers old r left g = by (count_answer (records_held bytes used)) refl
     where
-      by : (a : Held) → count_answer (records_held bytes used) ≡ a → (r ≡ number_in (run L (read n count) bytes used).answer) × (left ≡ number_after (run L (read n count) bytes used).answer old)
-      by (held.Refused cause) e =
-          let x : refused BadStore ≡ (run L (read n count) bytes used).answer = store_refuses L n count bytes used h none_asked e in
-          (g.number_is ∙ (ap held_number e ∙ (ap (λ (z : Refusal). held_number (held.Refused z)) (only e) ∙ ap number_in x)), g.left_is ∙ (ap (λ (z : Held). held_after z old) e ∙ ap (λ (a : Answer). number_after a old) x))
-      by (held.Records m) e =
+      by : (a : Result ℕ Refusal) → count_answer (records_held bytes used) ≡ a → (r ≡ number_in (run L (read n count) bytes used).answer) × (left ≡ number_after (run L (read n count) bytes used).answer old)
+      by (Err cause) e =
+          let x : Err BadStore ≡ (run L (read n count) bytes used).answer = store_refuses L n count bytes used h none_asked e in
+          (g.number_is ∙ (ap held_number e ∙ (ap (λ (z : Refusal). held_number (Err z)) (only e) ∙ ap number_in x)), g.left_is ∙ (ap (λ (z : Result ℕ Refusal). held_after z old) e ∙ ap (λ (a : Answer). number_after a old) x))
+      by (Ok m) e =
           let k = kept bytes used e in
           let x = counts k in
-          let y : m ≡ length k.contents.records = let u : held.Records m ≡ held.Records (length k.contents.records) = sym e ∙ ap count_answer k.held in cc in
-          (g.number_is ∙ (ap held_number e ∙ ap number_in x), g.left_is ∙ (ap (λ (z : Held). held_after z old) e ∙ (y ∙ ap (λ (a : Answer). number_after a old) x)))
+          let y : m ≡ length k.contents.records = let u : Ok m ≡ Ok (length k.contents.records) = sym e ∙ ap count_answer k.held in cc in
+          (g.number_is ∙ (ap held_number e ∙ ap number_in x), g.left_is ∙ (ap (λ (z : Result ℕ Refusal). held_after z old) e ∙ (y ∙ ap (λ (a : Answer). number_after a old) x)))
 
 -- ---- the identifiers
 
 -- an accepted call answers the bytes written, whatever the lent length was
 abbrev Sized : Answer → Type 0
-Sized (refused cause) = Unit {0}
-Sized (given v) = (old : ℕ) → length_after (given v) 0 ≡ length_after (given v) old
+Sized (Err cause) = Unit {0}
+Sized (Ok v) = (old : ℕ) → length_after (Ok v) 0 ≡ length_after (Ok v) old
 
 module _ (L : LimitSet) (n room : ℕ) (bytes : List ℕ) (used : ℕ) where
-  sized : (v : Value) → (run L (read n (all_ids room)) bytes used).answer ≡ given v → Sized (given v)
-  sized v e = let k = identifiers_value L n bytes used v room e in subst (λ (x : Value). Sized (given x)) (sym k.1) (λ old. refl)
+  sized : (v : Value) → (run L (read n (all_ids room)) bytes used).answer ≡ Ok v → Sized (Ok v)
+  sized v e = let k = identifiers_value L n bytes used v room e in subst (λ (x : Value). Sized (Ok x)) (sym k.1) (λ old. refl)
 
-  pub ids_answers : (w : Written) (old r left : ℕ) → w ≡ ids_written (run L (read n (all_ids room)) bytes used).answer → WrittenGives w old r left
+  pub ids_answers : (w : Result ℕ Refusal) (old r left : ℕ) → w ≡ ids_written (run L (read n (all_ids room)) bytes used).answer → WrittenGives w old r left
       → (r ≡ number_in (run L (read n (all_ids room)) bytes used).answer) × (left ≡ length_after (run L (read n (all_ids room)) bytes used).answer old)
   ids_answers w old r left e g = by (run L (read n (all_ids room)) bytes used).answer refl
     where
       by : (a : Answer) → (run L (read n (all_ids room)) bytes used).answer ≡ a
           → (r ≡ number_in (run L (read n (all_ids room)) bytes used).answer) × (left ≡ length_after (run L (read n (all_ids room)) bytes used).answer old)
-      by (refused cause) p =
-          let x : w ≡ written.Refused cause = e ∙ ap ids_written p in
-          (g.number_is ∙ (ap written_number x ∙ sym (ap number_in p)), g.left_is ∙ (ap (λ (z : Written). written_after z old) x ∙ sym (ap (λ (a : Answer). length_after a old) p)))
-      by (given v) p =
-          let x : w ≡ written.Length (length_after (given v) 0) = e ∙ ap ids_written p in
-          let k : Sized (given v) = sized v p in
-          (g.number_is ∙ (ap written_number x ∙ sym (ap number_in p)), g.left_is ∙ (ap (λ (z : Written). written_after z old) x ∙ (k old ∙ sym (ap (λ (a : Answer). length_after a old) p))))
+      by (Err cause) p =
+          let x : w ≡ Err cause = e ∙ ap ids_written p in
+          (g.number_is ∙ (ap written_number x ∙ sym (ap number_in p)), g.left_is ∙ (ap (λ (z : Result ℕ Refusal). written_after z old) x ∙ sym (ap (λ (a : Answer). length_after a old) p)))
+      by (Ok v) p =
+          let x : w ≡ Ok (length_after (Ok v) 0) = e ∙ ap ids_written p in
+          let k : Sized (Ok v) = sized v p in
+          (g.number_is ∙ (ap written_number x ∙ sym (ap number_in p)), g.left_is ∙ (ap (λ (z : Result ℕ Refusal). written_after z old) x ∙ (k old ∙ sym (ap (λ (a : Answer). length_after a old) p))))

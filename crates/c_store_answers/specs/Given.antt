@@ -1,10 +1,9 @@
 -- What a C caller of the calls on a store gets (document 01, "Turned back" and "The book of demand 3"). The contracts say it by `run` (book/specs/Store.antt)
 -- of the call as data; here a short form of that, and a step of the code: what a put and a removal hand over.
-use Rattle.std.specs.Prelude.{ℕ, List, length}
+use Rattle.std.specs.Prelude.{ℕ, List, length, Err, Ok, Result}
 use Rattle.limits.specs.Limits.{rust_limits}
+use Rattle.limits.specs.declared.Refusal.{Refusal}
 use Rattle.metrics.specs.Metrics.{counted}
-use Rattle.output.specs.declared.Written.{Written}
-use Rattle.output.specs.declared.Written.TheVariants as written
 use Rattle.book.specs.Calls.{Call, Reading, count}
 use Rattle.book.specs.Store.{Left, run}
 use Rattle.c_answers.specs.Given.{Gives, written_number}
@@ -23,9 +22,9 @@ pub record CountedNumbers : Type 0 where
   pub used : ℕ
   pub count : ℕ
 
-abbrev pub counted_after : Written → CountedNumbers → CountedNumbers
-counted_after (written.Length n) old = record { used = n; count = counted old.count }
-counted_after (written.Refused cause) old = old
+abbrev pub counted_after : Result ℕ Refusal → CountedNumbers → CountedNumbers
+counted_after (Ok n) old = record { used = n; count = counted old.count }
+counted_after (Err cause) old = old
 
-abbrev pub CountedGives : Written → CountedNumbers → ℕ → CountedNumbers → Type 0
+abbrev pub CountedGives : Result ℕ Refusal → CountedNumbers → ℕ → CountedNumbers → Type 0
 CountedGives answer old r left = Gives (written_number answer) (counted_after answer old) r left

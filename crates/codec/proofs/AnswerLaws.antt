@@ -4,13 +4,12 @@ use native.Mathlib.Nat.{add-sub_cancel_left}
 use native.Mathlib.Omega.{arith}
 use mathlib.Core.Path.{◌≡◌, refl, sym, ap, ◌∙◌}
 use mathlib.Core.List.{List}
-use mathlib.Core.Option.{Option, none, some}
 use lib.ListN.{length, take, drop}
 use lib.Seq.{drop-drop}
+use Rattle.std.specs.Prelude.{None, Option, Some}
 use Rattle.text.specs.declared.Span.{Span}
 use Rattle.codec.specs.Codec.{Reading, Codec, text}
 use Rattle.codec.specs.Places.{answered, text_span, text_from}
-use Rattle.codec.specs.declared.reading.Text.TheVariants as T
 use Rattle.codec.proofs.SizeLaws.{Sized, Got, got, got_to, text_ends, text_sized}
 
 -- ---- any reader
@@ -28,15 +27,15 @@ module _ {A R : Type 0} {broken : R} {tell : A → R} where
   places_got {P} {form} {size} {places} {end} {r} {p} sized s at h e apart same ends = by (form.read (drop at s)) refl e
     where
       by : (o : Option (Reading A)) → form.read (drop at s) ≡ o → answered broken tell o ≡ r → PlacesGot form places end s at p
-      by none q e = absurd (let z = apart e in omega arith)
-      by (some x) q e =
+      by None q e = absurd (let z = apart e in omega arith)
+      by (Some x) q e =
           let w : p ≡ places at x.value = same x.value e in
           record { value = x.value; got = got_to (got sized s at x h q) (ends x.value ∙ ap end (sym w)); placed = w }
 
   -- `broken` says that nothing can be read
-  pub nothing_got : (o : Option (Reading A)) → answered broken tell o ≡ broken → ((a : A) → tell a ≡ broken → ◌≡◌ {A = ℕ} 0 1) → o ≡ none
-  nothing_got none e apart = refl
-  nothing_got (some x) e apart = absurd (let z = apart x.value e in omega arith)
+  pub nothing_got : (o : Option (Reading A)) → answered broken tell o ≡ broken → ((a : A) → tell a ≡ broken → ◌≡◌ {A = ℕ} 0 1) → o ≡ None
+  nothing_got None e apart = refl
+  nothing_got (Some x) e apart = absurd (let z = apart x.value e in omega arith)
 
 -- an answer of two parts
 pub both : {A B : Type 0} {p q : A × B} → p ≡ q → (p.0 ≡ q.0) × (p.1 ≡ q.1)
@@ -50,10 +49,10 @@ span_end p = p.start + p.length
 abbrev pub TextGot : List ℕ → ℕ → Span → Type 0
 TextGot s at p = PlacesGot text text_span span_end s at p
 
-pub text_got : (s : List ℕ) (at : ℕ) {p : Span} → at ≤ length s → text_from at (text.read (drop at s)) ≡ T.At p → TextGot s at p
+pub text_got : (s : List ℕ) (at : ℕ) {p : Span} → at ≤ length s → text_from at (text.read (drop at s)) ≡ Some p → TextGot s at p
 text_got s at h e = places_got text_sized s at h e (λ q. cc) (λ a q. cc) (λ a. omega arith)
 
-pub text_not : (at : ℕ) (o : Option (Reading (List ℕ))) → text_from at o ≡ T.Broken → o ≡ none
+pub text_not : (at : ℕ) (o : Option (Reading (List ℕ))) → text_from at o ≡ None → o ≡ None
 text_not at o e = nothing_got o e (λ a q. cc)
 
 -- the part that the code lends

@@ -5,11 +5,11 @@ use native.Mathlib.Omega.{arith}
 use mathlib.Core.Path.{◌≡◌, refl, sym, ap, ap₂, subst, ◌∙◌}
 use mathlib.Core.Bool.{Bool, true, false}
 use mathlib.Core.List.{List, [], ◌∷◌, ◌++◌, append_assoc}
-use mathlib.Core.Option.{Option, none, some}
 use lib.ListN.{length, take, drop, get_or, length-append, take-append-drop}
 use lib.Seq.{take-append_seam, drop-append_seam, length-take-le}
 use lib.Dec.{leb, eqb}
 use borrow.Author.Tests.{le-leb, leb-true, eq-eqb, eqb-true}
+use Rattle.std.specs.Prelude.{None, Option, Some}
 use Rattle.codec.specs.Codec.{Reading, Codec, byte, read_byte, two, read_two, four, read_four, Pair, paired, read_then, then, passing, such, flagged, renamed, mapped, wide, halves, eight, read_text, text, write_all, in_front, and_more, read_all, read_counted, counted, keyed_by, read_keyed, keyed}
 
 -- every element is a byte
@@ -37,16 +37,16 @@ bytes_all [] h = tt
 bytes_all (b ∷ s) h = (h 0, bytes_all s (λ i. h (suc i)))
 
 pub record Exact {A : Type 0} (c : Codec A) (Good : A → Type 0) : Type 0 where
-  pub round : (a : A) → Good a → (rest : List ℕ) → c.read (c.write a ++ rest) ≡ some (record { value = a; rest = rest })
-  pub back : (s : List ℕ) (r : Reading A) → Bytes s → c.read s ≡ some r → (s ≡ c.write r.value ++ r.rest) × Good r.value
+  pub round : (a : A) → Good a → (rest : List ℕ) → c.read (c.write a ++ rest) ≡ Some (record { value = a; rest = rest })
+  pub back : (s : List ℕ) (r : Reading A) → Bytes s → c.read s ≡ Some r → (s ≡ c.write r.value ++ r.rest) × Good r.value
 
 -- nothing read is not something read
-pub no_reading : {A : Type 0} {r : Reading A} → none ≡ some r → ⊥
+pub no_reading : {A : Type 0} {r : Reading A} → None ≡ Some r → ⊥
 no_reading e = let z : ◌≡◌ {A = ℕ} 0 1 = cc in omega arith
 
 -- ---- numbers
 
-byte_back : (s : List ℕ) (r : Reading ℕ) → Bytes s → read_byte s ≡ some r → (s ≡ r.value ∷ r.rest) × (r.value < 256)
+byte_back : (s : List ℕ) (r : Reading ℕ) → Bytes s → read_byte s ≡ Some r → (s ≡ r.value ∷ r.rest) × (r.value < 256)
 byte_back [] r h e = absurd (no_reading e)
 byte_back (a ∷ s) r h e =
     let q : record { value = a; rest = s } ≡ r = cc in
@@ -58,7 +58,7 @@ byte_exact = record { round = λ n h rest. refl; back = byte_back }
 two_round : (n : ℕ) → n / 256 * 256 + n % 256 ≡ n
 two_round n = omega arith
 
-two_back : (s : List ℕ) (r : Reading ℕ) → Bytes s → read_two s ≡ some r → (s ≡ r.value / 256 ∷ r.value % 256 ∷ r.rest) × (r.value < 65536)
+two_back : (s : List ℕ) (r : Reading ℕ) → Bytes s → read_two s ≡ Some r → (s ≡ r.value / 256 ∷ r.value % 256 ∷ r.rest) × (r.value < 65536)
 two_back [] r h e = absurd (no_reading e)
 two_back (a ∷ []) r h e = absurd (no_reading e)
 two_back (a ∷ b ∷ s) r h e =
@@ -70,7 +70,7 @@ two_back (a ∷ b ∷ s) r h e =
     subst (λ (x : Reading ℕ). (a ∷ b ∷ s ≡ x.value / 256 ∷ x.value % 256 ∷ x.rest) × (x.value < 65536)) q (rw (u, v), omega arith)
 
 pub two_exact : Exact two (λ n. n < 65536)
-two_exact = record { round = λ n h rest. ap (λ (k : ℕ). some (record { value = k; rest = rest })) (two_round n); back = two_back }
+two_exact = record { round = λ n h rest. ap (λ (k : ℕ). Some (record { value = k; rest = rest })) (two_round n); back = two_back }
 
 four_round : (n : ℕ) → ((n / 16777216 * 256 + n / 65536 % 256) * 256 + n / 256 % 256) * 256 + n % 256 ≡ n
 four_round n =
@@ -98,7 +98,7 @@ module _ (a b c d : ℕ) (ha : a < 256) (hb : b < 256) (hc : c < 256) (hd : d < 
       let z : (a * 256 + b) % 256 ≡ b = omega arith in
       rw (by_16777216, by_65536, by_256, x, y, z)
 
-four_back : (s : List ℕ) (r : Reading ℕ) → Bytes s → read_four s ≡ some r
+four_back : (s : List ℕ) (r : Reading ℕ) → Bytes s → read_four s ≡ Some r
     → (s ≡ r.value / 16777216 ∷ r.value / 65536 % 256 ∷ r.value / 256 % 256 ∷ r.value % 256 ∷ r.rest) × (r.value < 4294967296)
 four_back [] r h e = absurd (no_reading e)
 four_back (a ∷ []) r h e = absurd (no_reading e)
@@ -113,7 +113,7 @@ four_back (a ∷ b ∷ c ∷ d ∷ s) r h e =
     subst (λ (x : Reading ℕ). (a ∷ b ∷ c ∷ d ∷ s ≡ x.value / 16777216 ∷ x.value / 65536 % 256 ∷ x.value / 256 % 256 ∷ x.value % 256 ∷ x.rest) × (x.value < 4294967296)) q (four_digits a b c d w x y z s, omega arith)
 
 pub four_exact : Exact four (λ n. n < 4294967296)
-four_exact = record { round = λ n h rest. ap (λ (k : ℕ). some (record { value = k; rest = rest })) (four_round n); back = four_back }
+four_exact = record { round = λ n h rest. ap (λ (k : ℕ). Some (record { value = k; rest = rest })) (four_round n); back = four_back }
 
 -- ---- ways to make a form from others
 
@@ -121,34 +121,34 @@ module _ {A B : Type 0} {c : Codec A} {d : Codec B} {GA : A → Type 0} {GB : B 
   abbrev GoodPair : Pair A B → Type 0
   GoodPair p = GA p.first × GB p.second
 
-  then_round : (p : Pair A B) → GoodPair p → (rest : List ℕ) → (then c d).read ((then c d).write p ++ rest) ≡ some (record { value = p; rest = rest })
+  then_round : (p : Pair A B) → GoodPair p → (rest : List ℕ) → (then c d).read ((then c d).write p ++ rest) ≡ Some (record { value = p; rest = rest })
   then_round p g rest = rw (append_assoc (c.write p.first) (d.write p.second) rest, x.round p.first g.0 (d.write p.second ++ rest), y.round p.second g.1 rest)
 
-  by_second : (s : List ℕ) (a : Reading A) (o : Option (Reading B)) (r : Reading (Pair A B)) → Bytes s → (s ≡ c.write a.value ++ a.rest) × GA a.value → d.read a.rest ≡ o → paired a.value o ≡ some r
+  by_second : (s : List ℕ) (a : Reading A) (o : Option (Reading B)) (r : Reading (Pair A B)) → Bytes s → (s ≡ c.write a.value ++ a.rest) × GA a.value → d.read a.rest ≡ o → paired a.value o ≡ Some r
       → (s ≡ (then c d).write r.value ++ r.rest) × GoodPair r.value
-  by_second s a none r h k e q = absurd (no_reading q)
-  by_second s a (some b) r h k e q =
+  by_second s a None r h k e q = absurd (no_reading q)
+  by_second s a (Some b) r h k e q =
       let m : record { value = record { first = a.value; second = b.value }; rest = b.rest } ≡ r = cc in
       let l : Bytes a.rest = bytes_after (c.write a.value) a.rest (subst Bytes k.0 h) in
       let n = y.back a.rest b l e in
       subst (λ (z : Reading (Pair A B)). (s ≡ (then c d).write z.value ++ z.rest) × GoodPair z.value) m
       (k.0 ∙ rw (append_assoc (c.write a.value) (d.write b.value) b.rest) (ap (λ (t : List ℕ). c.write a.value ++ t) n.0), (k.1, n.1))
 
-  by_first : (s : List ℕ) (o : Option (Reading A)) (r : Reading (Pair A B)) → Bytes s → c.read s ≡ o → read_then o d.read ≡ some r → (s ≡ (then c d).write r.value ++ r.rest) × GoodPair r.value
-  by_first s none r h e q = absurd (no_reading q)
-  by_first s (some a) r h e q = by_second s a (d.read a.rest) r h (x.back s a h e) refl q
+  by_first : (s : List ℕ) (o : Option (Reading A)) (r : Reading (Pair A B)) → Bytes s → c.read s ≡ o → read_then o d.read ≡ Some r → (s ≡ (then c d).write r.value ++ r.rest) × GoodPair r.value
+  by_first s None r h e q = absurd (no_reading q)
+  by_first s (Some a) r h e q = by_second s a (d.read a.rest) r h (x.back s a h e) refl q
 
   pub then_exact : Exact (then c d) GoodPair
   then_exact = record { round = then_round; back = λ s r h e. by_first s (c.read s) r h refl e }
 
 module _ {A : Type 0} {c : Codec A} {G : A → Type 0} (x : Exact c G) (test : A → Bool) where
-  by_test : (s : List ℕ) (o : Option (Reading A)) (r : Reading A) → Bytes s → c.read s ≡ o → passing test o ≡ some r → (s ≡ c.write r.value ++ r.rest) × G r.value × (test r.value ≡ true)
-  by_test s none r h e q = absurd (no_reading q)
-  by_test s (some a) r h e q = by (test a.value) refl
+  by_test : (s : List ℕ) (o : Option (Reading A)) (r : Reading A) → Bytes s → c.read s ≡ o → passing test o ≡ Some r → (s ≡ c.write r.value ++ r.rest) × G r.value × (test r.value ≡ true)
+  by_test s None r h e q = absurd (no_reading q)
+  by_test s (Some a) r h e q = by (test a.value) refl
     where
       by : (t : Bool) → test a.value ≡ t → (s ≡ c.write r.value ++ r.rest) × G r.value × (test r.value ≡ true)
       by true t =
-          let m : some a ≡ some r = (rw t at q) in
+          let m : Some a ≡ Some r = (rw t at q) in
           let n : a ≡ r = cc in
           let k = x.back s a h e in
           subst (λ (z : Reading A). (s ≡ c.write z.value ++ z.rest) × G z.value × (test z.value ≡ true)) n (k.0, k.1, t)
@@ -165,18 +165,18 @@ GoodFlag false absent G a = a ≡ absent
 pub flagged_exact : {A : Type 0} {c : Codec A} {G : A → Type 0} (flag : Bool) (absent : A) → Exact c G → Exact (flagged flag absent c) (GoodFlag flag absent G)
 flagged_exact true absent x = x
 flagged_exact {A} {c} {G} false absent x = record {
-  round = λ a g rest. ap (λ (z : A). some (record { value = z; rest = rest })) (sym g);
+  round = λ a g rest. ap (λ (z : A). Some (record { value = z; rest = rest })) (sym g);
   back = nothing;
 }
   where
-    nothing : (s : List ℕ) (r : Reading A) → Bytes s → some (record { value = absent; rest = s }) ≡ some r → (s ≡ r.rest) × (r.value ≡ absent)
+    nothing : (s : List ℕ) (r : Reading A) → Bytes s → Some (record { value = absent; rest = s }) ≡ Some r → (s ≡ r.rest) × (r.value ≡ absent)
     nothing s r h e = let q : record { value = absent; rest = s } ≡ r = cc in subst (λ (z : Reading A). (s ≡ z.rest) × (z.value ≡ absent)) q (refl, refl)
 
 module _ {A B : Type 0} {c : Codec A} {G : A → Type 0} (x : Exact c G) (H : B → Type 0) (f : A → B) (g : B → A)
     (there : (b : B) → H b → (f (g b) ≡ b) × G (g b)) (again : (a : A) → G a → (g (f a) ≡ a) × H (f a)) where
-  by_name : (s : List ℕ) (o : Option (Reading A)) (r : Reading B) → Bytes s → c.read s ≡ o → renamed f o ≡ some r → (s ≡ c.write (g r.value) ++ r.rest) × H r.value
-  by_name s none r h e q = absurd (no_reading q)
-  by_name s (some a) r h e q =
+  by_name : (s : List ℕ) (o : Option (Reading A)) (r : Reading B) → Bytes s → c.read s ≡ o → renamed f o ≡ Some r → (s ≡ c.write (g r.value) ++ r.rest) × H r.value
+  by_name s None r h e q = absurd (no_reading q)
+  by_name s (Some a) r h e q =
       let m : record { value = f a.value; rest = a.rest } ≡ r = cc in
       let k = x.back s a h e in
       let l = again a.value k.1 in
@@ -184,7 +184,7 @@ module _ {A B : Type 0} {c : Codec A} {G : A → Type 0} (x : Exact c G) (H : B 
 
   pub mapped_exact : Exact (mapped f g c) H
   mapped_exact = record {
-    round = λ b k rest. rw (x.round (g b) (there b k).1 rest) (ap (λ (z : B). some (record { value = z; rest = rest })) (there b k).0);
+    round = λ b k rest. rw (x.round (g b) (there b k).1 rest) (ap (λ (z : B). Some (record { value = z; rest = rest })) (there b k).0);
     back = λ s r h e. by_name s (c.read s) r h refl e;
   }
 
@@ -208,18 +208,18 @@ eight_exact = mapped_exact (then_exact four_exact four_exact) (λ n. n < 1844674
 
 -- ---- texts
 
-text_round : (t : List ℕ) → length t < 65536 → (rest : List ℕ) → text.read (text.write t ++ rest) ≡ some (record { value = t; rest = rest })
+text_round : (t : List ℕ) → length t < 65536 → (rest : List ℕ) → text.read (text.write t ++ rest) ≡ Some (record { value = t; rest = rest })
 text_round t h rest =
     let l : leb (length t) (length (t ++ rest)) ≡ true = le-leb (length t) (length (t ++ rest)) (omega (arith, length-append t rest)) in
     rw (two_round (length t), l, take-append_seam t rest, drop-append_seam t rest)
 
-by_length : (s : List ℕ) (o : Option (Reading ℕ)) (r : Reading (List ℕ)) → Bytes s → read_two s ≡ o → read_text o ≡ some r → (s ≡ text.write r.value ++ r.rest) × (length r.value < 65536)
-by_length s none r h e q = absurd (no_reading q)
-by_length s (some n) r h e q = by (leb n.value (length n.rest)) refl
+by_length : (s : List ℕ) (o : Option (Reading ℕ)) (r : Reading (List ℕ)) → Bytes s → read_two s ≡ o → read_text o ≡ Some r → (s ≡ text.write r.value ++ r.rest) × (length r.value < 65536)
+by_length s None r h e q = absurd (no_reading q)
+by_length s (Some n) r h e q = by (leb n.value (length n.rest)) refl
   where
     by : (t : Bool) → leb n.value (length n.rest) ≡ t → (s ≡ text.write r.value ++ r.rest) × (length r.value < 65536)
     by true t =
-        let m : some (record { value = take n.value n.rest; rest = drop n.value n.rest }) ≡ some r = (rw t at q) in
+        let m : Some (record { value = take n.value n.rest; rest = drop n.value n.rest }) ≡ Some r = (rw t at q) in
         let w : record { value = take n.value n.rest; rest = drop n.value n.rest } ≡ r = cc in
         let k = two_back s n h e in
         let l : length (take n.value n.rest) ≡ n.value = length-take-le n.value n.rest (leb-true _ _ t) in
@@ -238,41 +238,41 @@ GoodAll G [] = Unit {0}
 GoodAll G (a ∷ l) = G a × GoodAll G l
 
 module _ {A : Type 0} {c : Codec A} {G : A → Type 0} (x : Exact c G) where
-  all_round : (l : List A) → GoodAll G l → (rest : List ℕ) → read_all c (length l) (write_all c l ++ rest) ≡ some (record { value = l; rest = rest })
+  all_round : (l : List A) → GoodAll G l → (rest : List ℕ) → read_all c (length l) (write_all c l ++ rest) ≡ Some (record { value = l; rest = rest })
   unfolding write_all read_all
   all_round [] g rest = refl
   all_round (a ∷ l) g rest = rw (append_assoc (c.write a) (write_all c l) rest, x.round a g.0 (write_all c l ++ rest), all_round l g.1 rest)
 
   -- the first value, and then the others
   by_others : (s : List ℕ) (n : ℕ) (a : Reading A) (o : Option (Reading (List A))) (r : Reading (List A)) → (s ≡ c.write a.value ++ a.rest) × G a.value
-      → ((b : Reading (List A)) → o ≡ some b → (a.rest ≡ write_all c b.value ++ b.rest) × GoodAll G b.value × (length b.value ≡ n)) → in_front a.value o ≡ some r
+      → ((b : Reading (List A)) → o ≡ Some b → (a.rest ≡ write_all c b.value ++ b.rest) × GoodAll G b.value × (length b.value ≡ n)) → in_front a.value o ≡ Some r
       → (s ≡ write_all c r.value ++ r.rest) × GoodAll G r.value × (length r.value ≡ suc n)
   unfolding write_all
-  by_others s n a none r k more q = absurd (no_reading q)
-  by_others s n a (some b) r k more q =
+  by_others s n a None r k more q = absurd (no_reading q)
+  by_others s n a (Some b) r k more q =
       let m : record { value = a.value ∷ b.value; rest = b.rest } ≡ r = cc in
       let l = more b refl in
       subst (λ (z : Reading (List A)). (s ≡ write_all c z.value ++ z.rest) × GoodAll G z.value × (length z.value ≡ suc n)) m
       (k.0 ∙ rw (append_assoc (c.write a.value) (write_all c b.value) b.rest) (ap (λ (t : List ℕ). c.write a.value ++ t) l.0), (k.1, l.1), ap suc l.2)
 
   by_one : (s : List ℕ) (n : ℕ) (o : Option (Reading A)) (r : Reading (List A)) → Bytes s → c.read s ≡ o
-      → ((t : List ℕ) (b : Reading (List A)) → Bytes t → read_all c n t ≡ some b → (t ≡ write_all c b.value ++ b.rest) × GoodAll G b.value × (length b.value ≡ n)) → and_more o (read_all c n) ≡ some r
+      → ((t : List ℕ) (b : Reading (List A)) → Bytes t → read_all c n t ≡ Some b → (t ≡ write_all c b.value ++ b.rest) × GoodAll G b.value × (length b.value ≡ n)) → and_more o (read_all c n) ≡ Some r
       → (s ≡ write_all c r.value ++ r.rest) × GoodAll G r.value × (length r.value ≡ suc n)
-  by_one s n none r h e more q = absurd (no_reading q)
-  by_one s n (some a) r h e more q =
+  by_one s n None r h e more q = absurd (no_reading q)
+  by_one s n (Some a) r h e more q =
       let k = x.back s a h e in
       by_others s n a (read_all c n a.rest) r k (λ b. more a.rest b (bytes_after (c.write a.value) a.rest (subst Bytes k.0 h))) q
 
-  all_back : (n : ℕ) (s : List ℕ) (r : Reading (List A)) → Bytes s → read_all c n s ≡ some r → (s ≡ write_all c r.value ++ r.rest) × GoodAll G r.value × (length r.value ≡ n)
+  all_back : (n : ℕ) (s : List ℕ) (r : Reading (List A)) → Bytes s → read_all c n s ≡ Some r → (s ≡ write_all c r.value ++ r.rest) × GoodAll G r.value × (length r.value ≡ n)
   unfolding write_all read_all
   all_back zero s r h e =
       let q : record { value = []; rest = s } ≡ r = cc in
       subst (λ (z : Reading (List A)). (s ≡ write_all c z.value ++ z.rest) × GoodAll G z.value × (length z.value ≡ 0)) q (refl, tt, refl)
   all_back (suc n) s r h e = by_one s n (c.read s) r h refl (all_back n) e
 
-  by_count : (s : List ℕ) (o : Option (Reading ℕ)) (r : Reading (List A)) → Bytes s → read_byte s ≡ o → read_counted c o ≡ some r → (s ≡ (counted c).write r.value ++ r.rest) × GoodAll G r.value × (length r.value < 256)
-  by_count s none r h e q = absurd (no_reading q)
-  by_count s (some n) r h e q =
+  by_count : (s : List ℕ) (o : Option (Reading ℕ)) (r : Reading (List A)) → Bytes s → read_byte s ≡ o → read_counted c o ≡ Some r → (s ≡ (counted c).write r.value ++ r.rest) × GoodAll G r.value × (length r.value < 256)
+  by_count s None r h e q = absurd (no_reading q)
+  by_count s (Some n) r h e q =
       let k = byte_back s n h e in
       let m : Bytes n.rest = bytes_after (n.value ∷ []) n.rest (subst Bytes k.0 h) in
       let l = all_back n.value n.rest r m q in
@@ -290,17 +290,17 @@ module _ {B : Type 0} (key : B → ℕ) (c : ℕ → Codec B) (G : ℕ → B →
   abbrev GoodKeyed : B → Type 0
   GoodKeyed b = G (key b) b × (key b < 65536)
 
-  keyed_round : (b : B) → GoodKeyed b → (rest : List ℕ) → (keyed key c).read ((keyed key c).write b ++ rest) ≡ some (record { value = b; rest = rest })
+  keyed_round : (b : B) → GoodKeyed b → (rest : List ℕ) → (keyed key c).read ((keyed key c).write b ++ rest) ≡ Some (record { value = b; rest = rest })
   keyed_round b g rest = rw (two_round (key b), (x (key b)).round b g.0 rest, eq-eqb (key b) (key b) refl)
 
-  by_key : (s : List ℕ) (m : Reading ℕ) (o : Option (Reading B)) (r : Reading B) → Bytes s → (s ≡ two.write m.value ++ m.rest) × (m.value < 65536) → (c m.value).read m.rest ≡ o → keyed_by key m.value o ≡ some r
+  by_key : (s : List ℕ) (m : Reading ℕ) (o : Option (Reading B)) (r : Reading B) → Bytes s → (s ≡ two.write m.value ++ m.rest) × (m.value < 65536) → (c m.value).read m.rest ≡ o → keyed_by key m.value o ≡ Some r
       → (s ≡ (keyed key c).write r.value ++ r.rest) × GoodKeyed r.value
-  by_key s m none r h k e q = absurd (no_reading q)
-  by_key s m (some b) r h k e q = by (eqb (key b.value) m.value) refl
+  by_key s m None r h k e q = absurd (no_reading q)
+  by_key s m (Some b) r h k e q = by (eqb (key b.value) m.value) refl
     where
       by : (t : Bool) → eqb (key b.value) m.value ≡ t → (s ≡ (keyed key c).write r.value ++ r.rest) × GoodKeyed r.value
       by true t =
-          let u : some b ≡ some r = (rw t at q) in
+          let u : Some b ≡ Some r = (rw t at q) in
           let v : b ≡ r = cc in
           let w : key b.value ≡ m.value = eqb-true _ _ t in
           let l : Bytes m.rest = bytes_after (two.write m.value) m.rest (subst Bytes k.0 h) in
@@ -309,9 +309,9 @@ module _ {B : Type 0} (key : B → ℕ) (c : ℕ → Codec B) (G : ℕ → B →
           (k.0 ∙ rw w (ap (λ (t : List ℕ). m.value / 256 ∷ m.value % 256 ∷ t) n.0), (rw w n.1, omega (arith, k.1)))
       by false t = absurd (no_reading (rw t at q))
 
-  by_two : (s : List ℕ) (o : Option (Reading ℕ)) (r : Reading B) → Bytes s → read_two s ≡ o → read_keyed key c o ≡ some r → (s ≡ (keyed key c).write r.value ++ r.rest) × GoodKeyed r.value
-  by_two s none r h e q = absurd (no_reading q)
-  by_two s (some m) r h e q = by_key s m ((c m.value).read m.rest) r h (two_back s m h e) refl q
+  by_two : (s : List ℕ) (o : Option (Reading ℕ)) (r : Reading B) → Bytes s → read_two s ≡ o → read_keyed key c o ≡ Some r → (s ≡ (keyed key c).write r.value ++ r.rest) × GoodKeyed r.value
+  by_two s None r h e q = absurd (no_reading q)
+  by_two s (Some m) r h e q = by_key s m ((c m.value).read m.rest) r h (two_back s m h e) refl q
 
   pub keyed_exact : Exact (keyed key c) GoodKeyed
   keyed_exact = record { round = keyed_round; back = λ s r h e. by_two s (read_two s) r h refl e }

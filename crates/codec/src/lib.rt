@@ -4,5 +4,5 @@
 mod reading;
 mod writing;
 
-pub use reading::{LENGTH_SIZE, Text, read_eight, read_four, read_text, read_two, wide};
+pub use reading::{LENGTH_SIZE, read_eight, read_four, read_text, read_two, wide};
 pub use writing::{write_byte, write_eight, write_four, write_text, write_two};

@@ -32,7 +32,7 @@ pub fn write_two(out: &mut [u8], at: usize, n: usize) -> usize
     ensures value { result ≡ at + 2 }
     ensures out_after { out.new ≡ put_at at (two.write n) out.old }
 {
-    put(out, at, &[(n / 256) as u8, (n % 256) as u8]);
+    put(out, at, &(n as u16).to_be_bytes());
     at + 2
 }
 
@@ -42,11 +42,7 @@ pub fn write_four(out: &mut [u8], at: usize, n: u32) -> usize
     ensures value { result ≡ at + 4 }
     ensures out_after { out.new ≡ put_at at (four.write n) out.old }
 {
-    let a = (n / 16777216) as u8;
-    let b = (n / 65536 % 256) as u8;
-    let c = (n / 256 % 256) as u8;
-    let d = (n % 256) as u8;
-    put(out, at, &[a, b, c, d]);
+    put(out, at, &n.to_be_bytes());
     at + 4
 }
 
@@ -56,6 +52,6 @@ pub fn write_eight(out: &mut [u8], at: usize, n: u64) -> usize
     ensures value { result ≡ at + 8 }
     ensures out_after { out.new ≡ put_at at (eight.write n) out.old }
 {
-    let a = write_four(out, at, (n / 4294967296) as u32);
-    write_four(out, a, (n % 4294967296) as u32)
+    put(out, at, &n.to_be_bytes());
+    at + 8
 }

@@ -12,29 +12,11 @@ ghost use Rattle.dialog_rules.specs.Creation.{numbers_at, state_by, sequence_in,
 ghost use Rattle.dialog_rules.specs.Updates.{text_or, interval_from};
 ghost use Rattle.creation_readings.specs.Steps.{side_for, peer_of, identifier_for, target_pointer, first_state, interval_in, seconds_in, refresher_in, numbers_in, remainder_of, remainder_in};
 
-use dialog_id::IdPart;
-use headers::Expires;
-use limits::{Check, Limits, Refusal};
-use prack_headers::NumberAnswer;
-use record::{Numbers, Optional, Refresher, State, Step};
-use route_section::{Section, measure_routes};
-use route_set::Contact;
-use session_seconds::{CheckedSeconds, check_expires_seconds};
-use text::Number;
-
-// The state that a new record starts in.
-#[derive(Clone, Copy)]
-pub enum FirstState {
-    Of(State),
-    Outside,
-}
-
-// The numbers of a new record, and how many bytes its routes' section has.
-#[derive(Clone, Copy)]
-pub enum Rest {
-    Of(Numbers, usize),
-    Refused(Refusal),
-}
+use dialog_id::DialogId;
+use limits::{Limits, Refusal};
+use record::{Numbers, Refresher, State};
+use route_section::measure_routes;
+use session_seconds::check_expires_seconds;
 
 // The message with Contact and Record-Route: the response for uac, the request for uas.
 pub fn peer_block<'a>(we_are_uac: bool, request: &'a [u8], response: &'a [u8]) -> &'a [u8]
@@ -52,7 +34,7 @@ pub fn target<'a>(block: &'a [u8], remote_uri: &'a [u8]) -> &'a [u8]
     ensures ref_ptr_value { result.ref_ptr ≡ target_pointer block.entry.ref_ptr remote_uri.entry.ref_ptr (contact_of block.now) }
     ensures result_value { result.now ≡ text_or remote_uri.now (contact_of block.now) }
 {
-    let Contact::At(c) = route_set::find_contact(block) else {
+    let Some(c) = route_set::find_contact(block) else {
         return remote_uri;
     };
     let a = c.start;
@@ -61,7 +43,7 @@ pub fn target<'a>(block: &'a [u8], remote_uri: &'a [u8]) -> &'a [u8]
 }
 
 // The identifier of the response: From has the uac's tag.
-pub fn identifier(we_are_uac: bool, response: &[u8]) -> IdPart
+pub fn identifier(we_are_uac: bool, response: &[u8]) -> Option<DialogId>
     ensures { result ≡ id_from (identifier_for we_are_uac response.now) }
 {
     if we_are_uac {
@@ -71,16 +53,16 @@ pub fn identifier(we_are_uac: bool, response: &[u8]) -> IdPart
 }
 
 // Early by 100 to 199, Confirmed by 200 to 299.
-pub fn state_for(status: u16) -> FirstState
+pub fn state_for(status: u16) -> Option<State>
     ensures { result ≡ first_state (state_by status) }
 {
     if msg::is_informational(status) {
-        return FirstState::Of(State::Early);
+        return Some(State::Early);
     }
     if msg::is_success(status) {
-        return FirstState::Of(State::Confirmed);
+        return Some(State::Confirmed);
     }
-    FirstState::Outside
+    None
 }
 
 // 7 or 8 in the routes, then 4, 9, 10, 13 and 14 of the numbers.
@@ -90,66 +72,64 @@ pub fn read_rest(
     request: &[u8],
     response: &[u8],
     peer: &[u8],
-) -> Rest
+) -> Result<(Numbers, usize), Refusal>
     requires { length peer.now ≤ 8192 }
     ensures { remainder_in result ≡ remainder_of rust_limits (side_for we_are_uac) (state_in state) request.now response.now peer.now }
 {
-    match measure_routes(peer) {
-        Section::Refused(x) => Rest::Refused(x),
-        Section::Of(_, size) => match read_numbers(we_are_uac, state, request, response) {
-            Step::Refused(x) => Rest::Refused(x),
-            Step::Taken(numbers) => Rest::Of(numbers, size),
-        },
-    }
+    let (_, size) = measure_routes(peer)?;
+    let numbers = read_numbers(we_are_uac, state, request, response)?;
+    Ok((numbers, size))
 }
 
 // The numbers: 4, 9, 10 of the request's CSeq, 13 and 14 of the response's interval.
-fn read_numbers(we_are_uac: bool, state: State, request: &[u8], response: &[u8]) -> Step
+fn read_numbers(
+    we_are_uac: bool,
+    state: State,
+    request: &[u8],
+    response: &[u8],
+) -> Result<Numbers, Refusal>
     ensures { outcome_in result ≡ numbers_in rust_limits (side_for we_are_uac) (state_in state) request.now response.now }
 {
-    match read_sequence(request) {
-        NumberAnswer::Refused(x) => Step::Refused(x),
-        NumberAnswer::Value(n) => {
-            let expires = headers::expires_named(response);
-            if let Check::Refused(x) = check_interval(expires) {
-                return Step::Refused(x);
-            }
-            Step::Taken(first_numbers(we_are_uac, state, n, expires))
-        }
-    }
+    let n = read_sequence(request)?;
+    let expires = headers::expires_named(response);
+    check_interval(expires)?;
+    Ok(first_numbers(we_are_uac, state, n, expires))
 }
 
 // The request's number: 4, 9, 10.
-fn read_sequence(block: &[u8]) -> NumberAnswer
+fn read_sequence(block: &[u8]) -> Result<u32, Refusal>
     ensures { result ≡ number_answer (sequence_in rust_limits block.now) }
 {
-    let Number::Value(n) = prack_headers::cseq_number(block) else {
-        return NumberAnswer::Refused(Refusal::MissingHeader);
+    let Some(n) = prack_headers::cseq_number(block) else {
+        return Err(Refusal::MissingHeader);
     };
     if n == 0 {
-        return NumberAnswer::Refused(Refusal::CSeqZero);
+        return Err(Refusal::CSeqZero);
     }
     if Limits::MAX_CSEQ_VALUE < n {
-        return NumberAnswer::Refused(Refusal::CSeqTooLarge);
+        return Err(Refusal::CSeqTooLarge);
     }
-    NumberAnswer::Value(n)
+    Ok(n)
 }
 
 // The interval, where there is one: 13 with 90, 14.
-fn check_interval(expires: Expires) -> Check
+fn check_interval(expires: Option<(u32, headers::Refresher)>) -> Result<(), Refusal>
     ensures { result ≡ check_of (interval_cause rust_limits (interval_in expires)) }
 {
-    let Expires::Of(seconds, _) = expires else {
-        return Check::Passed;
+    let Some((seconds, _)) = expires else {
+        return Ok(());
     };
-    match check_expires_seconds(seconds as u64) {
-        CheckedSeconds::Accepted(_) => Check::Passed,
-        CheckedSeconds::Refused(cause) => Check::Refused(cause),
-    }
+    check_expires_seconds(seconds as u64)?;
+    Ok(())
 }
 
 // The request's number is the uac's local one and the uas's remote one.
-fn first_numbers(we_are_uac: bool, state: State, n: u32, expires: Expires) -> Numbers
+fn first_numbers(
+    we_are_uac: bool,
+    state: State,
+    n: u32,
+    expires: Option<(u32, headers::Refresher)>,
+) -> Numbers
     ensures { meaning result ≡ interval_from (interval_in expires) (numbers_at (side_for we_are_uac) (state_in state) n) }
 {
     let seconds = seconds_in(expires);
@@ -159,7 +139,7 @@ fn first_numbers(we_are_uac: bool, state: State, n: u32, expires: Expires) -> Nu
             state,
             local: n,
             remote: 0,
-            last_ack: Optional::Absent,
+            last_ack: None,
             seconds,
             refresher,
         };
@@ -168,26 +148,26 @@ fn first_numbers(we_are_uac: bool, state: State, n: u32, expires: Expires) -> Nu
         state,
         local: 0,
         remote: n,
-        last_ack: Optional::Absent,
+        last_ack: None,
         seconds,
         refresher,
     }
 }
 
-fn seconds_in(expires: Expires) -> Optional
+fn seconds_in(expires: Option<(u32, headers::Refresher)>) -> Option<u32>
     ensures { number_in result ≡ seconds_in expires }
 {
     match expires {
-        Expires::Of(n, _) => Optional::Number(n),
-        Expires::Nothing => Optional::Absent,
+        Some((n, _)) => Some(n),
+        None => None,
     }
 }
 
 // Who refreshes, as a record has it.
-fn refresher_in(expires: Expires) -> Refresher
+fn refresher_in(expires: Option<(u32, headers::Refresher)>) -> Refresher
     ensures { side_in result ≡ refresher_in expires }
 {
-    let Expires::Of(_, refresher) = expires else {
+    let Some((_, refresher)) = expires else {
         return Refresher::Unspecified;
     };
     match refresher {

@@ -9,15 +9,14 @@ use lib.Seq.{length-take-le, take_at, drop_at, drop-drop}
 use lib.Dec.{ltb}
 use borrow.Author.Tests.{lt-ltb, ltb-false}
 use borrow.Rule.Slice.PartMut.{put_mid}
-use Rattle.limits.specs.Outcome.{given, cause_if, refuse_by}
+use Rattle.std.specs.Prelude.{Err, Ok, Result}
+use Rattle.limits.specs.Outcome.{cause_if, refuse_by}
 use Rattle.limits.specs.declared.Refusal.{Refusal}
 use Rattle.limits.specs.declared.Refusal.TheVariants.{NoRoom}
 use Rattle.text.specs.declared.Span.{Span}
 use Rattle.text.proofs.Alike.{alike_length}
 use Rattle.edit.specs.Edit.{over}
 use Rattle.output.specs.Output.{fitted, leaves, written_from}
-use Rattle.output.specs.declared.Written.{Written}
-use Rattle.output.specs.declared.Written.TheVariants as written
 use Rattle.uri.specs.SipUri.{sips}
 use Rattle.dialog_id.specs.declared.DialogId.{DialogId}
 use Rattle.record.specs.Record.{Numbers, is_filled, is_sips}
@@ -84,19 +83,19 @@ module _ (p : Parts) (size : ℕ) (h : size ≡ length p.routes) where
     pub fits : n + size ≤ length out
     pub bytes : after ≡ over (front_of (front_at p size)) out
 
-  module _ (out : List ℕ) {w : Written} {after : List ℕ} (e : w ≡ written_from (fitted_before size (length out) (front_of (front_at p size)))) (f : after ≡ leaves (fitted_before size (length out) (front_of (front_at p size))) out) where
-    pub front_refused : {cause : Refusal} → w ≡ written.Refused cause → (w ≡ written_from (fitted (length out) (image_of p))) × (after ≡ leaves (fitted (length out) (image_of p)) out)
+  module _ (out : List ℕ) {w : Result ℕ Refusal} {after : List ℕ} (e : w ≡ written_from (fitted_before size (length out) (front_of (front_at p size)))) (f : after ≡ leaves (fitted_before size (length out) (front_of (front_at p size))) out) where
+    pub front_refused : {cause : Refusal} → w ≡ Err cause → (w ≡ written_from (fitted (length out) (image_of p))) × (after ≡ leaves (fitted (length out) (image_of p)) out)
     front_refused {cause} g = by (ltb (length out) (length (front_of (front_at p size)) + size)) refl e f
       where
-        by : (t : Bool) → ltb (length out) (length (front_of (front_at p size)) + size) ≡ t → w ≡ written_from (refuse_by (cause_if t NoRoom) (given (front_of (front_at p size)))) → after ≡ leaves (refuse_by (cause_if t NoRoom) (given (front_of (front_at p size)))) out
+        by : (t : Bool) → ltb (length out) (length (front_of (front_at p size)) + size) ≡ t → w ≡ written_from (refuse_by (cause_if t NoRoom) (Ok (front_of (front_at p size)))) → after ≡ leaves (refuse_by (cause_if t NoRoom) (Ok (front_of (front_at p size)))) out
             → (w ≡ written_from (fitted (length out) (image_of p))) × (after ≡ leaves (fitted (length out) (image_of p)) out)
         by true q i j = rw (ap (λ (n : ℕ). ltb (length out) n) image_length ∙ q) (i, j)
         by false q i j = absurd (let z : ◌≡◌ {A = ℕ} 0 1 = cc in omega arith)
 
-    pub front_begun : {n : ℕ} → w ≡ written.Length n → Begun out n after
+    pub front_begun : {n : ℕ} → w ≡ Ok n → Begun out n after
     front_begun {n} g = by (ltb (length out) (length (front_of (front_at p size)) + size)) refl e f
       where
-        by : (t : Bool) → ltb (length out) (length (front_of (front_at p size)) + size) ≡ t → w ≡ written_from (refuse_by (cause_if t NoRoom) (given (front_of (front_at p size)))) → after ≡ leaves (refuse_by (cause_if t NoRoom) (given (front_of (front_at p size)))) out
+        by : (t : Bool) → ltb (length out) (length (front_of (front_at p size)) + size) ≡ t → w ≡ written_from (refuse_by (cause_if t NoRoom) (Ok (front_of (front_at p size)))) → after ≡ leaves (refuse_by (cause_if t NoRoom) (Ok (front_of (front_at p size)))) out
             → Begun out n after
         by true q i j = absurd (let z : ◌≡◌ {A = ℕ} 0 1 = cc in omega arith)
         by false q i j =
@@ -108,7 +107,7 @@ module _ (p : Parts) (size : ℕ) (h : size ≡ length p.routes) where
   room_behind out after n b k = length-take-le (n + size - n) (drop n after) (omega (arith, length-drop n after, b.fits, k)) ∙ omega arith
 
   pub image_done : (out : List ℕ) {after : List ℕ} (n : ℕ) (s : List ℕ) → Begun out n after → s ≡ p.routes
-      → (written.Length (n + size) ≡ written_from (fitted (length out) (image_of p))) × (put_mid n (n + size - n) after s ≡ leaves (fitted (length out) (image_of p)) out)
+      → (Ok (n + size) ≡ written_from (fitted (length out) (image_of p))) × (put_mid n (n + size - n) after s ≡ leaves (fitted (length out) (image_of p)) out)
   image_done out {after} n s b e =
       let f : List ℕ = front_of (front_at p size) in
       let q : put_mid n (n + size - n) after s ≡ over (image_of p) out =

@@ -14,7 +14,7 @@ ghost use Rattle.creation_writing.specs.NewParts.{parts_for};
 
 use dialog_id::DialogId;
 use image_writer::write_front;
-use output::Written;
+use limits::Refusal;
 use record::Numbers;
 use route_section::write_routes;
 use text::Span;
@@ -32,7 +32,7 @@ pub fn write_image(
     remote_uri: &[u8],
     peer: &[u8],
     size: usize,
-) -> Written
+) -> Result<usize, Refusal>
     requires call_id_in_bounds { (id.call_id.start + id.call_id.length ≤ length response.now) × (id.local_tag.start + id.local_tag.length ≤ length response.now) × (id.remote_tag.start + id.remote_tag.length ≤ length response.now) }
     requires response_len_bound { (length response.now ≤ 8192) × (length target.now ≤ 8192) × (length local_uri.now ≤ 8192) × (length remote_uri.now ≤ 8192) × (length peer.now ≤ 8192) }
     requires size_value { size ≡ length (section_in we_are_uac (routes_of rust_limits peer.now)) }
@@ -43,16 +43,13 @@ pub fn write_image(
     let call_id = part(response, id.call_id);
     let local_tag = part(response, id.local_tag);
     let remote_tag = part(response, id.remote_tag);
-    let front = write_front(
+    let n = write_front(
         out, numbers, we_are_uac, secure, call_id, local_tag, remote_tag, target, local_uri,
         remote_uri, size,
-    );
-    let Written::Length(n) = front else {
-        return front;
-    };
+    )?;
     let end = n + size;
     write_routes(&mut out[n..end], peer, we_are_uac);
-    Written::Length(end)
+    Ok(end)
 }
 
 // A part of lent bytes.

@@ -3,14 +3,13 @@ use Prim.Native.Nat.{ℕ, zero, suc, ◌+◌, ◌-◌, ◌*◌, ◌/◌, ◌%◌
 use native.Mathlib.Omega.{arith}
 use mathlib.Core.Path.{◌≡◌, refl, sym, ap, subst, ◌∙◌}
 use mathlib.Core.List.{List, [], ◌∷◌, ◌++◌, append_assoc, append-nil}
-use mathlib.Core.Option.{Option, none, some}
 use lib.ListN.{length, drop, get_or, length-append, length-drop}
 use lib.Seq.{drop_at, drop-drop, get_or-drop}
-use Rattle.limits.specs.Outcome.{given, and_then, or_refuse}
+use Rattle.std.specs.Prelude.{Err, None, Ok, Option, Some}
+use Rattle.limits.specs.Outcome.{and_then, or_refuse}
 use Rattle.limits.specs.declared.Refusal.{Refusal}
 use Rattle.limits.specs.declared.Refusal.TheVariants.{BadStore}
 use Rattle.text.specs.Answers.{lookup_of}
-use Rattle.text.specs.declared.Lookup.TheVariants as lookup
 use Rattle.codec.specs.Codec.{Reading, two, write_all}
 use Rattle.record.specs.Record.{Record, is_filled, uri_text, routes_field, image}
 use Rattle.codec.proofs.CodecLaws.{bytes_all}
@@ -24,35 +23,34 @@ use Rattle.image_edit.proofs.ImageCuts.{ids_end_lem}
 use Rattle.dialog_rules.specs.OneImage.{alone, only_one, one_record}
 use Rattle.dialog.specs.Readings.{image_answer}
 use Rattle.dialog.specs.ImageRoutes.{text_at, route_at, image_route}
-use Rattle.dialog.specs.declared.readings.ImageAnswer.TheVariants as answer
 
 -- ---- the one record
 
 -- every refusal is 3
-pub no_route : (s : List ℕ) (index : ℕ) {cause : Refusal} → answer.Refused cause ≡ image_answer (one_record s) → lookup.Refused BadStore ≡ lookup_of (image_route s index)
+pub no_route : (s : List ℕ) (index : ℕ) {cause : Refusal} → Err cause ≡ image_answer (one_record s) → Err BadStore ≡ lookup_of (image_route s index)
 unfolding one_record
 no_route s index e = by (only_one (image.read s)) e
   where
-    by : (o : Option Record) {cause : Refusal} → answer.Refused cause ≡ image_answer (or_refuse BadStore o) → lookup.Refused BadStore ≡ lookup_of (and_then (or_refuse BadStore o) (λ r. given (route_at index r)))
-    by none h = refl
-    by (some r) h = absurd (let z : ◌≡◌ {A = ℕ} 0 1 = cc in omega arith)
+    by : (o : Option Record) {cause : Refusal} → Err cause ≡ image_answer (or_refuse BadStore o) → Err BadStore ≡ lookup_of (and_then (or_refuse BadStore o) (λ r. Ok (route_at index r)))
+    by None h = refl
+    by (Some r) h = absurd (let z : ◌≡◌ {A = ℕ} 0 1 = cc in omega arith)
 
 -- the record, where its parts lie, and that the bytes are its image
 pub record Read (s : List ℕ) (p : RecordAt) : Type 0 where
   pub value : Record
-  pub one : one_record s ≡ given value
+  pub one : one_record s ≡ Ok value
   pub placed : p ≡ record_places 0 value
   pub bytes : s ≡ image.write value
 
-pub image_read : (s : List ℕ) (p : RecordAt) → ((i : ℕ) → get_or s i 0 < 256) → answer.Of p ≡ image_answer (one_record s) → Read s p
+pub image_read : (s : List ℕ) (p : RecordAt) → ((i : ℕ) → get_or s i 0 < 256) → Ok p ≡ image_answer (one_record s) → Read s p
 unfolding one_record
 image_read s p b e = by (image.read s) refl e
   where
-    by : (o : Option (Reading Record)) → image.read s ≡ o → answer.Of p ≡ image_answer (or_refuse BadStore (only_one o)) → Read s p
-    by none q h = absurd (let z : ◌≡◌ {A = ℕ} 0 1 = cc in omega arith)
-    by (some x) q h = is x.rest refl h
+    by : (o : Option (Reading Record)) → image.read s ≡ o → Ok p ≡ image_answer (or_refuse BadStore (only_one o)) → Read s p
+    by None q h = absurd (let z : ◌≡◌ {A = ℕ} 0 1 = cc in omega arith)
+    by (Some x) q h = is x.rest refl h
       where
-        is : (t : List ℕ) → x.rest ≡ t → answer.Of p ≡ image_answer (or_refuse BadStore (alone x t)) → Read s p
+        is : (t : List ℕ) → x.rest ≡ t → Ok p ≡ image_answer (or_refuse BadStore (alone x t)) → Read s p
         is [] r h =
             record {
               value = x.value;
@@ -107,10 +105,10 @@ pub record Left (s : List ℕ) (index at left : ℕ) : Type 0 where
   pub texts : List (List ℕ)
   pub inside : left < length texts
   pub there : drop at s ≡ write_all uri_text texts
-  pub whole : image_route s index ≡ given (text_at at left texts)
+  pub whole : image_route s index ≡ Ok (text_at at left texts)
 
 -- no text from the count on
-past : (ts : List (List ℕ)) (at index : ℕ) → length ts ≤ index → text_at at index ts ≡ none
+past : (ts : List (List ℕ)) (at index : ℕ) → length ts ≤ index → text_at at index ts ≡ None
 unfolding text_at
 past [] at index h = refl
 past (t ∷ ts) at zero h = absurd (omega arith)
@@ -122,17 +120,17 @@ unfolding text_at
 passed at zero t ts h = absurd (omega arith)
 passed at (suc left) t ts h = let e : suc left - 1 ≡ left = omega arith in rw e
 
-here : (at left : ℕ) (t : List ℕ) (ts : List (List ℕ)) → left ≤ 0 → text_at at left (t ∷ ts) ≡ some (record { place = at + 2; text = t })
+here : (at left : ℕ) (t : List ℕ) (ts : List (List ℕ)) → left ≤ 0 → text_at at left (t ∷ ts) ≡ Some (record { place = at + 2; text = t })
 unfolding text_at
 here at zero t ts h = refl
 here at (suc left) t ts h = absurd (omega arith)
 
 module _ (s : List ℕ) (index : ℕ) (p : RecordAt) (g : Read s p) where
-  route_is : image_route s index ≡ given (text_at (p.routes + 1) index g.value.routes)
-  route_is = rw g.one (ap (λ (q : RecordAt). given (text_at (q.routes + 1) index g.value.routes)) (sym g.placed))
+  route_is : image_route s index ≡ Ok (text_at (p.routes + 1) index g.value.routes)
+  route_is = rw g.one (ap (λ (q : RecordAt). Ok (text_at (q.routes + 1) index g.value.routes)) (sym g.placed))
 
-  pub nothing_there : p.route_count ≤ index → lookup.Nothing ≡ lookup_of (image_route s index)
-  nothing_there h = let e : text_at (p.routes + 1) index g.value.routes ≡ none = past g.value.routes (p.routes + 1) index (omega (arith, count_is s p g)) in rw (route_is, e)
+  pub nothing_there : p.route_count ≤ index → Ok None ≡ lookup_of (image_route s index)
+  nothing_there h = let e : text_at (p.routes + 1) index g.value.routes ≡ None = past g.value.routes (p.routes + 1) index (omega (arith, count_is s p g)) in rw (route_is, e)
 
   pub start : index < p.route_count → Left s index (p.routes + 1) index
   start h = record { texts = g.value.routes; inside = omega (arith, count_is s p g); there = texts_there s p g (omega (arith, count_is s p g)); whole = route_is }
@@ -181,18 +179,18 @@ module _ (s : List ℕ) (index at left : ℕ) (w : Left s index at left) where
     pub turn : 0 < left → Left s index (at + 2 + n) (left - 1)
     turn k = by w.texts w.inside w.there w.whole
       where
-        by : (l : List (List ℕ)) → left < length l → drop at s ≡ write_all uri_text l → image_route s index ≡ given (text_at at left l) → Left s index (at + 2 + n) (left - 1)
+        by : (l : List (List ℕ)) → left < length l → drop at s ≡ write_all uri_text l → image_route s index ≡ Ok (text_at at left l) → Left s index (at + 2 + n) (left - 1)
         by [] h e q = absurd (omega arith)
         by (t ∷ ts) h e q =
             let f = first s at t ts e in
             let m : n ≡ length t = c ∙ f.counted in
-            subst (λ (i : ℕ). Left s index (at + 2 + i) (left - 1)) (sym m) (record { texts = ts; inside = omega arith; there = f.after; whole = q ∙ ap given (passed at left t ts k) })
+            subst (λ (i : ℕ). Left s index (at + 2 + i) (left - 1)) (sym m) (record { texts = ts; inside = omega arith; there = f.after; whole = q ∙ ap Ok (passed at left t ts k) })
 
     -- the text at which none is left to pass
-    pub found : left ≤ 0 → lookup.At (record { start = at + 2; length = n }) ≡ lookup_of (image_route s index)
+    pub found : left ≤ 0 → Ok (Some (record { start = at + 2; length = n })) ≡ lookup_of (image_route s index)
     found k = by w.texts w.inside w.there w.whole
       where
-        by : (l : List (List ℕ)) → left < length l → drop at s ≡ write_all uri_text l → image_route s index ≡ given (text_at at left l) → lookup.At (record { start = at + 2; length = n }) ≡ lookup_of (image_route s index)
+        by : (l : List (List ℕ)) → left < length l → drop at s ≡ write_all uri_text l → image_route s index ≡ Ok (text_at at left l) → Ok (Some (record { start = at + 2; length = n })) ≡ lookup_of (image_route s index)
         by [] h e q = absurd (omega arith)
         by (t ∷ ts) h e q =
             let m : n ≡ length t = c ∙ (first s at t ts e).counted in

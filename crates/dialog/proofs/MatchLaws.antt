@@ -4,14 +4,12 @@ use native.Mathlib.Omega.{arith}
 use mathlib.Core.Path.{◌≡◌, refl, sym, ap, subst, ◌∙◌}
 use mathlib.Core.Bool.{Bool, ◌&&◌}
 use mathlib.Core.List.{List, [], ◌∷◌}
-use mathlib.Core.Option.{Option, none, some}
 use lib.ListN.{length, drop}
+use Rattle.std.specs.Prelude.{Err, None, Ok, Option, Result, Some, false}
 use Rattle.limits.specs.Limits.{LimitSet}
-use Rattle.limits.specs.Outcome.{given, or_refuse, check_of}
+use Rattle.limits.specs.Outcome.{or_refuse, check_of}
 use Rattle.limits.specs.declared.Refusal.{Refusal}
 use Rattle.limits.specs.declared.Refusal.TheVariants.{BadStore}
-use Rattle.limits.specs.declared.Check.{Check}
-use Rattle.limits.specs.declared.Check.TheVariants.{Refused}
 use Rattle.limits.proofs.Laws.{stopped}
 use Rattle.text.specs.Text.{equal}
 use Rattle.msg.specs.Block.{block_cause}
@@ -30,9 +28,6 @@ use Rattle.dialog.specs.Readings.{image_answer}
 use Rattle.text.specs.Spans.{part_in}
 use Rattle.dialog_rules.specs.Matching.{named_by}
 use Rattle.dialog.specs.Matching.{matches_request, matches_answer}
-use Rattle.dialog.specs.declared.readings.ImageAnswer.TheVariants as answer
-use Rattle.dialog.specs.declared.matching.Matches.{Matches}
-use Rattle.dialog.specs.declared.matching.Matches.TheVariants as matches
 use Rattle.dialog_rules.proofs.PlacedLaws.{Asked}
 
 -- ---- the record of the image
@@ -41,19 +36,19 @@ pub record Held (bytes : List ℕ) (p : RecordAt) : Type 0 where
   pub value : Record
   pub reading : Reading Record
   pub whole : reading.value ≡ value
-  pub one : one_record bytes ≡ given value
-  pub reads : image.read (drop 0 bytes) ≡ some reading
+  pub one : one_record bytes ≡ Ok value
+  pub reads : image.read (drop 0 bytes) ≡ Some reading
   pub places : p ≡ record_places 0 value
 
-pub held : (bytes : List ℕ) (p : RecordAt) → answer.Of p ≡ image_answer (one_record bytes) → Held bytes p
+pub held : (bytes : List ℕ) (p : RecordAt) → Ok p ≡ image_answer (one_record bytes) → Held bytes p
 unfolding one_record
 held bytes p e = by (image.read bytes) refl e
   where
-    by : (o : Option (Reading Record)) → image.read bytes ≡ o → answer.Of p ≡ image_answer (or_refuse BadStore (only_one o)) → Held bytes p
-    by none q h = absurd (let z : ◌≡◌ {A = ℕ} 0 1 = cc in omega arith)
-    by (some x) q h = is x.rest refl h
+    by : (o : Option (Reading Record)) → image.read bytes ≡ o → Ok p ≡ image_answer (or_refuse BadStore (only_one o)) → Held bytes p
+    by None q h = absurd (let z : ◌≡◌ {A = ℕ} 0 1 = cc in omega arith)
+    by (Some x) q h = is x.rest refl h
       where
-        is : (t : List ℕ) → x.rest ≡ t → answer.Of p ≡ image_answer (or_refuse BadStore (alone x t)) → Held bytes p
+        is : (t : List ℕ) → x.rest ≡ t → Ok p ≡ image_answer (or_refuse BadStore (alone x t)) → Held bytes p
         is [] r h = record { value = x.value; reading = x; whole = refl; one = rw (q, r); reads = q; places = (cc) }
         is (b ∷ t) r h = absurd (let z : ◌≡◌ {A = ℕ} 0 1 = cc in omega arith)
 
@@ -68,7 +63,7 @@ ids_within bytes p h =
 -- the bytes compared are the texts
 compared : (block bytes : List ℕ) (i : DialogId) (p : RecordAt) (q : Asked block i) (h : Held bytes p) → Bytes bytes
     → (equal (part_in block i.call_id) (part_in bytes p.ids.call_id) && (equal (part_in block i.local_tag) (part_in bytes p.ids.remote_tag) && equal (part_in block i.remote_tag) (part_in bytes p.ids.local_tag)))
-    ≡ named_by h.value (some q.parts)
+    ≡ named_by h.value (Some q.parts)
 compared block bytes i p q h b =
     let r = h.value in
     let l : Lie bytes 2 (ids_of h.reading.value) = record_lies bytes 0 h.reading b h.reads in
@@ -78,27 +73,27 @@ compared block bytes i p q h b =
 -- ---- the answers
 
 module _ (L : LimitSet) (block bytes : List ℕ) where
-  pub bad_block : {r : Check} {cause : Refusal} → r ≡ check_of (block_cause L block) → r ≡ Refused cause → matches.Refused cause ≡ matches_answer (matches_request L block bytes)
+  pub bad_block : {r : Result (Unit {0}) Refusal} {cause : Refusal} → r ≡ check_of (block_cause L block) → r ≡ Err cause → Err cause ≡ matches_answer (matches_request L block bytes)
   unfolding matches_request
   bad_block h e = rw (stopped (block_cause L block) (sym h ∙ e))
 
-  module _ (clear : block_cause L block ≡ none) where
-    pub bad_image : {cause : Refusal} → answer.Refused cause ≡ image_answer (one_record bytes) → matches.Refused BadStore ≡ matches_answer (matches_request L block bytes)
+  module _ (clear : block_cause L block ≡ None) where
+    pub bad_image : {cause : Refusal} → Err cause ≡ image_answer (one_record bytes) → Err BadStore ≡ matches_answer (matches_request L block bytes)
     unfolding matches_request one_record
     bad_image e = by (only_one (image.read bytes)) refl e
       where
-        by : (o : Option Record) {cause : Refusal} → only_one (image.read bytes) ≡ o → answer.Refused cause ≡ image_answer (or_refuse BadStore o) → matches.Refused BadStore ≡ matches_answer (matches_request L block bytes)
-        by none q h = rw (clear, q)
-        by (some r) q h = absurd (let z : ◌≡◌ {A = ℕ} 0 1 = cc in omega arith)
+        by : (o : Option Record) {cause : Refusal} → only_one (image.read bytes) ≡ o → Err cause ≡ image_answer (or_refuse BadStore o) → Err BadStore ≡ matches_answer (matches_request L block bytes)
+        by None q h = rw (clear, q)
+        by (Some r) q h = absurd (let z : ◌≡◌ {A = ℕ} 0 1 = cc in omega arith)
 
-    pub no_part : (p : RecordAt) → Held bytes p → identifier_of from_name to_name block ≡ none → matches.No ≡ matches_answer (matches_request L block bytes)
+    pub no_part : (p : RecordAt) → Held bytes p → identifier_of from_name to_name block ≡ None → Ok false ≡ matches_answer (matches_request L block bytes)
     unfolding matches_request
     no_part p h e = rw (clear, h.one, e)
 
-    pub matched : (p : RecordAt) (i : DialogId) (h : Held bytes p) (q : Asked block i) → Bytes bytes → (t : Bool) (m : Matches)
+    pub matched : (p : RecordAt) (i : DialogId) (h : Held bytes p) (q : Asked block i) → Bytes bytes → (t : Bool) (m : Result Bool Refusal)
         → t ≡ (equal (part_in block i.call_id) (part_in bytes p.ids.call_id) && (equal (part_in block i.local_tag) (part_in bytes p.ids.remote_tag) && equal (part_in block i.remote_tag) (part_in bytes p.ids.local_tag)))
-        → m ≡ matches_answer (given t) → m ≡ matches_answer (matches_request L block bytes)
+        → m ≡ matches_answer (Ok t) → m ≡ matches_answer (matches_request L block bytes)
     unfolding matches_request
     matched p i h q b t m e w =
-        let k : t ≡ named_by h.value (some q.parts) = e ∙ compared block bytes i p q h b in
-        rw (clear, h.one, q.reads) (w ∙ ap (λ (u : Bool). matches_answer (given u)) k)
+        let k : t ≡ named_by h.value (Some q.parts) = e ∙ compared block bytes i p q h b in
+        rw (clear, h.one, q.reads) (w ∙ ap (λ (u : Bool). matches_answer (Ok u)) k)

@@ -4,9 +4,9 @@ use native.Mathlib.Omega.{arith}
 use mathlib.Core.Path.{◌≡◌, refl, ap, ◌∙◌}
 use mathlib.Core.Bool.{Bool}
 use mathlib.Core.List.{List, [], ◌∷◌}
-use mathlib.Core.Option.{Option, none, some}
 use lib.ListN.{length, drop, length-drop, drop_of_length-le}
-use Rattle.limits.specs.Outcome.{given, or_refuse}
+use Rattle.std.specs.Prelude.{Err, None, Ok, Option, Result, Some}
+use Rattle.limits.specs.Outcome.{or_refuse}
 use Rattle.limits.specs.declared.Refusal.{Refusal}
 use Rattle.limits.specs.declared.Refusal.TheVariants.{BadStore}
 use Rattle.session_timer_manager.specs.Intervals.{refresh_due}
@@ -15,56 +15,52 @@ use Rattle.record.specs.NumbersForm.{number_in}
 use Rattle.record.proofs.NumberLaws.{number_same}
 use Rattle.image.specs.Places.{record_from, record_places}
 use Rattle.image.specs.declared.RecordAt.{RecordAt}
-use Rattle.image.specs.declared.RecordReading.TheVariants.{Whole, Broken}
 use Rattle.image.proofs.AnswerLaws.{RecordGot, record_got, record_not}
 use Rattle.dialog_rules.specs.OneImage.{alone, only_one, one_record}
 use Rattle.dialog.specs.Readings.{image_answer, refresh_of, refresh_answer}
-use Rattle.dialog.specs.declared.readings.ImageAnswer.TheVariants as answer
-use Rattle.dialog.specs.declared.readings.Refresh.{Refresh}
-use Rattle.dialog.specs.declared.readings.Refresh.TheVariants as refresh
 
 -- ---- exactly one image
 
 module _ (s : List ℕ) where
-  pub not_one : record_from 0 (image.read (drop 0 s)) ≡ Broken → answer.Refused BadStore ≡ image_answer (one_record s)
+  pub not_one : record_from 0 (image.read (drop 0 s)) ≡ None → Err BadStore ≡ image_answer (one_record s)
   unfolding one_record
-  not_one e = let n : image.read s ≡ none = record_not 0 (image.read s) e in rw n
+  not_one e = let n : image.read s ≡ None = record_not 0 (image.read s) e in rw n
 
-  module _ (p : RecordAt) (e : record_from 0 (image.read (drop 0 s)) ≡ Whole p) where
+  module _ (p : RecordAt) (e : record_from 0 (image.read (drop 0 s)) ≡ Some p) where
     got : RecordGot s 0 p
     got = record_got s 0 (omega arith) e
 
     -- bytes after the image
-    pub more_after : p.end < length s → answer.Refused BadStore ≡ image_answer (one_record s)
+    pub more_after : p.end < length s → Err BadStore ≡ image_answer (one_record s)
     unfolding one_record
     more_after h = rw (got.got.reads, filled (drop p.end s) (omega (arith, length-drop p.end s)))
       where
-        filled : (t : List ℕ) → 0 < length t → alone (record { value = got.value; rest = drop p.end s }) t ≡ none
+        filled : (t : List ℕ) → 0 < length t → alone (record { value = got.value; rest = drop p.end s }) t ≡ None
         filled [] k = absurd (let z : 0 < 0 = k in omega arith)
         filled (b ∷ t) k = refl
 
-    pub just_one : length s ≤ p.end → answer.Of p ≡ image_answer (one_record s)
+    pub just_one : length s ≤ p.end → Ok p ≡ image_answer (one_record s)
     unfolding one_record
-    just_one h = let d : drop p.end s ≡ [] = drop_of_length-le s h in rw (got.got.reads, d) (ap answer.Of got.placed)
+    just_one h = let d : drop p.end s ≡ [] = drop_of_length-le s h in rw (got.got.reads, d) (ap Ok got.placed)
 
 -- ---- the refresh
 
 -- every refusal is 3
-refused_three : (o : Option Record) {cause : Refusal} → answer.Refused cause ≡ image_answer (or_refuse BadStore o) → o ≡ none
-refused_three none e = refl
-refused_three (some r) e = absurd (let z : ◌≡◌ {A = ℕ} 0 1 = cc in omega arith)
+refused_three : (o : Option Record) {cause : Refusal} → Err cause ≡ image_answer (or_refuse BadStore o) → o ≡ None
+refused_three None e = refl
+refused_three (Some r) e = absurd (let z : ◌≡◌ {A = ℕ} 0 1 = cc in omega arith)
 
-of_record : (o : Option Record) {p : RecordAt} → answer.Of p ≡ image_answer (or_refuse BadStore o) → (r : Record) × ((o ≡ some r) × (p ≡ record_places 0 r))
-of_record none e = absurd (let z : ◌≡◌ {A = ℕ} 0 1 = cc in omega arith)
-of_record (some r) e = (r, (refl, cc))
+of_record : (o : Option Record) {p : RecordAt} → Ok p ≡ image_answer (or_refuse BadStore o) → (r : Record) × ((o ≡ Some r) × (p ≡ record_places 0 r))
+of_record None e = absurd (let z : ◌≡◌ {A = ℕ} 0 1 = cc in omega arith)
+of_record (Some r) e = (r, (refl, cc))
 
 module _ (s : List ℕ) (elapsed : ℕ) where
-  pub no_image : {cause : Refusal} → answer.Refused cause ≡ image_answer (one_record s) → refresh.Refused BadStore ≡ refresh_answer (refresh_of s elapsed)
+  pub no_image : {cause : Refusal} → Err cause ≡ image_answer (one_record s) → Err BadStore ≡ refresh_answer (refresh_of s elapsed)
   unfolding one_record
   no_image e = rw (refused_three (only_one (image.read s)) e)
 
   -- t is what the interval of the record says
-  pub refresh_is : {p : RecordAt} (t : Bool) (r : Refresh) → answer.Of p ≡ image_answer (one_record s) → t ≡ refresh_due (number_in p.numbers.seconds) elapsed → r ≡ refresh_answer (given t) → r ≡ refresh_answer (refresh_of s elapsed)
+  pub refresh_is : {p : RecordAt} (t : Bool) (r : Result Bool Refusal) → Ok p ≡ image_answer (one_record s) → t ≡ refresh_due (number_in p.numbers.seconds) elapsed → r ≡ refresh_answer (Ok t) → r ≡ refresh_answer (refresh_of s elapsed)
   unfolding one_record
   refresh_is {p} t r e h q =
       let g = of_record (only_one (image.read s)) e in

@@ -6,6 +6,6 @@ mod matching;
 mod readings;
 mod routes;
 
-pub use matching::{Matches, matches_request};
-pub use readings::{ImageAnswer, Refresh, needs_refresh, read_image};
+pub use matching::matches_request;
+pub use readings::{needs_refresh, read_image};
 pub use routes::image_route;

@@ -5,38 +5,28 @@ ghost use Rattle.text.specs.Text.{equal};
 ghost use Rattle.text.specs.Spans.{part_in};
 ghost use Rattle.dialog.specs.Matching.{matches_request, matches_answer};
 
-use crate::readings::{ImageAnswer, read_image};
-use dialog_id::{DialogId, IdPart, request_id};
+use crate::readings::read_image;
+use dialog_id::{DialogId, request_id};
 use image::IdsAt;
-use limits::{Check, Refusal};
+use limits::Refusal;
 use text::Span;
 
-// What `matches_request` answers.
-#[derive(Clone, Copy)]
-pub enum Matches {
-    Yes,
-    No,
-    Refused(Refusal),
-}
-
-// Dialog::matches_request: 1, 2, 3. No where an identifier part is absent.
-pub fn matches_request(block: &[u8], bytes: &[u8]) -> Matches
+// Dialog::matches_request: 1, 2, 3. It is false where an identifier part is absent.
+pub fn matches_request(block: &[u8], bytes: &[u8]) -> Result<bool, Refusal>
     ensures { result ≡ matches_answer (matches_request rust_limits block.now bytes.now) }
 {
-    if let Check::Refused(x) = msg::check_block(block) {
-        return Matches::Refused(x);
-    }
-    let ImageAnswer::Of(r) = read_image(bytes) else {
-        return Matches::Refused(Refusal::BadStore);
+    msg::check_block(block)?;
+    let Ok(r) = read_image(bytes) else {
+        return Err(Refusal::BadStore);
     };
-    let IdPart::At(i) = request_id(block) else {
-        return Matches::No;
+    let Some(i) = request_id(block) else {
+        return Ok(false);
     };
     let ids = r.ids;
     if names(block, i, bytes, ids) {
-        return Matches::Yes;
+        return Ok(true);
     }
-    Matches::No
+    Ok(false)
 }
 
 // The request's Call-ID and tags are the record's, its local tag the record's remote one.

@@ -5,59 +5,42 @@ ghost use Rattle.session_timer_manager.specs.Answers.{seconds_of};
 ghost use Rattle.dialog_rules.specs.OneImage.{one_record};
 ghost use Rattle.dialog.specs.Readings.{image_answer, refresh_of, refresh_answer};
 
-use image::{RecordAt, RecordReading};
+use image::RecordAt;
 use limits::Refusal;
-use record::Optional;
-use session_timer_manager::OptionalSeconds;
 
-// Where the parts of a record lie in its image, and its numbers.
-#[derive(Clone, Copy)]
-pub enum ImageAnswer {
-    Of(RecordAt),
-    Refused(Refusal),
-}
-
-// What `needs_refresh` answers.
-#[derive(Clone, Copy)]
-pub enum Refresh {
-    Due,
-    NotDue,
-    Refused(Refusal),
-}
-
-// The Rust's accessors: 3.
-pub fn read_image(bytes: &[u8]) -> ImageAnswer
+// The Rust's accessors: 3. Answers where the parts of a record lie in its image, and its numbers.
+pub fn read_image(bytes: &[u8]) -> Result<RecordAt, Refusal>
     ensures { result ≡ image_answer (one_record bytes.now) }
 {
-    let RecordReading::Whole(r) = image::read_record(bytes, 0) else {
-        return ImageAnswer::Refused(Refusal::BadStore);
+    let Some(r) = image::read_record(bytes, 0) else {
+        return Err(Refusal::BadStore);
     };
     if r.end < bytes.len() {
-        return ImageAnswer::Refused(Refusal::BadStore);
+        return Err(Refusal::BadStore);
     }
-    ImageAnswer::Of(r)
+    Ok(r)
 }
 
 // Dialog::needs_refresh, so many nanoseconds after the last refresh: 3.
-pub fn needs_refresh(bytes: &[u8], elapsed: u64) -> Refresh
+pub fn needs_refresh(bytes: &[u8], elapsed: u64) -> Result<bool, Refusal>
     ensures { result ≡ refresh_answer (refresh_of bytes.now elapsed) }
 {
-    let ImageAnswer::Of(r) = read_image(bytes) else {
-        return Refresh::Refused(Refusal::BadStore);
+    let Ok(r) = read_image(bytes) else {
+        return Err(Refusal::BadStore);
     };
     let numbers = r.numbers;
     let seconds = numbers.seconds;
     if session_timer_manager::needs_refresh(interval(seconds), elapsed) {
-        return Refresh::Due;
+        return Ok(true);
     }
-    Refresh::NotDue
+    Ok(false)
 }
 
-fn interval(seconds: Optional) -> OptionalSeconds
+fn interval(seconds: Option<u32>) -> Option<u32>
     ensures { seconds_of result ≡ number_in seconds }
 {
     match seconds {
-        Optional::Number(n) => OptionalSeconds::Of(n),
-        Optional::Absent => OptionalSeconds::Absent,
+        Some(n) => Some(n),
+        None => None,
     }
 }

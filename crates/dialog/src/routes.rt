@@ -3,20 +3,20 @@ ghost use Rattle.std.specs.Prelude.{◌≡◌, ◌+◌, ◌*◌, ◌≤◌, ◌<
 ghost use Rattle.text.specs.Answers.{lookup_of};
 ghost use Rattle.dialog.specs.ImageRoutes.{image_route};
 
-use crate::readings::{ImageAnswer, read_image};
+use crate::readings::read_image;
 use codec::wide;
 use limits::Refusal;
-use text::{Lookup, Span};
+use text::Span;
 
 // Where the text of the route at an index from 0 lies in the image; nothing from the count on: 3.
-pub fn image_route(bytes: &[u8], index: usize) -> Lookup
+pub fn image_route(bytes: &[u8], index: usize) -> Result<Option<Span>, Refusal>
     ensures { result ≡ lookup_of (image_route bytes.now index) }
 {
-    let ImageAnswer::Of(r) = read_image(bytes) else {
-        return Lookup::Refused(Refusal::BadStore);
+    let Ok(r) = read_image(bytes) else {
+        return Err(Refusal::BadStore);
     };
     if r.route_count <= index {
-        return Lookup::Nothing;
+        return Ok(None);
     }
     let mut at = r.routes + 1;
     let mut left = index;
@@ -24,10 +24,10 @@ pub fn image_route(bytes: &[u8], index: usize) -> Lookup
         at = at + 2 + text_length(bytes, at);
         left -= 1;
     }
-    Lookup::At(Span {
+    Ok(Some(Span {
         start: at + 2,
         length: text_length(bytes, at),
-    })
+    }))
 }
 
 // The length of the text whose two length bytes lie at a place.

@@ -1,47 +1,46 @@
 -- Updates of one record given as its image, in lent bytes with room behind it: the image is changed in place, and every byte past it is what it was.
 -- Document 01, "Turned back": 3 where the used bytes aren't exactly one record or are more than the lent; then the step's own refusals; 18
 -- where the changed image is larger than the lent bytes. A refused call keeps every byte.
-use Rattle.std.specs.Prelude.{ℕ, List, length, take, ltb}
+use Rattle.std.specs.Prelude.{ℕ, List, length, take, ltb, Err, Ok, Result}
 use Rattle.limits.specs.Limits.{LimitSet}
-use Rattle.limits.specs.Outcome.{Outcome, refused, given, refuse_if, and_then}
+use Rattle.limits.specs.Outcome.{refuse_if, and_then}
+use Rattle.limits.specs.declared.Refusal.{Refusal}
 use Rattle.limits.specs.declared.Refusal.TheVariants.{BadStore, NoRoom}
 use Rattle.output.specs.Output.{fitted}
 use Rattle.record.specs.Record.{Record, image}
 use Rattle.dialog_rules.specs.OneImage.{one_record}
 use Rattle.dialog_rules.specs.Updates.{confirm_update, terminate_update, local_update, interval_update}
-use Rattle.dialog_changes.specs.declared.Raised.{Raised}
-use Rattle.dialog_changes.specs.declared.Raised.TheVariants as raised
 
 -- the record of the used bytes: 3
-abbrev pub used_record : List ℕ → ℕ → Outcome Record
+abbrev pub used_record : List ℕ → ℕ → Result Record Refusal
 used_record bytes used = refuse_if (ltb (length bytes) used) BadStore (one_record (take used bytes))
 
 -- 3, the step's refusals, 18; then the image of the changed record
-unfoldable pub image_after : (Record → Outcome Record) → List ℕ → ℕ → Outcome (List ℕ)
+unfoldable pub image_after : (Record → Result Record Refusal) → List ℕ → ℕ → Result (List ℕ) Refusal
 image_after step bytes used = and_then (used_record bytes used) (λ r. and_then (step r) (λ s. fitted (length bytes) (image.write s)))
 
 -- ---- the operations
 
 -- `terminate`, `confirm`: 3
-abbrev pub terminated : List ℕ → ℕ → Outcome (List ℕ)
-terminated bytes used = image_after (λ r. given (terminate_update r)) bytes used
+abbrev pub terminated : List ℕ → ℕ → Result (List ℕ) Refusal
+terminated bytes used = image_after (λ r. Ok (terminate_update r)) bytes used
 
-abbrev pub confirmed : List ℕ → ℕ → Outcome (List ℕ)
-confirmed bytes used = image_after (λ r. given (confirm_update r)) bytes used
+abbrev pub confirmed : List ℕ → ℕ → Result (List ℕ) Refusal
+confirmed bytes used = image_after (λ r. Ok (confirm_update r)) bytes used
 
 -- `next_local_cseq`: 3, 18
-abbrev pub local_raised : List ℕ → ℕ → Outcome (List ℕ)
-local_raised bytes used = image_after (λ r. given (local_update r)) bytes used
+abbrev pub local_raised : List ℕ → ℕ → Result (List ℕ) Refusal
+local_raised bytes used = image_after (λ r. Ok (local_update r)) bytes used
 
 -- the changed record of `next_local_cseq`: 3, 18
-unfoldable pub raised_record : List ℕ → ℕ → Outcome Record
-raised_record bytes used = and_then (used_record bytes used) (λ r. refuse_if (ltb (length bytes) (length (image.write (local_update r)))) NoRoom (given (local_update r)))
+unfoldable pub raised_record : List ℕ → ℕ → Result Record Refusal
+raised_record bytes used = and_then (used_record bytes used) (λ r. refuse_if (ltb (length bytes) (length (image.write (local_update r)))) NoRoom (Ok (local_update r)))
 
 -- its answer: the local number of the changed record, and the length of its image
-abbrev pub raised_answer : Outcome Record → Raised
-raised_answer (refused cause) = raised.Refused cause
-raised_answer (given r) = raised.To r.numbers.local (length (image.write r))
+abbrev pub raised_answer : Result Record Refusal → Result (ℕ × ℕ) Refusal
+raised_answer (Err cause) = Err cause
+raised_answer (Ok r) = Ok (r.numbers.local, length (image.write r))
 
 -- `set_session_expires`: 3, 13 with the least, 14, 18
-abbrev pub interval_set : LimitSet → ℕ → List ℕ → ℕ → Outcome (List ℕ)
+abbrev pub interval_set : LimitSet → ℕ → List ℕ → ℕ → Result (List ℕ) Refusal
 interval_set L seconds bytes used = image_after (λ r. interval_update L seconds r) bytes used

@@ -4,22 +4,19 @@ use native.Mathlib.Omega.{arith}
 use mathlib.Core.Path.{◌≡◌, refl, sym, ap, subst, ◌∙◌}
 use mathlib.Core.Bool.{Bool, true, false, cond, ◌||◌}
 use mathlib.Core.List.{List}
-use mathlib.Core.Option.{Option, none, some}
 use lib.ListN.{length}
+use Rattle.std.specs.Prelude.{Err, None, Ok, Option, Result, Some}
 use Rattle.limits.specs.Limits.{LimitSet, rust_limits}
-use Rattle.limits.specs.Outcome.{Outcome, refused, given, or_else, refuse_by, and_then, check_of}
+use Rattle.limits.specs.Outcome.{or_else, refuse_by, and_then, check_of}
 use Rattle.limits.specs.declared.Refusal.{Refusal}
 use Rattle.limits.specs.declared.Refusal.TheVariants.{MissingHeader, InvalidStatus}
-use Rattle.limits.specs.declared.Check.TheVariants.{Passed, Refused}
 use Rattle.limits.proofs.Laws.{passed, stopped}
 use Rattle.text.specs.Text.{Piece}
 use Rattle.output.specs.Output.{fitted, leaves, written_from}
-use Rattle.output.specs.declared.Written.TheVariants as written
 use Rattle.msg.specs.Status.{in_class}
 use Rattle.dialog_id.specs.DialogId.{Identifier, dialog_id_from, id_from, from_name, to_name}
 use Rattle.headers.specs.SessionExpires.{expires_named}
 use Rattle.dialog_id.specs.declared.DialogId.{DialogId}
-use Rattle.dialog_id.specs.declared.IdPart.TheVariants as part
 use Rattle.route_set.specs.Routes.{contact_of, routes_of}
 use Rattle.route_section.specs.Section.{section_of, route_texts, section_in}
 use Rattle.route_section.proofs.SectionLaws.{section_size}
@@ -38,13 +35,10 @@ use Rattle.dialog_creation.specs.NewImage.{made_image}
 use Rattle.creation_checks.specs.Given.{checked_of}
 use Rattle.creation_readings.specs.Steps.{side_for, peer_of, identifier_for, first_state, numbers_in, Remainder, remainder_by, remainder_of, remainder_in}
 use Rattle.creation_writing.specs.NewParts.{parts_for}
-use Rattle.creation_readings.specs.declared.FirstState.TheVariants as first
-use Rattle.creation_readings.specs.declared.Rest.{Rest}
-use Rattle.creation_readings.specs.declared.Rest.TheVariants as rest
 
 -- ---- the answer of a refusal
 
-pub refusal : {o : Outcome (List ℕ)} {cause : Refusal} (bytes : List ℕ) → o ≡ refused cause → (written.Refused cause ≡ written_from o) × (bytes ≡ leaves o bytes)
+pub refusal : {o : Result (List ℕ) Refusal} {cause : Refusal} (bytes : List ℕ) → o ≡ Err cause → (Err cause ≡ written_from o) × (bytes ≡ leaves o bytes)
 refusal bytes e = rw e (refl, refl)
 
 -- ---- the routes and the numbers
@@ -63,61 +57,61 @@ record_of side g id routes x = record {
   routes = routes;
 }
 
-numbers_first : (o : Outcome ℕ) (i : Option Refusal) (f : ℕ → Numbers) (w : Numbers → Record) → and_then o (λ n. refuse_by i (given (w (f n)))) ≡ and_then (and_then o (λ n. refuse_by i (given (f n)))) (λ x. given (w x))
-numbers_first (refused cause) i f w = refl
-numbers_first (given n) none f w = refl
-numbers_first (given n) (some cause) f w = refl
+numbers_first : (o : Result ℕ Refusal) (i : Option Refusal) (f : ℕ → Numbers) (w : Numbers → Record) → and_then o (λ n. refuse_by i (Ok (w (f n)))) ≡ and_then (and_then o (λ n. refuse_by i (Ok (f n)))) (λ x. Ok (w x))
+numbers_first (Err cause) i f w = refl
+numbers_first (Ok n) None f w = refl
+numbers_first (Ok n) (Some cause) f w = refl
 
 -- what follows the routes' reading, by what it came to
-abbrev tail_by : Side → Creation → Identifier → Outcome (List Piece) → Outcome Numbers → Outcome Record
-tail_by side g id o m = and_then (and_then o (λ ps. given (route_texts (is_uac side) ps))) (λ routes. and_then m (λ x. given (record_of side g id routes x)))
+abbrev tail_by : Side → Creation → Identifier → Result (List Piece) Refusal → Result Numbers Refusal → Result Record Refusal
+tail_by side g id o m = and_then (and_then o (λ ps. Ok (route_texts (is_uac side) ps))) (λ routes. and_then m (λ x. Ok (record_of side g id routes x)))
 
-tail_refused : (side : Side) (g : Creation) (id : Identifier) (o : Outcome (List Piece)) (m : Outcome Numbers) {cause : Refusal} → remainder_by o m ≡ refused cause → tail_by side g id o m ≡ refused cause
-tail_refused side g id (refused own) m e = cc
-tail_refused side g id (given ps) (refused own) e = cc
-tail_refused side g id (given ps) (given x) e = absurd (let z : ◌≡◌ {A = ℕ} 0 1 = cc in omega arith)
+tail_refused : (side : Side) (g : Creation) (id : Identifier) (o : Result (List Piece) Refusal) (m : Result Numbers Refusal) {cause : Refusal} → remainder_by o m ≡ Err cause → tail_by side g id o m ≡ Err cause
+tail_refused side g id (Err own) m e = cc
+tail_refused side g id (Ok ps) (Err own) e = cc
+tail_refused side g id (Ok ps) (Ok x) e = absurd (let z : ◌≡◌ {A = ℕ} 0 1 = cc in omega arith)
 
-tail_given : (side : Side) (g : Creation) (id : Identifier) (o : Outcome (List Piece)) (m : Outcome Numbers) {y : Remainder} → remainder_by o m ≡ given y
-    → (ps : List Piece) × (o ≡ given ps) × (y.routes ≡ length (section_of (route_texts false ps))) × (tail_by side g id o m ≡ given (record_of side g id (route_texts (is_uac side) ps) y.numbers))
-tail_given side g id (refused own) m e = absurd (let z : ◌≡◌ {A = ℕ} 0 1 = cc in omega arith)
-tail_given side g id (given ps) (refused own) e = absurd (let z : ◌≡◌ {A = ℕ} 0 1 = cc in omega arith)
-tail_given side g id (given ps) (given x) {y} e =
+tail_given : (side : Side) (g : Creation) (id : Identifier) (o : Result (List Piece) Refusal) (m : Result Numbers Refusal) {y : Remainder} → remainder_by o m ≡ Ok y
+    → (ps : List Piece) × (o ≡ Ok ps) × (y.routes ≡ length (section_of (route_texts false ps))) × (tail_by side g id o m ≡ Ok (record_of side g id (route_texts (is_uac side) ps) y.numbers))
+tail_given side g id (Err own) m e = absurd (let z : ◌≡◌ {A = ℕ} 0 1 = cc in omega arith)
+tail_given side g id (Ok ps) (Err own) e = absurd (let z : ◌≡◌ {A = ℕ} 0 1 = cc in omega arith)
+tail_given side g id (Ok ps) (Ok x) {y} e =
     let q : record { numbers = x; routes = length (section_of (route_texts false ps)) } ≡ y = cc in
-    (ps, refl, ap (λ (z : Remainder). z.routes) (sym q), ap (λ (z : Remainder). given (record_of side g id (route_texts (is_uac side) ps) z.numbers)) q)
+    (ps, refl, ap (λ (z : Remainder). z.routes) (sym q), ap (λ (z : Remainder). Ok (record_of side g id (route_texts (is_uac side) ps) z.numbers)) q)
 
 -- ---- the steps after the checks
 
 module _ (L : LimitSet) (side : Side) (g : Creation) (room : ℕ) where
-  unnamed : identifier_in side g ≡ none → made_image L side g room ≡ refused MissingHeader
+  unnamed : identifier_in side g ≡ None → made_image L side g room ≡ Err MissingHeader
   unfolding made_image made_by
   unnamed e = rw e
 
-  module _ (id : Identifier) (e : identifier_in side g ≡ some id) where
-    stateless : {cause : Refusal} → state_by g.status ≡ refused cause → made_image L side g room ≡ refused cause
+  module _ (id : Identifier) (e : identifier_in side g ≡ Some id) where
+    stateless : {cause : Refusal} → state_by g.status ≡ Err cause → made_image L side g room ≡ Err cause
     unfolding made_image made_by
     stateless f = rw (e, f)
 
-    module _ (s : State) (f : state_by g.status ≡ given s) where
-      overlong : {cause : Refusal} → or_else (estimate_cause L g.local_uri) (or_else (estimate_cause L g.remote_uri) (estimate_cause L (target_of side g))) ≡ some cause → made_image L side g room ≡ refused cause
+    module _ (s : State) (f : state_by g.status ≡ Ok s) where
+      overlong : {cause : Refusal} → or_else (estimate_cause L g.local_uri) (or_else (estimate_cause L g.remote_uri) (estimate_cause L (target_of side g))) ≡ Some cause → made_image L side g room ≡ Err cause
       unfolding made_image made_by
       overlong h = rw (e, f, h)
 
-      module _ (h : or_else (estimate_cause L g.local_uri) (or_else (estimate_cause L g.remote_uri) (estimate_cause L (target_of side g))) ≡ none) where
-        tail_is : (o : Outcome (List Piece))
-            → and_then (and_then o (λ ps. given (route_texts (is_uac side) ps))) (λ routes. and_then (sequence_in L g.request) (λ n. refuse_by (interval_cause L (expires_named g.response)) (given (record_with side g id s routes n))))
+      module _ (h : or_else (estimate_cause L g.local_uri) (or_else (estimate_cause L g.remote_uri) (estimate_cause L (target_of side g))) ≡ None) where
+        tail_is : (o : Result (List Piece) Refusal)
+            → and_then (and_then o (λ ps. Ok (route_texts (is_uac side) ps))) (λ routes. and_then (sequence_in L g.request) (λ n. refuse_by (interval_cause L (expires_named g.response)) (Ok (record_with side g id s routes n))))
             ≡ tail_by side g id o (numbers_in L side s g.request g.response)
-        tail_is (refused cause) = refl
-        tail_is (given ps) = numbers_first (sequence_in L g.request) (interval_cause L (expires_named g.response)) (λ (n : ℕ). interval_from (expires_named g.response) (numbers_at side s n)) (record_of side g id (route_texts (is_uac side) ps))
+        tail_is (Err cause) = refl
+        tail_is (Ok ps) = numbers_first (sequence_in L g.request) (interval_cause L (expires_named g.response)) (λ (n : ℕ). interval_from (expires_named g.response) (numbers_at side s n)) (record_of side g id (route_texts (is_uac side) ps))
 
         made_tail : made_by L side g ≡ tail_by side g id (routes_of L (peer_block side g)) (numbers_in L side s g.request g.response)
         unfolding made_by
         made_tail = rw (e, f, h) (tail_is (routes_of L (peer_block side g)))
 
-        remainderless : {cause : Refusal} → remainder_of L side s g.request g.response (peer_block side g) ≡ refused cause → made_image L side g room ≡ refused cause
+        remainderless : {cause : Refusal} → remainder_of L side s g.request g.response (peer_block side g) ≡ Err cause → made_image L side g room ≡ Err cause
         unfolding made_image
         remainderless k = rw (made_tail ∙ tail_refused side g id (routes_of L (peer_block side g)) (numbers_in L side s g.request g.response) k)
 
-        whole : {y : Remainder} → remainder_of L side s g.request g.response (peer_block side g) ≡ given y
+        whole : {y : Remainder} → remainder_of L side s g.request g.response (peer_block side g) ≡ Ok y
             → (y.routes ≡ length (section_in (is_uac side) (routes_of L (peer_block side g))))
             × (made_image L side g room ≡ fitted room (image_of (parts_of y.numbers (is_uac side) (is_sips g.local_uri || is_sips g.remote_uri) id.call_id.text id.local_tag.text id.remote_tag.text (target_of side g) g.local_uri g.remote_uri (section_in (is_uac side) (routes_of L (peer_block side g))))))
         unfolding made_image
@@ -125,51 +119,51 @@ module _ (L : LimitSet) (side : Side) (g : Creation) (room : ℕ) where
             let t = tail_given side g id (routes_of L (peer_block side g)) (numbers_in L side s g.request g.response) k in
             let ps = t.0 in
             let v : Record = record_of side g id (route_texts (is_uac side) ps) y.numbers in
-            let q : made_image L side g room ≡ fitted room (image.write v) = ap (λ (o : Outcome Record). and_then o (λ r. fitted room (image.write r))) (made_tail ∙ t.3) in
+            let q : made_image L side g room ≡ fitted room (image.write v) = ap (λ (o : Result Record Refusal). and_then o (λ r. fitted room (image.write r))) (made_tail ∙ t.3) in
             rw t.1 (t.2 ∙ sym (section_size (is_uac side) ps), q ∙ ap (fitted room) (image_parts v))
 
 -- ---- the same by the code's answers
 
 -- the state that the code answers
-state_outside : (status : ℕ) → first_state (state_by status) ≡ first.Outside → state_by status ≡ refused InvalidStatus
+state_outside : (status : ℕ) → first_state (state_by status) ≡ None → state_by status ≡ Err InvalidStatus
 state_outside status e = by (in_class 100 200 status) (in_class 200 300 status) e
   where
-    by : (a b : Bool) → first_state (cond a (given early) (cond b (given confirmed) (refused InvalidStatus))) ≡ first.Outside → cond a (given early) (cond b (given confirmed) (refused InvalidStatus)) ≡ refused InvalidStatus
+    by : (a b : Bool) → first_state (cond a (Ok early) (cond b (Ok confirmed) (Err InvalidStatus))) ≡ None → cond a (Ok early) (cond b (Ok confirmed) (Err InvalidStatus)) ≡ Err InvalidStatus
     by true b f = absurd (let z : ◌≡◌ {A = ℕ} 0 1 = cc in omega arith)
     by false true f = absurd (let z : ◌≡◌ {A = ℕ} 0 1 = cc in omega arith)
     by false false f = refl
 
-state_of_lem : (o : Outcome State) {s : CodeState} → first_state o ≡ first.Of s → o ≡ given (state_in s)
-state_of_lem (refused cause) e = absurd (let z : ◌≡◌ {A = ℕ} 0 1 = cc in omega arith)
-state_of_lem (given t) {s} e =
+state_of_lem : (o : Result State Refusal) {s : CodeState} → first_state o ≡ Some s → o ≡ Ok (state_in s)
+state_of_lem (Err cause) e = absurd (let z : ◌≡◌ {A = ℕ} 0 1 = cc in omega arith)
+state_of_lem (Ok t) {s} e =
     let q : state_from t ≡ s = cc in
-    ap given (sym (state_same t) ∙ ap state_in q)
+    ap Ok (sym (state_same t) ∙ ap state_in q)
 
 -- the identifier that the code answers
 pub record Named (u : Bool) (response : List ℕ) (i : DialogId) : Type 0 where
   pub id : Identifier
-  pub reads : identifier_for u response ≡ some id
+  pub reads : identifier_for u response ≡ Some id
   pub spans : dialog_id_from id ≡ i
   pub placed : PlacedId response id
 
-side_placed : (u : Bool) (response : List ℕ) (id : Identifier) → identifier_for u response ≡ some id → PlacedId response id
+side_placed : (u : Bool) (response : List ℕ) (id : Identifier) → identifier_for u response ≡ Some id → PlacedId response id
 side_placed true response id e = identifier_placed from_name to_name response id e
 side_placed false response id e = identifier_placed to_name from_name response id e
 
-pub named : (u : Bool) (response : List ℕ) (i : DialogId) → id_from (identifier_for u response) ≡ part.At i → Named u response i
+pub named : (u : Bool) (response : List ℕ) (i : DialogId) → id_from (identifier_for u response) ≡ Some i → Named u response i
 named u response i e = by (identifier_for u response) refl e
   where
-    by : (o : Option Identifier) → identifier_for u response ≡ o → id_from o ≡ part.At i → Named u response i
-    by none q f = absurd (let z : ◌≡◌ {A = ℕ} 0 1 = cc in omega arith)
-    by (some id) q f = record { id = id; reads = q; spans = (cc); placed = side_placed u response id q }
+    by : (o : Option Identifier) → identifier_for u response ≡ o → id_from o ≡ Some i → Named u response i
+    by None q f = absurd (let z : ◌≡◌ {A = ℕ} 0 1 = cc in omega arith)
+    by (Some id) q f = record { id = id; reads = q; spans = (cc); placed = side_placed u response id q }
 
 pub id_fits : (u : Bool) (r : List ℕ) (i : DialogId) → Named u r i
     → (i.call_id.start + i.call_id.length ≤ length r) × (i.local_tag.start + i.local_tag.length ≤ length r) × (i.remote_tag.start + i.remote_tag.length ≤ length r)
 id_fits u r i n = subst (λ (d : DialogId). (d.call_id.start + d.call_id.length ≤ length r) × (d.local_tag.start + d.local_tag.length ≤ length r) × (d.remote_tag.start + d.remote_tag.length ≤ length r)) n.spans (n.placed.call_id.fits, n.placed.local_tag.fits, n.placed.remote_tag.fits)
 
-unread : (o : Option Identifier) → id_from o ≡ part.Nothing → o ≡ none
-unread none e = refl
-unread (some id) e = absurd (let z : ◌≡◌ {A = ℕ} 0 1 = cc in omega arith)
+unread : (o : Option Identifier) → id_from o ≡ None → o ≡ None
+unread None e = refl
+unread (Some id) e = absurd (let z : ◌≡◌ {A = ℕ} 0 1 = cc in omega arith)
 
 -- the texts of an identifier are the response's own bytes
 own_bytes : (u : Bool) (x : Numbers) (r t l m routes : List ℕ) (i : DialogId) (n : Named u r i)
@@ -188,8 +182,8 @@ pub target_short : (m peer : List ℕ) {t : List ℕ} → t ≡ text_or m (conta
 target_short m peer {t} e h k = by (contact_of peer) refl e
   where
     by : (o : Option Piece) → contact_of peer ≡ o → t ≡ text_or m o → length t ≤ 8192
-    by none q f = omega (arith, ap length f)
-    by (some p) q f = omega (arith, ap length f, (contact_within peer p q).0)
+    by None q f = omega (arith, ap length f)
+    by (Some p) q f = omega (arith, ap length f, (contact_within peer p q).0)
 
 -- ---- a creation of either side
 
@@ -218,14 +212,14 @@ module _ (u : Bool) (q : List ℕ) (st : ℕ) (r l m : List ℕ) (room : ℕ) wh
       by true = refl
       by false = refl
 
-  pub no_identifier : id_from (identifier_for u r) ≡ part.Nothing → made_image rust_limits (side_for u) g room ≡ refused MissingHeader
+  pub no_identifier : id_from (identifier_for u r) ≡ None → made_image rust_limits (side_for u) g room ≡ Err MissingHeader
   no_identifier e = unnamed rust_limits (side_for u) g room (name_is ∙ unread (identifier_for u r) e)
 
   module _ (i : DialogId) (n : Named u r i) where
-    pub no_state : first_state (state_by st) ≡ first.Outside → made_image rust_limits (side_for u) g room ≡ refused InvalidStatus
+    pub no_state : first_state (state_by st) ≡ None → made_image rust_limits (side_for u) g room ≡ Err InvalidStatus
     no_state e = stateless rust_limits (side_for u) g room n.id (name_is ∙ n.reads) (state_outside st e)
 
-    module _ (s : CodeState) (f : first_state (state_by st) ≡ first.Of s) (peer t : List ℕ) (a : peer ≡ peer_of u q r) (b : t ≡ text_or m (contact_of peer)) where
+    module _ (s : CodeState) (f : first_state (state_by st) ≡ Some s) (peer t : List ℕ) (a : peer ≡ peer_of u q r) (b : t ≡ text_or m (contact_of peer)) where
       abbrev estimates : List ℕ → Option Refusal
       estimates x = or_else (estimate_cause rust_limits l) (or_else (estimate_cause rust_limits m) (estimate_cause rust_limits x))
 
@@ -235,21 +229,21 @@ module _ (u : Bool) (q : List ℕ) (st : ℕ) (r l m : List ℕ) (room : ℕ) wh
       targets : target_of (side_for u) g ≡ t
       targets = ap (λ (x : List ℕ). text_or m (contact_of x)) peers ∙ sym b
 
-      pub over_estimate_lem : {cause : Refusal} → check_of (estimates t) ≡ Refused cause → made_image rust_limits (side_for u) g room ≡ refused cause
+      pub over_estimate_lem : {cause : Refusal} → check_of (estimates t) ≡ Err cause → made_image rust_limits (side_for u) g room ≡ Err cause
       over_estimate_lem e =
           overlong rust_limits (side_for u) g room n.id (name_is ∙ n.reads) (state_in s) (state_of_lem (state_by st) f) (stopped (estimates (target_of (side_for u) g)) (ap (λ (x : List ℕ). check_of (estimates x)) targets ∙ e))
 
-      module _ (e : check_of (estimates t) ≡ Passed) (w : Rest) (k : remainder_in w ≡ remainder_of rust_limits (side_for u) (state_in s) q r peer) where
-        clear : estimates (target_of (side_for u) g) ≡ none
+      module _ (e : check_of (estimates t) ≡ Ok tt) (w : Result (CodeNumbers × ℕ) Refusal) (k : remainder_in w ≡ remainder_of rust_limits (side_for u) (state_in s) q r peer) where
+        clear : estimates (target_of (side_for u) g) ≡ None
         clear = passed (estimates (target_of (side_for u) g)) (ap (λ (x : List ℕ). check_of (estimates x)) targets ∙ e)
 
         remains : remainder_of rust_limits (side_for u) (state_in s) q r (peer_block (side_for u) g) ≡ remainder_in w
         remains = ap (λ (x : List ℕ). remainder_of rust_limits (side_for u) (state_in s) q r x) peers ∙ sym k
 
-        pub rest_refused : {cause : Refusal} → w ≡ rest.Refused cause → made_image rust_limits (side_for u) g room ≡ refused cause
+        pub rest_refused : {cause : Refusal} → w ≡ Err cause → made_image rust_limits (side_for u) g room ≡ Err cause
         rest_refused h = remainderless rust_limits (side_for u) g room n.id (name_is ∙ n.reads) (state_in s) (state_of_lem (state_by st) f) clear (remains ∙ ap remainder_in h)
 
-        module _ (x : CodeNumbers) (size : ℕ) (h : w ≡ rest.Of x size) where
+        module _ (x : CodeNumbers) (size : ℕ) (h : w ≡ Ok (x, size)) where
           abbrev Whole : Bool → List ℕ → List ℕ → Type 0
           Whole v y z =
               (size ≡ length (section_in v (routes_of rust_limits y)))

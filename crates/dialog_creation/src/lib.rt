@@ -10,11 +10,9 @@ ghost use Rattle.creation_checks.specs.Given.{creation_of, checked_of};
 ghost use Rattle.creation_readings.specs.Steps.{side_for};
 
 use creation_checks::{check_estimates, check_forms, check_texts, check_uris};
-use creation_readings::{FirstState, Rest, identifier, peer_block, read_rest, state_for, target};
+use creation_readings::{identifier, peer_block, read_rest, state_for, target};
 use creation_writing::write_image;
-use dialog_id::IdPart;
-use limits::{Check, Refusal};
-use output::Written;
+use limits::Refusal;
 
 // The record of a dialog that our request opens, by the response to it, as an image over the front of `out`. The method is measured and no
 // more: 1, 2, 6, 4, 5, 7, 8, 4, 9, 10, 13 with 90, 14, 18.
@@ -26,7 +24,7 @@ pub fn new_uac<'a>(
     local_uri: &[u8],
     remote_uri: &'a [u8],
     out: &mut [u8],
-) -> Written
+) -> Result<usize, Refusal>
     ensures value { result ≡ written_from (new_image rust_limits uac (record { method = method.now; request = request.now; status = status; response = response.now; local_uri = local_uri.now; remote_uri = remote_uri.now }) (length out.old)) }
     ensures out_after { out.new ≡ leaves (new_image rust_limits uac (record { method = method.now; request = request.now; status = status; response = response.now; local_uri = local_uri.now; remote_uri = remote_uri.now }) (length out.old)) out.old }
 {
@@ -44,7 +42,7 @@ pub fn new_uas<'a>(
     local_uri: &[u8],
     remote_uri: &'a [u8],
     out: &mut [u8],
-) -> Written
+) -> Result<usize, Refusal>
     ensures value { result ≡ written_from (new_image rust_limits uas (record { method = method.now; request = request.now; status = status; response = response.now; local_uri = local_uri.now; remote_uri = remote_uri.now }) (length out.old)) }
     ensures out_after { out.new ≡ leaves (new_image rust_limits uas (record { method = method.now; request = request.now; status = status; response = response.now; local_uri = local_uri.now; remote_uri = remote_uri.now }) (length out.old)) out.old }
 {
@@ -63,19 +61,13 @@ fn create<'a>(
     local_uri: &[u8],
     remote_uri: &'a [u8],
     out: &mut [u8],
-) -> Written
+) -> Result<usize, Refusal>
     ensures value { result ≡ written_from (new_image rust_limits (side_for we_are_uac) (creation_of method.now request.now status response.now local_uri.now remote_uri.now) (length out.old)) }
     ensures out_after { out.new ≡ leaves (new_image rust_limits (side_for we_are_uac) (creation_of method.now request.now status response.now local_uri.now remote_uri.now) (length out.old)) out.old }
 {
-    if let Check::Refused(x) = check_texts(method, request, response, local_uri, remote_uri) {
-        return Written::Refused(x);
-    }
-    if let Check::Refused(x) = check_forms(request, response) {
-        return Written::Refused(x);
-    }
-    if let Check::Refused(x) = check_uris(local_uri, remote_uri) {
-        return Written::Refused(x);
-    }
+    check_texts(method, request, response, local_uri, remote_uri)?;
+    check_forms(request, response)?;
+    check_uris(local_uri, remote_uri)?;
     make(
         we_are_uac, request, status, response, local_uri, remote_uri, out,
     )
@@ -90,26 +82,22 @@ fn make<'a>(
     local_uri: &[u8],
     remote_uri: &'a [u8],
     out: &mut [u8],
-) -> Written
+) -> Result<usize, Refusal>
     requires { (length request.now ≤ 8192) × (length response.now ≤ 8192) × (length local_uri.now ≤ 8192) × (length remote_uri.now ≤ 8192) }
     ensures value { result ≡ written_from (made_image rust_limits (side_for we_are_uac) (checked_of request.now status response.now local_uri.now remote_uri.now) (length out.old)) }
     ensures out_after { out.new ≡ leaves (made_image rust_limits (side_for we_are_uac) (checked_of request.now status response.now local_uri.now remote_uri.now) (length out.old)) out.old }
 {
-    let IdPart::At(id) = identifier(we_are_uac, response) else {
-        return Written::Refused(Refusal::MissingHeader);
+    let Some(id) = identifier(we_are_uac, response) else {
+        return Err(Refusal::MissingHeader);
     };
-    let FirstState::Of(state) = state_for(status) else {
-        return Written::Refused(Refusal::InvalidStatus);
+    let Some(state) = state_for(status) else {
+        return Err(Refusal::InvalidStatus);
     };
     let peer = peer_block(we_are_uac, request, response);
     let target = target(peer, remote_uri);
-    if let Check::Refused(x) = check_estimates(local_uri, remote_uri, target) {
-        return Written::Refused(x);
-    }
-    match read_rest(we_are_uac, state, request, response, peer) {
-        Rest::Refused(x) => Written::Refused(x),
-        Rest::Of(numbers, size) => write_image(
-            out, we_are_uac, numbers, id, response, target, local_uri, remote_uri, peer, size,
-        ),
-    }
+    check_estimates(local_uri, remote_uri, target)?;
+    let (numbers, size) = read_rest(we_are_uac, state, request, response, peer)?;
+    write_image(
+        out, we_are_uac, numbers, id, response, target, local_uri, remote_uri, peer, size,
+    )
 }

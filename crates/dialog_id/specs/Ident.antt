@@ -1,7 +1,6 @@
 -- An identifier as a caller gives it and as the stores hold it: three texts, any bytes. Document 01, "Identifier": "Calls by identifier take any three
 -- texts and find them or give 15"; only their lengths are refused (1).
-use Rattle.std.specs.Prelude.{ℕ, Bool, ◌&&◌, List}
-use Rattle.std.proofs.Math.Option.{Option}
+use Rattle.std.specs.Prelude.{ℕ, Bool, ◌&&◌, List, Option}
 use Rattle.limits.specs.Limits.{LimitSet}
 use Rattle.limits.specs.Outcome.{or_else}
 use Rattle.limits.specs.declared.Refusal.{Refusal}

@@ -11,9 +11,9 @@ ghost use Rattle.headers.specs.Tag.{part_of};
 ghost use Rattle.dialog_id.specs.Ident.{ident, ident_cause};
 ghost use Rattle.dialog_id.specs.DialogId.{is_plain, part_cause, identifier_cause, tag_in, identifier, from_name, to_name, identifier_of, from_request, from_response_uac, from_response_uas, id_from, id_answer};
 
-use headers::{Part, find_tag};
-use limits::{Check, Limits, Refusal};
-use msg::{Found, HeaderTable};
+use headers::find_tag;
+use limits::{Limits, Refusal};
+use msg::HeaderTable;
 use text::Span;
 
 // Where the three parts stand in a header block.
@@ -24,80 +24,56 @@ pub struct DialogId {
     pub remote_tag: Span,
 }
 
-// A reading without refusals.
-#[derive(Clone, Copy)]
-pub enum IdPart {
-    At(DialogId),
-    Nothing,
-}
-
-// What the readings from a block answer.
-#[derive(Clone, Copy)]
-pub enum IdAnswer {
-    At(DialogId),
-    Refused(Refusal),
-}
-
 impl DialogId {
     // The check of given parts: 1, then 25, 26, 27 of each.
-    pub fn new(call_id: &[u8], local_tag: &[u8], remote_tag: &[u8]) -> Check
+    pub fn new(call_id: &[u8], local_tag: &[u8], remote_tag: &[u8]) -> Result<(), Refusal>
         ensures { result ≡ check_of (identifier_cause rust_limits call_id.now local_tag.now remote_tag.now) }
     {
-        if let Check::Refused(x) = check_lengths(call_id, local_tag, remote_tag) {
-            return Check::Refused(x);
-        }
-        if let Check::Refused(x) = check_part(call_id, Limits::MAX_CALL_ID_LENGTH) {
-            return Check::Refused(x);
-        }
-        if let Check::Refused(x) = check_part(local_tag, Limits::MAX_TAG_LENGTH) {
-            return Check::Refused(x);
-        }
+        check_lengths(call_id, local_tag, remote_tag)?;
+        check_part(call_id, Limits::MAX_CALL_ID_LENGTH)?;
+        check_part(local_tag, Limits::MAX_TAG_LENGTH)?;
         check_part(remote_tag, Limits::MAX_TAG_LENGTH)
     }
 
     // From a request, with the tag of From as local tag: 1, 2, 4.
-    pub fn from_request(block: &[u8]) -> IdAnswer
+    pub fn from_request(block: &[u8]) -> Result<DialogId, Refusal>
         ensures { result ≡ id_answer (from_request rust_limits block.now) }
     {
-        if let Check::Refused(x) = msg::check_block(block) {
-            return IdAnswer::Refused(x);
-        }
-        let IdPart::At(id) = read_id(block, b"From", b"To") else {
-            return IdAnswer::Refused(Refusal::MissingHeader);
+        msg::check_block(block)?;
+        let Some(id) = read_id(block, b"From", b"To") else {
+            return Err(Refusal::MissingHeader);
         };
-        IdAnswer::At(id)
+        Ok(id)
     }
 
     // From a response to a request that we sent: 1, 2, 4.
-    pub fn from_response_uac(block: &[u8]) -> IdAnswer
+    pub fn from_response_uac(block: &[u8]) -> Result<DialogId, Refusal>
         ensures { result ≡ id_answer (from_response_uac rust_limits block.now) }
     {
         DialogId::from_request(block)
     }
 
     // From a response that we sent, with the tag of To as local tag: 1, 2, 4.
-    pub fn from_response_uas(block: &[u8]) -> IdAnswer
+    pub fn from_response_uas(block: &[u8]) -> Result<DialogId, Refusal>
         ensures { result ≡ id_answer (from_response_uas rust_limits block.now) }
     {
-        if let Check::Refused(x) = msg::check_block(block) {
-            return IdAnswer::Refused(x);
-        }
-        let IdPart::At(id) = read_id(block, b"To", b"From") else {
-            return IdAnswer::Refused(Refusal::MissingHeader);
+        msg::check_block(block)?;
+        let Some(id) = read_id(block, b"To", b"From") else {
+            return Err(Refusal::MissingHeader);
         };
-        IdAnswer::At(id)
+        Ok(id)
     }
 }
 
 // The identifier that a request names, of a block that was checked before; the tag of From as local tag.
-pub fn request_id(block: &[u8]) -> IdPart
+pub fn request_id(block: &[u8]) -> Option<DialogId>
     ensures { result ≡ id_from (identifier_of from_name to_name block.now) }
 {
     read_id(block, b"From", b"To")
 }
 
 // The same by the block's table.
-pub fn request_id_in(block: &[u8], t: HeaderTable) -> IdPart
+pub fn request_id_in(block: &[u8], t: HeaderTable) -> Option<DialogId>
     requires { t ≡ table_of (lines_of block.now) }
     ensures { result ≡ id_from (identifier_of from_name to_name block.now) }
 {
@@ -108,7 +84,7 @@ pub fn request_id_in(block: &[u8], t: HeaderTable) -> IdPart
 }
 
 // The Call-ID and the tags of the two headers named.
-pub fn read_id(block: &[u8], local_name: &[u8], remote_name: &[u8]) -> IdPart
+pub fn read_id(block: &[u8], local_name: &[u8], remote_name: &[u8]) -> Option<DialogId>
     ensures { result ≡ id_from (identifier_of local_name.now remote_name.now block.now) }
 {
     let call_id = msg::find(block, b"Call-ID");
@@ -118,20 +94,19 @@ pub fn read_id(block: &[u8], local_name: &[u8], remote_name: &[u8]) -> IdPart
 }
 
 // The Call-ID and the tags of three lines that were looked up.
-pub fn id_at(block: &[u8], call_id: Found, local: Found, remote: Found) -> IdPart
+pub fn id_at(
+    block: &[u8],
+    call_id: Option<(Span, usize)>,
+    local: Option<(Span, usize)>,
+    remote: Option<(Span, usize)>,
+) -> Option<DialogId>
     requires { (end_of call_id ≤ length block.now) × (end_of local ≤ length block.now) × (end_of remote ≤ length block.now) }
     ensures { result ≡ id_from (identifier (value_at call_id block.now) (tag_in (value_at local block.now)) (tag_in (value_at remote block.now))) }
 {
-    let Found::At(c, _) = call_id else {
-        return IdPart::Nothing;
-    };
-    let Part::At(local_tag) = tag_at(block, local) else {
-        return IdPart::Nothing;
-    };
-    let Part::At(remote_tag) = tag_at(block, remote) else {
-        return IdPart::Nothing;
-    };
-    IdPart::At(DialogId {
+    let (c, _) = call_id?;
+    let local_tag = tag_at(block, local)?;
+    let remote_tag = tag_at(block, remote)?;
+    Some(DialogId {
         call_id: c,
         local_tag,
         remote_tag,
@@ -139,54 +114,50 @@ pub fn id_at(block: &[u8], call_id: Found, local: Found, remote: Found) -> IdPar
 }
 
 // The tag of a line that was looked up, where it stands in the block.
-fn tag_at(block: &[u8], line: Found) -> Part
+fn tag_at(block: &[u8], line: Option<(Span, usize)>) -> Option<Span>
     requires { end_of line ≤ length block.now }
     ensures { result ≡ part_of (tag_in (value_at line block.now)) }
 {
-    let Found::At(v, _) = line else {
-        return Part::Nothing;
-    };
+    let (v, _) = line?;
     let a = v.start;
     let e = a + v.length;
-    let Part::At(t) = find_tag(&block[a..e]) else {
-        return Part::Nothing;
-    };
-    Part::At(Span {
+    let t = find_tag(&block[a..e])?;
+    Some(Span {
         start: a + t.start,
         length: t.length,
     })
 }
 
 // The lengths of the three texts of an identifier: 1.
-pub fn check_lengths(call_id: &[u8], local_tag: &[u8], remote_tag: &[u8]) -> Check
+pub fn check_lengths(call_id: &[u8], local_tag: &[u8], remote_tag: &[u8]) -> Result<(), Refusal>
     ensures { result ≡ check_of (ident_cause rust_limits (ident call_id.now local_tag.now remote_tag.now)) }
 {
     if text::too_long(call_id) {
-        return Check::Refused(Refusal::TextTooLong);
+        return Err(Refusal::TextTooLong);
     }
     if text::too_long(local_tag) {
-        return Check::Refused(Refusal::TextTooLong);
+        return Err(Refusal::TextTooLong);
     }
     if text::too_long(remote_tag) {
-        return Check::Refused(Refusal::TextTooLong);
+        return Err(Refusal::TextTooLong);
     }
-    Check::Passed
+    Ok(())
 }
 
 // A part of an identifier, of at most `limit` bytes: 25, 26, 27.
-fn check_part(s: &[u8], limit: usize) -> Check
+fn check_part(s: &[u8], limit: usize) -> Result<(), Refusal>
     ensures { result ≡ check_of (part_cause limit s.now) }
 {
     if s.len() == 0 {
-        return Check::Refused(Refusal::IdentifierEmpty);
+        return Err(Refusal::IdentifierEmpty);
     }
     if limit < s.len() {
-        return Check::Refused(Refusal::IdentifierTooLong);
+        return Err(Refusal::IdentifierTooLong);
     }
     if !all_plain(s) {
-        return Check::Refused(Refusal::ControlCharacters);
+        return Err(Refusal::ControlCharacters);
     }
-    Check::Passed
+    Ok(())
 }
 
 // Whether no byte is a control character or over 126.

@@ -4,9 +4,10 @@ use native.Mathlib.Omega.{arith}
 use mathlib.Core.Path.{◌≡◌, refl, sym, ap, subst, ◌∙◌}
 use mathlib.Core.Bool.{Bool, true, false, cond}
 use mathlib.Core.List.{List, [], ◌∷◌}
-use mathlib.Core.Option.{Option, none, some, some-injective}
 use lib.ListN.{length, drop, length-drop, drop_of_length-le}
 use lib.Seq.{drop-drop, drop-append_seam}
+use Rattle.std.proofs.lemmas.Option.{same_Some}
+use Rattle.std.specs.Prelude.{None, Option, Some}
 use Rattle.text.specs.Text.{equal}
 use Rattle.codec.specs.Codec.{Reading, write_all}
 use Rattle.record.specs.Record.{Record, image}
@@ -26,34 +27,33 @@ use Rattle.store.proofs.WalkLaws.{Step, step}
 use Rattle.dialog_id.specs.Ident.{same_ident}
 use Rattle.book.specs.Book.{Book}
 use Rattle.dialog_manager.specs.Search.{named, of_call_id, Spot, first, found_of, found_in, Stored, IdsWithin, named_at, of_call_id_at}
-use Rattle.dialog_manager.specs.declared.finding.Found.TheVariants as found
 
 -- ---- records of bytes
 
 -- the records of a store, identifiers not compared
-whole : (s : List ℕ) (b : Book) → decode_all s ≡ some b → records_in (length s) s ≡ some b
+whole : (s : List ℕ) (b : Book) → decode_all s ≡ Some b → records_in (length s) s ≡ Some b
 unfolding decode_all
 whole s b e = by (records_in (length s) s) refl e
   where
-    is : (rs : List Record) (t : Bool) → cond t (some rs) none ≡ some b → some rs ≡ some b
+    is : (rs : List Record) (t : Bool) → cond t (Some rs) None ≡ Some b → Some rs ≡ Some b
     is rs true e = e
     is rs false e = absurd (let z : ◌≡◌ {A = ℕ} 0 1 = cc in omega arith)
 
-    by : (o : Option (List Record)) → records_in (length s) s ≡ o → only_distinct o ≡ some b → records_in (length s) s ≡ some b
-    by none q e = absurd (let z : ◌≡◌ {A = ℕ} 0 1 = cc in omega arith)
-    by (some rs) q e = q ∙ is rs (distinct rs) e
+    by : (o : Option (List Record)) → records_in (length s) s ≡ o → only_distinct o ≡ Some b → records_in (length s) s ≡ Some b
+    by None q e = absurd (let z : ◌≡◌ {A = ℕ} 0 1 = cc in omega arith)
+    by (Some rs) q e = q ∙ is rs (distinct rs) e
 
 -- no record in front
-not_broken : (fuel : ℕ) (t : List ℕ) (b : Book) → 0 < length t → records_in fuel t ≡ some b → image.read t ≡ none → ⊥
+not_broken : (fuel : ℕ) (t : List ℕ) (b : Book) → 0 < length t → records_in fuel t ≡ Some b → image.read t ≡ None → ⊥
 unfolding records_in
 not_broken fuel [] b h e n = omega (arith, h)
 not_broken zero (x ∷ t) b h e n = let z : ◌≡◌ {A = ℕ} 0 1 = cc in omega arith
 not_broken (suc fuel) (x ∷ t) b h e n =
-    let k : none ≡ some b = (rw n at e) in
+    let k : None ≡ Some b = (rw n at e) in
     let z : ◌≡◌ {A = ℕ} 0 1 = cc in omega arith
 
 -- no bytes left
-ended : (fuel : ℕ) (b : Book) → records_in fuel [] ≡ some b → [] ≡ b
+ended : (fuel : ℕ) (b : Book) → records_in fuel [] ≡ Some b → [] ≡ b
 unfolding records_in
 ended zero b e = cc
 ended (suc fuel) b e = cc
@@ -61,18 +61,18 @@ ended (suc fuel) b e = cc
 -- the first, then the others
 pub record Others (fuel : ℕ) (x : Reading Record) (b : Book) : Type 0 where
   pub rest : Book
-  pub are : records_in (fuel - 1) x.rest ≡ some rest
+  pub are : records_in (fuel - 1) x.rest ≡ Some rest
   pub all : b ≡ x.value ∷ rest
 
-others : (fuel : ℕ) (t : List ℕ) (b : Book) (x : Reading Record) → 0 < length t → length t ≤ fuel → records_in fuel t ≡ some b → image.read t ≡ some x → Others fuel x b
+others : (fuel : ℕ) (t : List ℕ) (b : Book) (x : Reading Record) → 0 < length t → length t ≤ fuel → records_in fuel t ≡ Some b → image.read t ≡ Some x → Others fuel x b
 unfolding records_in
 others fuel [] b x h l e r = absurd (let z : 0 < 0 = h in omega arith)
 others zero (y ∷ t) b x h l e r = absurd (let z : suc (length t) ≤ 0 = l in omega arith)
 others (suc fuel) (y ∷ t) b x h l e r = by (records_in fuel x.rest) refl (rw r at e)
   where
-    by : (o : Option (List Record)) → records_in fuel x.rest ≡ o → record_before x.value o ≡ some b → Others (suc fuel) x b
-    by none q e = absurd (let z : ◌≡◌ {A = ℕ} 0 1 = cc in omega arith)
-    by (some rs) q e =
+    by : (o : Option (List Record)) → records_in fuel x.rest ≡ o → record_before x.value o ≡ Some b → Others (suc fuel) x b
+    by None q e = absurd (let z : ◌≡◌ {A = ℕ} 0 1 = cc in omega arith)
+    by (Some rs) q e =
         let k : suc fuel - 1 ≡ fuel = omega arith in
         record { rest = rs; are = ap (λ (n : ℕ). records_in n x.rest) k ∙ q; all = cc }
 
@@ -84,7 +84,7 @@ pub record Left (test : Record → Bool) (s : List ℕ) (at : ℕ) : Type 0 wher
   pub fuel : ℕ
   pub enough : length s - at ≤ fuel
   pub here : at ≤ length s
-  pub are : records_in fuel (drop at s) ≡ some rest
+  pub are : records_in fuel (drop at s) ≡ Some rest
   pub same : found_in test (decode_all s) ≡ found_of (first test at rest)
 
 pub start : (test : Record → Bool) (s : List ℕ) → Stored s → Left test s 0
@@ -98,7 +98,7 @@ start test s k = record {
 }
 
 module _ (test : Record → Bool) (s : List ℕ) (at : ℕ) (g : Left test s at) where
-  pub nothing : length s ≤ at → found.Nothing ≡ found_in test (decode_all s)
+  pub nothing : length s ≤ at → None ≡ found_in test (decode_all s)
   unfolding first
   nothing h =
       let k : [] ≡ g.rest = ended g.fuel g.rest (ap (records_in g.fuel) (sym (drop_of_length-le s h)) ∙ g.are) in
@@ -108,7 +108,7 @@ module _ (test : Record → Bool) (s : List ℕ) (at : ℕ) (g : Left test s at)
     filled : 0 < length (drop at s)
     filled = omega (arith, length-drop at s)
 
-    pub unbroken : image.read (drop at s) ≡ none → ⊥
+    pub unbroken : image.read (drop at s) ≡ None → ⊥
     unbroken e = not_broken g.fuel (drop at s) g.rest filled g.are e
 
     -- a record stands there
@@ -116,20 +116,20 @@ module _ (test : Record → Bool) (s : List ℕ) (at : ℕ) (g : Left test s at)
     stands = by (image.read (drop at s)) refl
       where
         by : (o : Option (Reading Record)) → image.read (drop at s) ≡ o → At s at
-        by none q = absurd (unbroken q)
-        by (some x) q = record { reading = x; reads = q }
+        by None q = absurd (unbroken q)
+        by (Some x) q = record { reading = x; reads = q }
 
     module _ (p : RecordAt) (r : Step s at p) where
       after : Others g.fuel (record { value = r.value; rest = drop p.end s }) g.rest
       after = others g.fuel (drop at s) g.rest (record { value = r.value; rest = drop p.end s }) filled (omega (arith, g.enough, length-drop at s)) g.are r.reads
 
-      split : found_in test (decode_all s) ≡ found_of (cond (test r.value) (some (record { place = at; value = r.value })) (first test (at + length (image.write r.value)) after.rest))
+      split : found_in test (decode_all s) ≡ found_of (cond (test r.value) (Some (record { place = at; value = r.value })) (first test (at + length (image.write r.value)) after.rest))
       unfolding first
       split = g.same ∙ ap (λ (b : Book). found_of (first test at b)) after.all
 
-      pub met : p ≡ record_places at r.value → test r.value ≡ true → found.At at p ≡ found_in test (decode_all s)
+      pub met : p ≡ record_places at r.value → test r.value ≡ true → ◌≡◌ {A = Option (ℕ × RecordAt)} (Some (at, p)) (found_in test (decode_all s))
       met w e =
-          ap (found.At at) w ∙ sym (split ∙ ap (λ (t : Bool). found_of (cond t (some (record { place = at; value = r.value })) (first test (at + length (image.write r.value)) after.rest))) e)
+          ap (λ (x : RecordAt). Some (at, x)) w ∙ sym (split ∙ ap (λ (t : Bool). found_of (cond t (Some (record { place = at; value = r.value })) (first test (at + length (image.write r.value)) after.rest))) e)
 
       pub passed_by : test r.value ≡ false → Left test s p.end
       passed_by e = record {
@@ -139,7 +139,7 @@ module _ (test : Record → Bool) (s : List ℕ) (at : ℕ) (g : Left test s at)
         here = r.within;
         are = after.are;
         same = split
-            ∙ ap (λ (t : Bool). found_of (cond t (some (record { place = at; value = r.value })) (first test (at + length (image.write r.value)) after.rest))) e
+            ∙ ap (λ (t : Bool). found_of (cond t (Some (record { place = at; value = r.value })) (first test (at + length (image.write r.value)) after.rest))) e
             ∙ ap (λ (n : ℕ). found_of (first test n after.rest)) (sym r.ends);
       }
 
@@ -152,12 +152,12 @@ pub record Turn (s : List ℕ) (at : ℕ) (p : RecordAt) : Type 0 where
 pub turn : (s : List ℕ) (at : ℕ) {p : RecordAt} → Bytes s → at ≤ length s → RecordGot s at p → Turn s at p
 turn s at {p} b h g =
     let r = step s at b h g in
-    let v : g.value ≡ r.value = ap (λ (x : Reading Record). x.value) (some-injective _ _ (sym g.got.reads ∙ r.reads)) in
+    let v : g.value ≡ r.value = ap (λ (x : Reading Record). x.value) (same_Some _ _ (sym g.got.reads ∙ r.reads)) in
     record { step = r; placed = g.placed ∙ ap (record_places at) v }
 
 -- one record is read at a place
 pub one_record_lem : (s : List ℕ) (at : ℕ) {p q : RecordAt} (t : Turn s at p) (u : Turn s at q) → t.step.value ≡ u.step.value
-one_record_lem s at t u = ap (λ (x : Reading Record). x.value) (some-injective _ _ (sym t.step.reads ∙ u.step.reads))
+one_record_lem s at t u = ap (λ (x : Reading Record). x.value) (same_Some _ _ (sym t.step.reads ∙ u.step.reads))
 
 -- the record that stands at a place, and where its image ends
 module _ (s : List ℕ) (at : ℕ) (b : Bytes s) (h : at ≤ length s) (x : At s at) where
@@ -170,7 +170,7 @@ module _ (s : List ℕ) (at : ℕ) (b : Bytes s) (h : at ≤ length s) (x : At s
   pub its_end : end_at s at ≡ places.end
   unfolding end_at
   its_end =
-      let v : standing.step.value ≡ x.reading.value = ap (λ (y : Reading Record). y.value) (some-injective _ _ (sym standing.step.reads ∙ x.reads)) in
+      let v : standing.step.value ≡ x.reading.value = ap (λ (y : Reading Record). y.value) (same_Some _ _ (sym standing.step.reads ∙ x.reads)) in
       let e : end_at s at ≡ at + length (image.write x.reading.value) = rw x.reads in
       e ∙ sym (standing.step.ends ∙ ap (λ (r : Record). at + length (image.write r)) v)
 
@@ -209,9 +209,9 @@ module _ (s : List ℕ) (i : IdsAt) (c l r : List ℕ) where
 
 pub record Reads (s : List ℕ) (x : Spot) : Type 0 where
   pub rest : List ℕ
-  pub reads : image.read (drop x.place s) ≡ some (record { value = x.value; rest = rest })
+  pub reads : image.read (drop x.place s) ≡ Some (record { value = x.value; rest = rest })
 
-spot_of : (test : Record → Bool) (s : List ℕ) (at : ℕ) (b : Book) (x : Spot) → drop at s ≡ encode_all b → EachFormed b → first test at b ≡ some x → Reads s x
+spot_of : (test : Record → Bool) (s : List ℕ) (at : ℕ) (b : Book) (x : Spot) → drop at s ≡ encode_all b → EachFormed b → first test at b ≡ Some x → Reads s x
 unfolding first write_all
 spot_of test s at [] x d w e = absurd (let z : ◌≡◌ {A = ℕ} 0 1 = cc in omega arith)
 spot_of test s at (r ∷ b) x d w e = by (test r) e (spot_of test s (at + length (image.write r)) b x past w.1)
@@ -219,12 +219,12 @@ spot_of test s at (r ∷ b) x d w e = by (test r) e (spot_of test s (at + length
     past : drop (at + length (image.write r)) s ≡ write_all image b
     past = sym (drop-drop (length (image.write r)) at s) ∙ ap (drop (length (image.write r))) d ∙ drop-append_seam (image.write r) (write_all image b)
 
-    by : (t : Bool) → cond t (some (record { place = at; value = r })) (first test (at + length (image.write r)) b) ≡ some x
-        → (first test (at + length (image.write r)) b ≡ some x → Reads s x) → Reads s x
+    by : (t : Bool) → cond t (Some (record { place = at; value = r })) (first test (at + length (image.write r)) b) ≡ Some x
+        → (first test (at + length (image.write r)) b ≡ Some x → Reads s x) → Reads s x
     by true e more =
-        let k : record { place = at; value = r } ≡ x = some-injective _ _ e in
+        let k : record { place = at; value = r } ≡ x = same_Some _ _ e in
         subst (Reads s) k (record { rest = write_all image b; reads = ap image.read d ∙ image_round r w.0 (write_all image b) })
     by false e more = more e
 
-pub spot_reads : (test : Record → Bool) (s : List ℕ) (k : Stored s) (x : Spot) → Bytes s → first test 0 k.records ≡ some x → Reads s x
+pub spot_reads : (test : Record → Bool) (s : List ℕ) (k : Stored s) (x : Spot) → Bytes s → first test 0 k.records ≡ Some x → Reads s x
 spot_reads test s k x h e = let d = decoded s k.records h k.are in spot_of test s 0 k.records x d.0 d.1 e

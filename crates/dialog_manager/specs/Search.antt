@@ -1,17 +1,14 @@
 -- Steps of the code: the first record of a name in a store, and where its image lies. Document 01, "A request arrives": `find_by_call_id` gives the first in
 -- the store; an identifier has one record at most.
-use Rattle.std.specs.Prelude.{ℕ, ◌+◌, ◌≤◌, ◌≡◌, Bool, cond, ◌&&◌, List, [], ◌∷◌, length, drop}
-use Rattle.std.proofs.Math.Option.{Option, none, some}
+use Rattle.std.specs.Prelude.{ℕ, ◌+◌, ◌≤◌, ◌≡◌, Bool, cond, ◌&&◌, List, [], ◌∷◌, length, drop, None, Option, Some}
 use Rattle.text.specs.Text.{equal}
 use Rattle.record.specs.Record.{Record, image}
 use Rattle.image.specs.Places.{record_places, record_from}
-use Rattle.image.specs.declared.RecordReading.TheVariants.{Whole}
+use Rattle.image.specs.declared.RecordAt.{RecordAt}
 use Rattle.image.specs.declared.sections.IdsAt.{IdsAt}
 use Rattle.text.specs.Spans.{part_in}
 use Rattle.record.specs.Store.{decode_all}
 use Rattle.book.specs.Book.{Book, is_of, first_place}
-use Rattle.dialog_manager.specs.declared.finding.Found.{Found}
-use Rattle.dialog_manager.specs.declared.finding.Found.TheVariants as found
 
 -- the record's identifier is these three texts
 abbrev pub named : List ℕ → List ℕ → List ℕ → Record → Bool
@@ -27,28 +24,28 @@ pub record Spot : Type 0 where
   pub value : Record
 
 unfoldable pub first : (Record → Bool) → ℕ → Book → Option Spot
-first test at [] = none
-first test at (r ∷ b) = cond (test r) (some (record { place = at; value = r })) (first test (at + length (image.write r)) b)
+first test at [] = None
+first test at (r ∷ b) = cond (test r) (Some (record { place = at; value = r })) (first test (at + length (image.write r)) b)
 
-abbrev pub found_of : Option Spot → Found
-found_of none = found.Nothing
-found_of (some x) = found.At x.place (record_places x.place x.value)
+abbrev pub found_of : Option Spot → Option (ℕ × RecordAt)
+found_of None = None
+found_of (Some x) = Some (x.place, record_places x.place x.value)
 
-abbrev pub found_in : (Record → Bool) → Option Book → Found
-found_in test none = found.Nothing
-found_in test (some b) = found_of (first test first_place b)
+abbrev pub found_in : (Record → Bool) → Option Book → Option (ℕ × RecordAt)
+found_in test None = None
+found_in test (Some b) = found_of (first test first_place b)
 
 -- ---- steps of the code
 
 -- the bytes are read as a store
 pub record Stored (s : List ℕ) : Type 0 where
   pub records : Book
-  pub are : decode_all s ≡ some records
+  pub are : decode_all s ≡ Some records
 
 -- the record that was found is what is read at its place
-abbrev pub Stands : List ℕ → Found → Type 0
-Stands s (found.At at r) = (at ≤ length s) × (record_from at (image.read (drop at s)) ≡ Whole r)
-Stands s found.Nothing = Unit {0}
+abbrev pub Stands : List ℕ → Option (ℕ × RecordAt) → Type 0
+Stands s (Some (at, r)) = (at ≤ length s) × (record_from at (image.read (drop at s)) ≡ Some r)
+Stands s None = Unit {0}
 
 abbrev pub IdsWithin : List ℕ → IdsAt → Type 0
 IdsWithin s i =

@@ -5,20 +5,18 @@ ghost use Rattle.text.specs.Spans.{part_in};
 ghost use Rattle.record.specs.Store.{decode_all};
 ghost use Rattle.dialog_manager.specs.Search.{named, of_call_id, named_at, of_call_id_at, IdsWithin, Stored, found_in, Stands};
 
-use image::{IdsAt, RecordAt, RecordReading};
+use image::{IdsAt, RecordAt};
 use record_walk::record_end;
 use store::ids_at;
 use text::Span;
 
-// Where its image begins, and its parts.
-#[derive(Clone, Copy)]
-pub enum Found {
-    At(usize, RecordAt),
-    Nothing,
-}
-
 // By the identifier. The bytes are those of a store that was read.
-pub fn search_id(bytes: &[u8], call_id: &[u8], local_tag: &[u8], remote_tag: &[u8]) -> Found
+pub fn search_id(
+    bytes: &[u8],
+    call_id: &[u8],
+    local_tag: &[u8],
+    remote_tag: &[u8],
+) -> Option<(usize, RecordAt)>
     requires { Stored bytes.now }
     ensures value { result ≡ found_in (named call_id.now local_tag.now remote_tag.now) (decode_all bytes.now) }
     ensures stands { Stands bytes.now result }
@@ -27,18 +25,16 @@ pub fn search_id(bytes: &[u8], call_id: &[u8], local_tag: &[u8], remote_tag: &[u
     while at < bytes.len() {
         let ids = ids_at(bytes, at);
         if is_named(bytes, ids, call_id, local_tag, remote_tag) {
-            let RecordReading::Whole(r) = image::read_record(bytes, at) else {
-                return Found::Nothing;
-            };
-            return Found::At(at, r);
+            let r = image::read_record(bytes, at)?;
+            return Some((at, r));
         }
         at = record_end(bytes, at);
     }
-    Found::Nothing
+    None
 }
 
 // By the Call-ID alone.
-pub fn search_call_id(bytes: &[u8], call_id: &[u8]) -> Found
+pub fn search_call_id(bytes: &[u8], call_id: &[u8]) -> Option<(usize, RecordAt)>
     requires { Stored bytes.now }
     ensures value { result ≡ found_in (of_call_id call_id.now) (decode_all bytes.now) }
     ensures stands { Stands bytes.now result }
@@ -47,14 +43,12 @@ pub fn search_call_id(bytes: &[u8], call_id: &[u8]) -> Found
     while at < bytes.len() {
         let ids = ids_at(bytes, at);
         if is_of_call_id(bytes, ids, call_id) {
-            let RecordReading::Whole(first) = image::read_record(bytes, at) else {
-                return Found::Nothing;
-            };
-            return Found::At(at, first);
+            let first = image::read_record(bytes, at)?;
+            return Some((at, first));
         }
         at = record_end(bytes, at);
     }
-    Found::Nothing
+    None
 }
 
 // The texts at these places are the identifier's.

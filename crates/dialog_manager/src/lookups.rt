@@ -5,49 +5,50 @@ ghost use Rattle.book.specs.Calls.{read, find_by_request, find_by_call_id};
 ghost use Rattle.book.specs.Store.{run};
 ghost use Rattle.dialog_manager.specs.Lookups.{getting, answer_in};
 
-use crate::placing::{Place, place_of, place_of_call_id, place_of_request};
-use dialog_id::{IdPart, check_lengths, request_id};
-use limits::{Check, Refusal};
-use store::Held;
+use crate::placing::{place_of, place_of_call_id, place_of_request};
+use dialog_id::{check_lengths, request_id};
+use limits::Refusal;
 
 // DialogManager::get: 1, 3, 15.
-pub fn get(call_id: &[u8], local_tag: &[u8], remote_tag: &[u8], bytes: &[u8], used: usize) -> Place
+pub fn get(
+    call_id: &[u8],
+    local_tag: &[u8],
+    remote_tag: &[u8],
+    bytes: &[u8],
+    used: usize,
+) -> Result<(usize, usize), Refusal>
     ensures { answer_in result ≡ (run rust_limits (read (length bytes.now) (getting call_id.now local_tag.now remote_tag.now)) bytes.now used).answer }
 {
-    if let Check::Refused(x) = check_lengths(call_id, local_tag, remote_tag) {
-        return Place::Refused(x);
-    }
-    let Held::Records(_) = store::count(bytes, used) else {
-        return Place::Refused(Refusal::BadStore);
+    check_lengths(call_id, local_tag, remote_tag)?;
+    let Ok(_) = store::count(bytes, used) else {
+        return Err(Refusal::BadStore);
     };
     place_of(&bytes[..used], call_id, local_tag, remote_tag)
 }
 
 // DialogManager::find_by_call_id: 1, 3, 15. The first in the store.
-pub fn find_by_call_id(call_id: &[u8], bytes: &[u8], used: usize) -> Place
+pub fn find_by_call_id(call_id: &[u8], bytes: &[u8], used: usize) -> Result<(usize, usize), Refusal>
     ensures { answer_in result ≡ (run rust_limits (read (length bytes.now) (find_by_call_id call_id.now)) bytes.now used).answer }
 {
     if text::too_long(call_id) {
-        return Place::Refused(Refusal::TextTooLong);
+        return Err(Refusal::TextTooLong);
     }
-    let Held::Records(_) = store::count(bytes, used) else {
-        return Place::Refused(Refusal::BadStore);
+    let Ok(_) = store::count(bytes, used) else {
+        return Err(Refusal::BadStore);
     };
     place_of_call_id(&bytes[..used], call_id)
 }
 
 // DialogManager::find_by_request: 1, 2, 3, 15, the last where a part of the identifier can't be read too. A request from the peer has From as remote tag.
-pub fn find_by_request(block: &[u8], bytes: &[u8], used: usize) -> Place
+pub fn find_by_request(block: &[u8], bytes: &[u8], used: usize) -> Result<(usize, usize), Refusal>
     ensures { answer_in result ≡ (run rust_limits (read (length bytes.now) (find_by_request block.now)) bytes.now used).answer }
 {
-    if let Check::Refused(x) = msg::check_block(block) {
-        return Place::Refused(x);
-    }
-    let Held::Records(_) = store::count(bytes, used) else {
-        return Place::Refused(Refusal::BadStore);
+    msg::check_block(block)?;
+    let Ok(_) = store::count(bytes, used) else {
+        return Err(Refusal::BadStore);
     };
-    let IdPart::At(i) = request_id(block) else {
-        return Place::Refused(Refusal::NotFound);
+    let Some(i) = request_id(block) else {
+        return Err(Refusal::NotFound);
     };
     place_of_request(block, i, &bytes[..used])
 }

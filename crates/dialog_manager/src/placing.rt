@@ -5,41 +5,39 @@ ghost use Rattle.record.specs.Store.{decode_all};
 ghost use Rattle.dialog_manager.specs.Search.{named, of_call_id, Stored};
 ghost use Rattle.dialog_manager.specs.Lookups.{answer_in, place_in};
 
-use crate::finding::{Found, search_call_id, search_id};
+use crate::finding::{search_call_id, search_id};
 use dialog_id::DialogId;
 use limits::Refusal;
 
-// Where the record's image lies, and its length.
-#[derive(Clone, Copy)]
-pub enum Place {
-    At(usize, usize),
-    Refused(Refusal),
-}
-
 // By the identifier: 15.
-pub fn place_of(bytes: &[u8], call_id: &[u8], local_tag: &[u8], remote_tag: &[u8]) -> Place
+pub fn place_of(
+    bytes: &[u8],
+    call_id: &[u8],
+    local_tag: &[u8],
+    remote_tag: &[u8],
+) -> Result<(usize, usize), Refusal>
     requires { Stored bytes.now }
     ensures { answer_in result ≡ place_in (named call_id.now local_tag.now remote_tag.now) (decode_all bytes.now) }
 {
-    let Found::At(at, r) = search_id(bytes, call_id, local_tag, remote_tag) else {
-        return Place::Refused(Refusal::NotFound);
+    let Some((at, r)) = search_id(bytes, call_id, local_tag, remote_tag) else {
+        return Err(Refusal::NotFound);
     };
-    Place::At(at, r.end - at)
+    Ok((at, r.end - at))
 }
 
 // By the Call-ID alone: 15.
-pub fn place_of_call_id(bytes: &[u8], call_id: &[u8]) -> Place
+pub fn place_of_call_id(bytes: &[u8], call_id: &[u8]) -> Result<(usize, usize), Refusal>
     requires { Stored bytes.now }
     ensures { answer_in result ≡ place_in (of_call_id call_id.now) (decode_all bytes.now) }
 {
-    let Found::At(at, r) = search_call_id(bytes, call_id) else {
-        return Place::Refused(Refusal::NotFound);
+    let Some((at, r)) = search_call_id(bytes, call_id) else {
+        return Err(Refusal::NotFound);
     };
-    Place::At(at, r.end - at)
+    Ok((at, r.end - at))
 }
 
 // By the identifier that was read from a request; its local tag is the record's remote one: 15.
-pub fn place_of_request(block: &[u8], i: DialogId, bytes: &[u8]) -> Place
+pub fn place_of_request(block: &[u8], i: DialogId, bytes: &[u8]) -> Result<(usize, usize), Refusal>
     requires call_id_in_bounds { (i.call_id.start + i.call_id.length ≤ length block.now) × (i.local_tag.start + i.local_tag.length ≤ length block.now) × (i.remote_tag.start + i.remote_tag.length ≤ length block.now) }
     requires stored { Stored bytes.now }
     ensures { answer_in result ≡ place_in (named (part_in block.now i.call_id) (part_in block.now i.remote_tag) (part_in block.now i.local_tag)) (decode_all bytes.now) }

@@ -1,7 +1,7 @@
 // Dialog::update_from_request.
 #![tactic(auto)]
 
-ghost use Rattle.std.specs.Prelude.{◌≡◌, ◌≤◌, length, take};
+ghost use Rattle.std.specs.Prelude.{◌≡◌, ◌≤◌, length, take, Some};
 ghost use Rattle.limits.specs.Limits.{rust_limits};
 ghost use Rattle.msg.specs.Block.{lines_of, first_named, found_of};
 ghost use Rattle.route_set.specs.Routes.{contact_name};
@@ -9,35 +9,34 @@ ghost use Rattle.prack_headers.specs.Sequence.{cseq_name};
 ghost use Rattle.output.specs.Output.{leaves, written_from};
 ghost use Rattle.record.specs.NumbersForm.{kind_in};
 ghost use Rattle.image.specs.Places.{record_from};
-ghost use Rattle.image.specs.declared.RecordReading.TheVariants.{Whole};
 ghost use Rattle.image_edit.specs.Changes.{read_at};
 ghost use Rattle.dialog_rules.specs.Updates.{kind_of, request_update};
 ghost use Rattle.dialog_updates.specs.AtPlace.{stepped};
 ghost use Rattle.dialog_updates.specs.Messages.{requested};
 
-use dialog::ImageAnswer;
 use dialog_changes::read_used;
 use dialog_updates::revise_to;
 use image::RecordAt;
-use limits::{Check, Refusal};
-use msg::Found;
-use output::Written;
-use record::{Method, Step};
-use text::Number;
+use limits::Refusal;
+use record::Method;
+use text::Span;
 
 // On one record, given as its image with room behind it: 1, 2, 3, 4, 9; ACK: 11; others: 10, 11, 12; 18. Answers the image's new length.
-pub fn update_from_request(method: &[u8], block: &[u8], bytes: &mut [u8], used: usize) -> Written
+pub fn update_from_request(
+    method: &[u8],
+    block: &[u8],
+    bytes: &mut [u8],
+    used: usize,
+) -> Result<usize, Refusal>
     ensures value { result ≡ written_from (requested rust_limits method.now block.now bytes.old used) }
     ensures bytes_after { bytes.new ≡ leaves (requested rust_limits method.now block.now bytes.old used) bytes.old }
 {
     if text::too_long(method) {
-        return Written::Refused(Refusal::TextTooLong);
+        return Err(Refusal::TextTooLong);
     }
-    if let Check::Refused(x) = msg::check_block(block) {
-        return Written::Refused(x);
-    }
-    let ImageAnswer::Of(r) = read_used(bytes, used) else {
-        return Written::Refused(Refusal::BadStore);
+    msg::check_block(block)?;
+    let Ok(r) = read_used(bytes, used) else {
+        return Err(Refusal::BadStore);
     };
     request_at(bytes, used, 0, r, method, block)
 }
@@ -51,9 +50,9 @@ pub fn request_at(
     r: RecordAt,
     method: &[u8],
     block: &[u8],
-) -> Written
+) -> Result<usize, Refusal>
     requires used_in_bounds { (used ≤ length bytes.old) × (at ≤ used) × (length block.now ≤ 8192) }
-    requires bytes_value { record_from at (read_at at (take used bytes.old)) ≡ Whole r }
+    requires bytes_value { record_from at (read_at at (take used bytes.old)) ≡ Some r }
     ensures value { result ≡ written_from (stepped (request_update rust_limits (kind_of method.now) block.now) (length bytes.old) at (take used bytes.old)) }
     ensures bytes_after { bytes.new ≡ leaves (stepped (request_update rust_limits (kind_of method.now) block.now) (length bytes.old) at (take used bytes.old)) bytes.old }
 {
@@ -70,25 +69,21 @@ pub fn request_by(
     r: RecordAt,
     method: &[u8],
     block: &[u8],
-    cseq: Found,
-    contact: Found,
-) -> Written
+    cseq: Option<(Span, usize)>,
+    contact: Option<(Span, usize)>,
+) -> Result<usize, Refusal>
     requires used_in_bounds { (used ≤ length bytes.old) × (at ≤ used) × (length block.now ≤ 8192) × (cseq ≡ found_of (first_named cseq_name (lines_of block.now))) × (contact ≡ found_of (first_named contact_name (lines_of block.now))) }
-    requires bytes_value { record_from at (read_at at (take used bytes.old)) ≡ Whole r }
+    requires bytes_value { record_from at (read_at at (take used bytes.old)) ≡ Some r }
     ensures value { result ≡ written_from (stepped (request_update rust_limits (kind_of method.now) block.now) (length bytes.old) at (take used bytes.old)) }
     ensures bytes_after { bytes.new ≡ leaves (stepped (request_update rust_limits (kind_of method.now) block.now) (length bytes.old) at (take used bytes.old)) bytes.old }
 {
-    let Number::Value(n) = prack_headers::cseq_at(block, cseq) else {
-        return Written::Refused(Refusal::MissingHeader);
+    let Some(n) = prack_headers::cseq_at(block, cseq) else {
+        return Err(Refusal::MissingHeader);
     };
     let numbers = r.numbers;
-    match numbers.request(kind_of(method), n) {
-        Step::Taken(x) => {
-            let target = route_set::contact_at(block, contact);
-            revise_to(bytes, used, at, r, x, block, target)
-        }
-        Step::Refused(cause) => Written::Refused(cause),
-    }
+    let x = numbers.request(kind_of(method), n)?;
+    let target = route_set::contact_at(block, contact);
+    revise_to(bytes, used, at, r, x, block, target)
 }
 
 // `ACK`, exactly those letters, or any other method.

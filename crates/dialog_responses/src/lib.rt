@@ -1,41 +1,40 @@
 // Dialog::update_from_response.
 #![tactic(auto)]
 
-ghost use Rattle.std.specs.Prelude.{◌≡◌, ◌≤◌, length, take};
+ghost use Rattle.std.specs.Prelude.{◌≡◌, ◌≤◌, length, take, Ok, Some};
 ghost use Rattle.limits.specs.Limits.{rust_limits};
-ghost use Rattle.limits.specs.Outcome.{given};
 ghost use Rattle.output.specs.Output.{fitted, leaves, written_from};
 ghost use Rattle.headers.specs.SessionExpires.{expires_named};
 ghost use Rattle.route_set.specs.Routes.{routes_of};
 ghost use Rattle.record.specs.Changes.{with_numbers, with_routes};
 ghost use Rattle.record.specs.NumbersForm.{meaning, state_in, side_in};
 ghost use Rattle.image.specs.Places.{record_from};
-ghost use Rattle.image.specs.declared.RecordReading.TheVariants.{Whole};
 ghost use Rattle.image_edit.specs.Changes.{read_at, changed};
 ghost use Rattle.dialog_rules.specs.Updates.{retargeted, confirms, routes_or, side_of, interval_from, answered, response_update};
 ghost use Rattle.dialog_updates.specs.AtPlace.{stepped};
 ghost use Rattle.dialog_updates.specs.Messages.{responded};
 
-use dialog::ImageAnswer;
 use dialog_changes::read_used;
 use dialog_updates::{renew, revise};
-use headers::{Expires, Refresher};
+use headers::Refresher;
 use image::RecordAt;
-use limits::{Check, Refusal};
-use output::Written;
-use record::{Numbers, Optional, State};
-use route_section::{Section, measure_routes};
+use limits::Refusal;
+use record::{Numbers, State};
+use route_section::measure_routes;
 
 // On one record, given as its image with room behind it: 1, 2, 3, 18. Answers the image's new length.
-pub fn update_from_response(status: u16, block: &[u8], bytes: &mut [u8], used: usize) -> Written
+pub fn update_from_response(
+    status: u16,
+    block: &[u8],
+    bytes: &mut [u8],
+    used: usize,
+) -> Result<usize, Refusal>
     ensures value { result ≡ written_from (responded rust_limits status block.now bytes.old used) }
     ensures bytes_after { bytes.new ≡ leaves (responded rust_limits status block.now bytes.old used) bytes.old }
 {
-    if let Check::Refused(x) = msg::check_block(block) {
-        return Written::Refused(x);
-    }
-    let ImageAnswer::Of(r) = read_used(bytes, used) else {
-        return Written::Refused(Refusal::BadStore);
+    msg::check_block(block)?;
+    let Ok(r) = read_used(bytes, used) else {
+        return Err(Refusal::BadStore);
     };
     response_at(bytes, used, 0, r, status, block)
 }
@@ -48,11 +47,11 @@ pub fn response_at(
     r: RecordAt,
     status: u16,
     block: &[u8],
-) -> Written
+) -> Result<usize, Refusal>
     requires used_in_bounds { (used ≤ length bytes.old) × (at ≤ used) × (length block.now ≤ 8192) }
-    requires bytes_value { record_from at (read_at at (take used bytes.old)) ≡ Whole r }
-    ensures value { result ≡ written_from (stepped (λ v. given (response_update rust_limits status block.now v)) (length bytes.old) at (take used bytes.old)) }
-    ensures bytes_after { bytes.new ≡ leaves (stepped (λ v. given (response_update rust_limits status block.now v)) (length bytes.old) at (take used bytes.old)) bytes.old }
+    requires bytes_value { record_from at (read_at at (take used bytes.old)) ≡ Some r }
+    ensures value { result ≡ written_from (stepped (λ v. Ok (response_update rust_limits status block.now v)) (length bytes.old) at (take used bytes.old)) }
+    ensures bytes_after { bytes.new ≡ leaves (stepped (λ v. Ok (response_update rust_limits status block.now v)) (length bytes.old) at (take used bytes.old)) bytes.old }
 {
     let numbers = r.numbers;
     let state = numbers.state;
@@ -71,13 +70,13 @@ fn confirm_at(
     r: RecordAt,
     numbers: Numbers,
     block: &[u8],
-) -> Written
+) -> Result<usize, Refusal>
     requires used_in_bounds { (used ≤ length bytes.old) × (at ≤ used) × (length block.now ≤ 8192) }
-    requires bytes_value { record_from at (read_at at (take used bytes.old)) ≡ Whole r }
+    requires bytes_value { record_from at (read_at at (take used bytes.old)) ≡ Some r }
     ensures value { result ≡ written_from (fitted (length bytes.old) (changed (λ v. retargeted block.now (with_numbers (meaning numbers) (with_routes (routes_or v.routes (routes_of rust_limits block.now)) v))) at (take used bytes.old))) }
     ensures bytes_after { bytes.new ≡ leaves (fitted (length bytes.old) (changed (λ v. retargeted block.now (with_numbers (meaning numbers) (with_routes (routes_or v.routes (routes_of rust_limits block.now)) v))) at (take used bytes.old))) bytes.old }
 {
-    let Section::Of(count, size) = measure_routes(block) else {
+    let Ok((count, size)) = measure_routes(block) else {
         return revise(bytes, used, at, r, numbers, block);
     };
     if count == 0 {
@@ -100,7 +99,7 @@ fn answer(x: Numbers, status: u16, block: &[u8]) -> Numbers
 fn with_interval(x: Numbers, block: &[u8]) -> Numbers
     ensures { meaning result ≡ interval_from (expires_named block.now) (meaning x) }
 {
-    let Expires::Of(seconds, refresher) = headers::expires_named(block) else {
+    let Some((seconds, refresher)) = headers::expires_named(block) else {
         return x;
     };
     let state = x.state;
@@ -111,7 +110,7 @@ fn with_interval(x: Numbers, block: &[u8]) -> Numbers
         local: x.local,
         remote: x.remote,
         last_ack,
-        seconds: Optional::Number(seconds),
+        seconds: Some(seconds),
         refresher: who,
     }
 }

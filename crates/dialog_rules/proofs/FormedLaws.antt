@@ -4,10 +4,11 @@ use native.Mathlib.Omega.{arith}
 use mathlib.Core.Path.{◌≡◌, refl, sym, subst}
 use mathlib.Core.Bool.{Bool, true, false, cond}
 use mathlib.Core.List.{List, [], ◌∷◌}
-use mathlib.Core.Option.{Option, none, some}
 use lib.ListN.{length}
+use Rattle.limits.specs.declared.Refusal.{Refusal}
+use Rattle.std.specs.Prelude.{Err, None, Ok, Option, Result, Some}
 use Rattle.limits.specs.Limits.{LimitSet}
-use Rattle.limits.specs.Outcome.{Outcome, refused, given, and_then}
+use Rattle.limits.specs.Outcome.{and_then}
 use Rattle.text.specs.Text.{Piece}
 use Rattle.headers.specs.SessionExpires.{Interval, expires_named}
 use Rattle.route_set.specs.Routes.{contact_of, routes_of}
@@ -58,16 +59,16 @@ pub read_formed : (block : List ℕ) (x : Numbers) → FormedNumbers x → Forme
 read_formed block x f = by (expires_named block) refl
   where
     by : (o : Option Interval) → expires_named block ≡ o → FormedNumbers (interval_from o x)
-    by none e = f
-    by (some i) e = record { local = f.local; remote = f.remote; last_ack = f.last_ack; seconds = expires_below block i e }
+    by None e = f
+    by (Some i) e = record { local = f.local; remote = f.remote; last_ack = f.last_ack; seconds = expires_below block i e }
 
 -- a new target is the Contact's URI or the old target
 pub contact_formed : (old block : List ℕ) → length block < 65536 → UriPart old → UriPart (text_or old (contact_of block))
 contact_formed old block h w = by (contact_of block) refl
   where
     by : (o : Option Piece) → contact_of block ≡ o → UriPart (text_or old o)
-    by none e = w
-    by (some p) e = let k = contact_within block p e in (omega (arith, k.0), k.1)
+    by None e = w
+    by (Some p) e = let k = contact_within block p e in (omega (arith, k.0), k.1)
 
 -- a new target keeps a record well-formed
 retargeted_formed : (block : List ℕ) (r : Record) → length block < 65536 → WellFormed r → WellFormed (retargeted block r)
@@ -115,10 +116,10 @@ routes_formed : (L : LimitSet) (block : List ℕ) (old : List (List ℕ)) → le
     → EachUri (routes_or old (routes_of L block)) × (length (routes_or old (routes_of L block)) ≤ 50)
 routes_formed L block old h k w c = by (routes_of L block) refl
   where
-    by : (o : Outcome (List Piece)) → routes_of L block ≡ o → EachUri (routes_or old o) × (length (routes_or old o) ≤ 50)
-    by (refused cause) e = (w, c)
-    by (given []) e = (w, c)
-    by (given (p ∷ ps)) e = reversed_formed L block (p ∷ ps) h k e
+    by : (o : Result (List Piece) Refusal) → routes_of L block ≡ o → EachUri (routes_or old o) × (length (routes_or old o) ≤ 50)
+    by (Err cause) e = (w, c)
+    by (Ok []) e = (w, c)
+    by (Ok (p ∷ ps)) e = reversed_formed L block (p ∷ ps) h k e
 
 -- the routes of a response keep a record well-formed
 rerouted_formed : (L : LimitSet) (status : ℕ) (block : List ℕ) (r : Record) → length block < 65536 → L.routes ≤ 50 → WellFormed r → WellFormed (rerouted L status block r)
@@ -164,17 +165,17 @@ pub local_formed : (r : Record) → WellFormed r → WellFormed (local_update r)
 local_formed r w = with_formed r (local_step r.numbers) w (record { local = omega arith; remote = w.remote; last_ack = w.last_ack; seconds = w.seconds })
 
 -- an interval that was taken is no more than the most
-step_formed : (L : LimitSet) (n : ℕ) (x y : Numbers) → L.max_expires < 2 ^ 32 → FormedNumbers x → interval_step L n x ≡ given y → FormedNumbers y
+step_formed : (L : LimitSet) (n : ℕ) (x y : Numbers) → L.max_expires < 2 ^ 32 → FormedNumbers x → interval_step L n x ≡ Ok y → FormedNumbers y
 unfolding interval_step
 step_formed L n x y h f e =
-    let q = passed_cause (seconds_cause L n) (given (with_seconds n x)) e in
+    let q = passed_cause (seconds_cause L n) (Ok (with_seconds n x)) e in
     let m = (seconds_within L n q.0).1 in
     subst FormedNumbers (given_same q.1) (record { local = f.local; remote = f.remote; last_ack = f.last_ack; seconds = omega (arith, m, h) })
 
 -- a new interval keeps a record well-formed
-pub interval_formed : (L : LimitSet) (n : ℕ) (r s : Record) → L.max_expires < 2 ^ 32 → interval_update L n r ≡ given s → WellFormed r → WellFormed s
+pub interval_formed : (L : LimitSet) (n : ℕ) (r s : Record) → L.max_expires < 2 ^ 32 → interval_update L n r ≡ Ok s → WellFormed r → WellFormed s
 interval_formed L n r s h e w = by (interval_step L n r.numbers) refl e
   where
-    by : (o : Outcome Numbers) → interval_step L n r.numbers ≡ o → and_then o (λ x. given (with_numbers x r)) ≡ given s → WellFormed s
-    by (refused cause) q e = absurd (never_given e)
-    by (given x) q e = subst WellFormed (given_same e) (with_formed r x w (step_formed L n r.numbers x h (numbers_of r w) q))
+    by : (o : Result Numbers Refusal) → interval_step L n r.numbers ≡ o → and_then o (λ x. Ok (with_numbers x r)) ≡ Ok s → WellFormed s
+    by (Err cause) q e = absurd (never_given e)
+    by (Ok x) q e = subst WellFormed (given_same e) (with_formed r x w (step_formed L n r.numbers x h (numbers_of r w) q))

@@ -4,13 +4,12 @@ use native.Mathlib.Omega.{arith}
 use mathlib.Core.Path.{◌≡◌, refl, subst}
 use mathlib.Core.Bool.{Bool, true, false, cond, ◌&&◌}
 use mathlib.Core.List.{List, [], ◌∷◌}
-use mathlib.Core.Option.{Option, none, some}
 use lib.ListN.{length, get_or, take, drop, length-take, length-drop}
 use lib.Dec.{ltb, eqb}
+use Rattle.std.specs.Prelude.{None, Option, Some}
+use Rattle.limits.proofs.Laws.{some_pair}
 use Rattle.text.specs.Text.{is_value, span, all, blanks, text_end, trimmed, Piece}
 use Rattle.msg.specs.Block.{name_length, value_length, line_at, HeaderLine, named, with_line, tail_of, lines_from, lines_of, first_named, all_named, value_of, value_named}
-use Rattle.msg.specs.declared.Line.{Line}
-use Rattle.msg.specs.declared.Line.TheVariants.{Of, Malformed}
 use Rattle.output.proofs.ClassLaws.{both_left, both_right}
 use Rattle.codec.proofs.CodecLaws.{GoodAll}
 
@@ -62,12 +61,12 @@ trimmed_bounded k s h = take_bounded k (text_end (drop (blanks s) s)) (drop (bla
 -- ---- the lines
 
 -- the name and the value of a line are the runs that stand there
-line_runs : (t : Bool) (n' m' n m : ℕ) → cond t (Of n' m') Malformed ≡ Of n m → (n' ≡ n) × (m' ≡ m)
-line_runs true n' m' n m e = (cc, cc)
+line_runs : (t : Bool) (n' m' n m : ℕ) → ◌≡◌ {A = Option (ℕ × ℕ)} (cond t (Some (n', m')) None) (Some (n, m)) → (n' ≡ n) × (m' ≡ m)
+line_runs true n' m' n m e = some_pair e
 line_runs false n' m' n m e = absurd (let z : ◌≡◌ {A = ℕ} 0 1 = cc in omega arith)
 
 -- the bytes of a line's value are allowed in values
-value_passes : (s : List ℕ) (n m : ℕ) → line_at s ≡ Of n m → all is_value (take m (drop (n + 1) s)) ≡ true
+value_passes : (s : List ℕ) (n m : ℕ) → line_at s ≡ Some (n, m) → all is_value (take m (drop (n + 1) s)) ≡ true
 unfolding line_at
 value_passes s n m e =
     let t : Bool = ltb 0 (name_length s) && (eqb (get_or s (name_length s) 0) 58 && (eqb (get_or s (name_length s + 1 + value_length s) 0) 13 && eqb (get_or s (name_length s + 1 + value_length s + 1) 0) 10)) in
@@ -84,21 +83,21 @@ unfolding lines_from
 lines_bounded k [] skip at h = tt
 lines_bounded k (b ∷ s) zero at h = by (line_at (b ∷ s)) refl (λ (j : ℕ). lines_bounded k s j (at + 1) (omega arith))
   where
-    by : (l : Line) → line_at (b ∷ s) ≡ l → ((j : ℕ) → GoodAll (BoundedLine k) (lines_from j (at + 1) s)) → GoodAll (BoundedLine k) (with_line l at (b ∷ s) (lines_from (tail_of l) (at + 1) s))
-    by Malformed e more = tt
-    by (Of n m) e more =
+    by : (l : Option (ℕ × ℕ)) → line_at (b ∷ s) ≡ l → ((j : ℕ) → GoodAll (BoundedLine k) (lines_from j (at + 1) s)) → GoodAll (BoundedLine k) (with_line l at (b ∷ s) (lines_from (tail_of l) (at + 1) s))
+    by None e more = tt
+    by (Some (n, m)) e more =
         let v : List ℕ = take m (drop (n + 1) (b ∷ s)) in
         let c : Bounded k v = (omega (arith, length-take m (drop (n + 1) (b ∷ s)), length-drop (n + 1) (b ∷ s)), value_passes (b ∷ s) n m e) in
         (trimmed_bounded k v c, more (n + m + 2))
 lines_bounded k (b ∷ s) (suc skip) at h = lines_bounded k s skip (at + 1) (omega arith)
 
 -- what holds of every line holds of the first of a name
-first_of_lem : (P : HeaderLine → Type 0) (asked : List ℕ) (ls : List HeaderLine) (f : HeaderLine) → GoodAll P ls → first_named asked ls ≡ some f → P f
+first_of_lem : (P : HeaderLine → Type 0) (asked : List ℕ) (ls : List HeaderLine) (f : HeaderLine) → GoodAll P ls → first_named asked ls ≡ Some f → P f
 unfolding first_named
 first_of_lem P asked [] f h e = absurd (let z : ◌≡◌ {A = ℕ} 0 1 = cc in omega arith)
 first_of_lem P asked (l ∷ ls) f h e = by (named asked l.name) e (first_of_lem P asked ls f h.1)
   where
-    by : (t : Bool) → cond t (some l) (first_named asked ls) ≡ some f → (first_named asked ls ≡ some f → P f) → P f
+    by : (t : Bool) → cond t (Some l) (first_named asked ls) ≡ Some f → (first_named asked ls ≡ Some f → P f) → P f
     by true e more = let q : l ≡ f = cc in subst P q h.0
     by false e more = more e
 
@@ -113,12 +112,12 @@ all_of P asked (l ∷ ls) h = by (named asked l.name) (all_of P asked ls h.1)
     by false more = more
 
 -- the value of a name in a block
-pub value_bounded : (asked block : List ℕ) (p : Piece) → value_named asked block ≡ some p → Bounded (length block) p.text
+pub value_bounded : (asked block : List ℕ) (p : Piece) → value_named asked block ≡ Some p → Bounded (length block) p.text
 value_bounded asked block p e = by (first_named asked (lines_of block)) refl e
   where
-    by : (o : Option HeaderLine) → first_named asked (lines_of block) ≡ o → value_of o ≡ some p → Bounded (length block) p.text
-    by none q e = absurd (let z : ◌≡◌ {A = ℕ} 0 1 = cc in omega arith)
-    by (some l) q e =
+    by : (o : Option HeaderLine) → first_named asked (lines_of block) ≡ o → value_of o ≡ Some p → Bounded (length block) p.text
+    by None q e = absurd (let z : ◌≡◌ {A = ℕ} 0 1 = cc in omega arith)
+    by (Some l) q e =
         let r : l.value ≡ p = cc in
         subst (λ (x : Piece). Bounded (length block) x.text) r (first_of_lem (BoundedLine (length block)) asked (lines_of block) l (lines_bounded (length block) block 0 0 (omega arith)) q)
 

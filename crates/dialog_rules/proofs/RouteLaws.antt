@@ -4,12 +4,12 @@ use native.Mathlib.Omega.{arith}
 use mathlib.Core.Path.{◌≡◌, refl, subst}
 use mathlib.Core.Bool.{Bool, true, false, cond}
 use mathlib.Core.List.{List, [], ◌∷◌, ◌++◌, map, reverse, reverse_aux}
-use mathlib.Core.Option.{Option, none, some}
 use lib.ListN.{length, length-map, length-reverse}
 use lib.Dec.{leb}
 use borrow.Author.Tests.{leb-false}
+use Rattle.limits.specs.declared.Refusal.{Refusal}
+use Rattle.std.specs.Prelude.{Err, None, Ok, Option, Result, Some}
 use Rattle.limits.specs.Limits.{LimitSet}
-use Rattle.limits.specs.Outcome.{Outcome, refused, given}
 use Rattle.limits.specs.declared.Refusal.TheVariants.{UriTooLong, RouteSetTooLarge}
 use Rattle.text.specs.Text.{on_head, trimmed, Piece, moved_piece, trimmed_piece}
 use Rattle.text.specs.Number.{non_empty}
@@ -116,35 +116,35 @@ no_routes : (L : LimitSet) (k held : ℕ) → Routes L k held []
 no_routes L k held = record { each = tt; count = λ h. omega arith }
 
 -- one route before the others
-before : (L : LimitSet) (k held : ℕ) (p : Piece) (o : Outcome (List Piece)) (ps : List Piece) → held < L.routes → RouteWithin k p → ((qs : List Piece) → o ≡ given qs → Routes L k (held + 1) qs)
-    → route_before p o ≡ given ps → Routes L k held ps
-before L k held p (refused cause) ps h w more e = absurd (never_given e)
-before L k held p (given qs) ps h w more e =
+before : (L : LimitSet) (k held : ℕ) (p : Piece) (o : Result (List Piece) Refusal) (ps : List Piece) → held < L.routes → RouteWithin k p → ((qs : List Piece) → o ≡ Ok qs → Routes L k (held + 1) qs)
+    → route_before p o ≡ Ok ps → Routes L k held ps
+before L k held p (Err cause) ps h w more e = absurd (never_given e)
+before L k held p (Ok qs) ps h w more e =
     let r : Routes L k (held + 1) qs = more qs refl in
     let c : held + 1 + length qs ≤ L.routes = r.count (omega arith) in
     subst (Routes L k held) (given_same e) (record { each = (w, r.each); count = λ x. omega (arith, c) })
 
 -- the routes of elements of at most k bytes
-routes_within : (L : LimitSet) (k held : ℕ) (es ps : List Piece) → GoodAll (PieceWithin k) es → routes_from L held es ≡ given ps → Routes L k held ps
+routes_within : (L : LimitSet) (k held : ℕ) (es ps : List Piece) → GoodAll (PieceWithin k) es → routes_from L held es ≡ Ok ps → Routes L k held ps
 unfolding routes_from
 routes_within L k held [] ps h e = subst (Routes L k held) (given_same e) (no_routes L k held)
 routes_within L k held (x ∷ es) ps h e = by (header_uri x.text) refl q (λ (n : ℕ) (qs : List Piece). routes_within L k n es qs h.1)
   where
-    q : with_element L x.place (header_uri x.text) (routes_from L held es) (routes_from L (held + 1) es) ≡ given ps
+    q : with_element L x.place (header_uri x.text) (routes_from L held es) (routes_from L (held + 1) es) ≡ Ok ps
     q = past_test (leb L.routes held) RouteSetTooLarge (with_element L x.place (header_uri x.text) (routes_from L held es) (routes_from L (held + 1) es)) e
 
     room : held < L.routes
     room = leb-false L.routes held (passed_test (leb L.routes held) RouteSetTooLarge (with_element L x.place (header_uri x.text) (routes_from L held es) (routes_from L (held + 1) es)) e)
 
-    by : (o : Option ReadUri) → header_uri x.text ≡ o → with_element L x.place o (routes_from L held es) (routes_from L (held + 1) es) ≡ given ps
-        → ((n : ℕ) (qs : List Piece) → routes_from L n es ≡ given qs → Routes L k n qs) → Routes L k held ps
-    by none f e more = more held ps e
-    by (some r) f e more =
+    by : (o : Option ReadUri) → header_uri x.text ≡ o → with_element L x.place o (routes_from L held es) (routes_from L (held + 1) es) ≡ Ok ps
+        → ((n : ℕ) (qs : List Piece) → routes_from L n es ≡ Ok qs → Routes L k n qs) → Routes L k held ps
+    by None f e more = more held ps e
+    by (Some r) f e more =
         before L k held (moved_piece x.place r.piece) (routes_from L (held + 1) es) ps room (uri_within k x.text r h.0 f) (more (held + 1))
         (past_test (over_estimate L r.uri) UriTooLong (route_before (moved_piece x.place r.piece) (routes_from L (held + 1) es)) e)
 
 -- every route of a block is a readable URI and no longer than the block, and there are at most as many as the limit says
-pub block_routes : (L : LimitSet) (block : List ℕ) (ps : List Piece) → routes_of L block ≡ given ps → GoodAll (RouteWithin (length block)) ps × (length ps ≤ L.routes)
+pub block_routes : (L : LimitSet) (block : List ℕ) (ps : List Piece) → routes_of L block ≡ Ok ps → GoodAll (RouteWithin (length block)) ps × (length ps ≤ L.routes)
 block_routes L block ps e =
     let k : ℕ = length block in
     let r : Routes L k 0 ps = routes_within L k 0 (route_elements block) ps (lines_within k (all_named record_route_name (lines_of block)) (values_bounded record_route_name block)) e in
@@ -156,14 +156,14 @@ texts_formed k [] h g = tt
 texts_formed k (p ∷ ps) h g = ((omega (arith, g.0.0), g.0.1), texts_formed k ps h g.1)
 
 -- the routes of a block as received have an image
-pub received_formed : (L : LimitSet) (block : List ℕ) (ps : List Piece) → length block < 65536 → L.routes ≤ 50 → routes_of L block ≡ given ps
+pub received_formed : (L : LimitSet) (block : List ℕ) (ps : List Piece) → length block < 65536 → L.routes ≤ 50 → routes_of L block ≡ Ok ps
     → EachUri (map (λ (p : Piece). p.text) ps) × (length (map (λ (p : Piece). p.text) ps) ≤ 50)
 received_formed L block ps h k e =
     let r = block_routes L block ps e in
     (texts_formed (length block) ps h r.0, omega (arith, r.1, length-map ps (λ (p : Piece). p.text)))
 
 -- the routes of a block reversed have an image
-pub reversed_formed : (L : LimitSet) (block : List ℕ) (ps : List Piece) → length block < 65536 → L.routes ≤ 50 → routes_of L block ≡ given ps
+pub reversed_formed : (L : LimitSet) (block : List ℕ) (ps : List Piece) → length block < 65536 → L.routes ≤ 50 → routes_of L block ≡ Ok ps
     → EachUri (map (λ (p : Piece). p.text) (reverse ps)) × (length (map (λ (p : Piece). p.text) (reverse ps)) ≤ 50)
 reversed_formed L block ps h k e =
     let r = block_routes L block ps e in

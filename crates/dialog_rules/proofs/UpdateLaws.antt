@@ -5,9 +5,10 @@ use native.Mathlib.Omega.{arith}
 use mathlib.Core.Path.{◌≡◌, refl, sym, ap, subst}
 use mathlib.Core.Bool.{Bool, true, false}
 use mathlib.Core.List.{List}
-use mathlib.Core.Option.{Option, none, some}
+use Rattle.limits.specs.declared.Refusal.{Refusal}
+use Rattle.std.specs.Prelude.{Err, None, Ok, Option, Result, Some}
 use Rattle.limits.specs.Limits.{LimitSet}
-use Rattle.limits.specs.Outcome.{Outcome, refused, given, and_then, or_refuse}
+use Rattle.limits.specs.Outcome.{and_then, or_refuse}
 use Rattle.limits.specs.declared.Refusal.TheVariants.{MissingHeader}
 use Rattle.headers.specs.SessionExpires.{Interval, expires_named}
 use Rattle.prack_headers.specs.Sequence.{cseq_number}
@@ -36,21 +37,21 @@ pub record Kept (r s : Record) : Type 0 where
 pub record Request (L : LimitSet) (kind : Kind) (block : List ℕ) (r s : Record) : Type 0 where
   pub cseq : ℕ
   pub numbers : Numbers
-  pub reads : cseq_number block ≡ some cseq
-  pub steps : request_step L kind cseq r.numbers ≡ given numbers
+  pub reads : cseq_number block ≡ Some cseq
+  pub steps : request_step L kind cseq r.numbers ≡ Ok numbers
   pub becomes : s ≡ retargeted block (with_numbers numbers r)
 
-pub request_taken : (L : LimitSet) (kind : Kind) (block : List ℕ) (r s : Record) → request_update L kind block r ≡ given s → Request L kind block r s
+pub request_taken : (L : LimitSet) (kind : Kind) (block : List ℕ) (r s : Record) → request_update L kind block r ≡ Ok s → Request L kind block r s
 unfolding request_update
 request_taken L kind block r s e = by (cseq_number block) refl e
   where
-    by : (o : Option ℕ) → cseq_number block ≡ o → and_then (or_refuse MissingHeader o) (λ n. and_then (request_step L kind n r.numbers) (λ x. given (retargeted block (with_numbers x r)))) ≡ given s → Request L kind block r s
-    by none p e = absurd (never_given e)
-    by (some n) p e = is (request_step L kind n r.numbers) refl e
+    by : (o : Option ℕ) → cseq_number block ≡ o → and_then (or_refuse MissingHeader o) (λ n. and_then (request_step L kind n r.numbers) (λ x. Ok (retargeted block (with_numbers x r)))) ≡ Ok s → Request L kind block r s
+    by None p e = absurd (never_given e)
+    by (Some n) p e = is (request_step L kind n r.numbers) refl e
       where
-        is : (o : Outcome Numbers) → request_step L kind n r.numbers ≡ o → and_then o (λ x. given (retargeted block (with_numbers x r))) ≡ given s → Request L kind block r s
-        is (refused cause) q e = absurd (never_given e)
-        is (given x) q e = record { cseq = n; numbers = x; reads = p; steps = q; becomes = sym (given_same e) }
+        is : (o : Result Numbers Refusal) → request_step L kind n r.numbers ≡ o → and_then o (λ x. Ok (retargeted block (with_numbers x r))) ≡ Ok s → Request L kind block r s
+        is (Err cause) q e = absurd (never_given e)
+        is (Ok x) q e = record { cseq = n; numbers = x; reads = p; steps = q; becomes = sym (given_same e) }
 
 state_taken : (n : ℕ) (x y : Numbers) → Taken n x y → y.state ≡ x.state
 state_taken n x y moved = refl
@@ -67,8 +68,8 @@ request_kept L kind block r s q =
 -- ---- responses
 
 interval_state : (o : Option Interval) (x : Numbers) → (interval_from o x).state ≡ x.state
-interval_state none x = refl
-interval_state (some i) x = refl
+interval_state None x = refl
+interval_state (Some i) x = refl
 
 confirmed_on : (status : ℕ) (x : Numbers) → rank x.state ≤ rank (confirmed_by status x).state
 confirmed_on status x = by (is_success status) refl
@@ -104,7 +105,7 @@ pub success_confirms : (L : LimitSet) (status : ℕ) (block : List ℕ) (r : Rec
 unfolding response_update
 success_confirms L status block r e = rw e (past (interval_from (expires_named block) r.numbers).state)
   where
-    past : (s : State) → 1 ≤ rank (confirm_step (record { state = s; local = 0; remote = 0; last_ack = none; seconds = none; refresher = none })).state
+    past : (s : State) → 1 ≤ rank (confirm_step (record { state = s; local = 0; remote = 0; last_ack = None; seconds = None; refresher = None })).state
     past early = omega arith
     past confirmed = omega arith
     past terminated = omega arith
@@ -120,16 +121,16 @@ terminate_kept r = record { call_id = refl; local_tag = refl; remote_tag = refl;
 pub local_kept : (r : Record) → Kept r (local_update r)
 local_kept r = record { call_id = refl; local_tag = refl; remote_tag = refl; we_are_uac = refl; local_uri = refl; remote_uri = refl; state = omega arith }
 
-interval_taken : (L : LimitSet) (n : ℕ) (x y : Numbers) → interval_step L n x ≡ given y → y ≡ with_seconds n x
+interval_taken : (L : LimitSet) (n : ℕ) (x y : Numbers) → interval_step L n x ≡ Ok y → y ≡ with_seconds n x
 unfolding interval_step
-interval_taken L n x y e = sym (given_same (passed_cause (seconds_cause L n) (given (with_seconds n x)) e).1)
+interval_taken L n x y e = sym (given_same (passed_cause (seconds_cause L n) (Ok (with_seconds n x)) e).1)
 
-pub interval_kept : (L : LimitSet) (n : ℕ) (r s : Record) → interval_update L n r ≡ given s → Kept r s × (s.routes ≡ r.routes)
+pub interval_kept : (L : LimitSet) (n : ℕ) (r s : Record) → interval_update L n r ≡ Ok s → Kept r s × (s.routes ≡ r.routes)
 interval_kept L n r s e = by (interval_step L n r.numbers) refl e
   where
-    by : (o : Outcome Numbers) → interval_step L n r.numbers ≡ o → and_then o (λ x. given (with_numbers x r)) ≡ given s → Kept r s × (s.routes ≡ r.routes)
-    by (refused cause) q e = absurd (never_given e)
-    by (given x) q e =
+    by : (o : Result Numbers Refusal) → interval_step L n r.numbers ≡ o → and_then o (λ x. Ok (with_numbers x r)) ≡ Ok s → Kept r s × (s.routes ≡ r.routes)
+    by (Err cause) q e = absurd (never_given e)
+    by (Ok x) q e =
         let k : rank r.numbers.state ≡ rank x.state = ap (λ (y : Numbers). rank y.state) (sym (interval_taken L n r.numbers x q)) in
         subst (λ (z : Record). Kept r z × (z.routes ≡ r.routes)) (given_same e)
         (record { call_id = refl; local_tag = refl; remote_tag = refl; we_are_uac = refl; local_uri = refl; remote_uri = refl; state = omega (arith, k) }, refl)

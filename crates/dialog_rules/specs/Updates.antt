@@ -3,10 +3,10 @@
 -- replaces the target on every taken request, ACK included, and on every response, whatever its status, and is not measured; Session-Expires
 -- counts on every response, and a 2xx without it ends nothing; every 2xx confirms, whatever its request; a Terminated record still takes
 -- requests and responses.
-use Rattle.std.specs.Prelude.{ℕ, Bool, false, cond, List, [], ◌∷◌, map, reverse}
-use Rattle.std.proofs.Math.Option.{Option, none, some}
+use Rattle.limits.specs.declared.Refusal.{Refusal}
+use Rattle.std.specs.Prelude.{ℕ, Bool, false, cond, List, [], ◌∷◌, map, reverse, Err, None, Ok, Option, Result, Some}
 use Rattle.limits.specs.Limits.{LimitSet}
-use Rattle.limits.specs.Outcome.{Outcome, refused, given, and_then, or_refuse}
+use Rattle.limits.specs.Outcome.{and_then, or_refuse}
 use Rattle.limits.specs.declared.Refusal.TheVariants.{MissingHeader}
 use Rattle.text.specs.Text.{Piece, equal}
 use Rattle.msg.specs.Status.{in_class}
@@ -23,8 +23,8 @@ use Rattle.record.specs.Rules.{Kind, ack, other, request_step, confirm_step, ter
 
 -- the text of the first Contact line's URI, or the old target where it is absent or unreadable
 abbrev pub text_or : List ℕ → Option Piece → List ℕ
-text_or old none = old
-text_or old (some p) = p.text
+text_or old None = old
+text_or old (Some p) = p.text
 
 abbrev pub retargeted : List ℕ → Record → Record
 retargeted block r = with_target (text_or r.target (contact_of block)) r
@@ -39,11 +39,11 @@ abbrev pub kind_of : List ℕ → Kind
 kind_of method = cond (equal method ack_name) ack other
 
 -- `update_from_request`: 4, 9; ACK: 11; others: 10, 11, 12. A refused request changes nothing
-unfoldable pub request_update : LimitSet → Kind → List ℕ → Record → Outcome Record
+unfoldable pub request_update : LimitSet → Kind → List ℕ → Record → Result Record Refusal
 request_update L kind block r =
     and_then (or_refuse MissingHeader (cseq_number block)) (λ n.
     and_then (request_step L kind n r.numbers) (λ x.
-    given (retargeted block (with_numbers x r))))
+    Ok (retargeted block (with_numbers x r))))
 
 -- ---- responses
 
@@ -58,24 +58,24 @@ confirms status confirmed = false
 confirms status terminated = false
 
 -- the routes of the block's lines, reversed; the old ones where the reading fails (7, 8) or gives none
-abbrev pub routes_or : List (List ℕ) → Outcome (List Piece) → List (List ℕ)
-routes_or old (refused cause) = old
-routes_or old (given []) = old
-routes_or old (given (p ∷ ps)) = map (λ (q : Piece). q.text) (reverse (p ∷ ps))
+abbrev pub routes_or : List (List ℕ) → Result (List Piece) Refusal → List (List ℕ)
+routes_or old (Err cause) = old
+routes_or old (Ok []) = old
+routes_or old (Ok (p ∷ ps)) = map (λ (q : Piece). q.text) (reverse (p ∷ ps))
 
 abbrev pub rerouted : LimitSet → ℕ → List ℕ → Record → Record
 rerouted L status block r = cond (confirms status r.numbers.state) (with_routes (routes_or r.routes (routes_of L block)) r) r
 
 -- who refreshes, as the record has it
 abbrev pub side_of : Refresher → Option Side
-side_of refresher.Uac = some uac
-side_of refresher.Uas = some uas
-side_of refresher.Unspecified = none
+side_of refresher.Uac = Some uac
+side_of refresher.Uas = Some uas
+side_of refresher.Unspecified = None
 
 -- a readable Session-Expires replaces seconds and refresher both
 abbrev pub interval_from : Option Interval → Numbers → Numbers
-interval_from none x = x
-interval_from (some i) x = record { state = x.state; local = x.local; remote = x.remote; last_ack = x.last_ack; seconds = some i.seconds; refresher = side_of i.refresher }
+interval_from None x = x
+interval_from (Some i) x = record { state = x.state; local = x.local; remote = x.remote; last_ack = x.last_ack; seconds = Some i.seconds; refresher = side_of i.refresher }
 
 -- a 2xx confirms
 abbrev pub confirmed_by : ℕ → Numbers → Numbers
@@ -101,5 +101,5 @@ abbrev pub local_update : Record → Record
 local_update r = with_numbers (local_step r.numbers) r
 
 -- `set_session_expires`: 13 with the least, 14
-abbrev pub interval_update : LimitSet → ℕ → Record → Outcome Record
-interval_update L n r = and_then (interval_step L n r.numbers) (λ x. given (with_numbers x r))
+abbrev pub interval_update : LimitSet → ℕ → Record → Result Record Refusal
+interval_update L n r = and_then (interval_step L n r.numbers) (λ x. Ok (with_numbers x r))

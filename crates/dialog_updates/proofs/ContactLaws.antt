@@ -3,14 +3,13 @@ use Prim.Native.Nat.{ℕ, ◌+◌, ◌-◌, ◌≤◌}
 use native.Mathlib.Omega.{arith}
 use mathlib.Core.Path.{◌≡◌, refl, sym, ap, subst, ◌∙◌}
 use mathlib.Core.List.{List}
-use mathlib.Core.Option.{Option, none, some}
 use lib.ListN.{length, take, drop}
-use Rattle.limits.specs.Outcome.{Outcome, refused, given}
+use Rattle.std.specs.Prelude.{Err, None, Ok, Option, Result, Some}
+use Rattle.limits.specs.declared.Refusal.{Refusal}
 use Rattle.text.specs.Text.{Piece}
 use Rattle.text.specs.Answers.{span_of}
 use Rattle.text.specs.declared.Span.{Span}
 use Rattle.route_set.specs.Routes.{contact_of, contact_from}
-use Rattle.route_set.specs.declared.routes.Contact.TheVariants as contact
 use Rattle.routes_edit.specs.Rerouted.{renewed_by}
 use Rattle.record.specs.Changes.{with_numbers, with_target}
 use Rattle.record.specs.Record.{Numbers, Record}
@@ -18,32 +17,32 @@ use Rattle.dialog_rules.specs.Updates.{text_or}
 use Rattle.dialog_rules.proofs.PlacedLaws.{contact_placed}
 
 -- nothing was found: the old target stays
-pub no_contact : (block old : List ℕ) → contact_from (contact_of block) ≡ contact.Nothing → text_or old (contact_of block) ≡ old
+pub no_contact : (block old : List ℕ) → contact_from (contact_of block) ≡ None → text_or old (contact_of block) ≡ old
 no_contact block old e = by (contact_of block) e
   where
-    by : (o : Option Piece) → contact_from o ≡ contact.Nothing → text_or old o ≡ old
-    by none e = refl
-    by (some p) e = absurd (let z : ◌≡◌ {A = ℕ} 0 1 = cc in omega arith)
+    by : (o : Option Piece) → contact_from o ≡ None → text_or old o ≡ old
+    by None e = refl
+    by (Some p) e = absurd (let z : ◌≡◌ {A = ℕ} 0 1 = cc in omega arith)
 
 -- the URI was found: it is the new target
-pub contact_within : (block : List ℕ) (c : Span) → contact_from (contact_of block) ≡ contact.At c → c.start + c.length ≤ length block
+pub contact_within : (block : List ℕ) (c : Span) → contact_from (contact_of block) ≡ Some c → c.start + c.length ≤ length block
 contact_within block c e = by (contact_of block) refl e
   where
-    by : (o : Option Piece) → contact_of block ≡ o → contact_from o ≡ contact.At c → c.start + c.length ≤ length block
-    by none q e = absurd (let z : ◌≡◌ {A = ℕ} 0 1 = cc in omega arith)
-    by (some p) q e = let s : span_of p ≡ c = cc in subst (λ (x : Span). x.start + x.length ≤ length block) s (contact_placed block p q).fits
+    by : (o : Option Piece) → contact_of block ≡ o → contact_from o ≡ Some c → c.start + c.length ≤ length block
+    by None q e = absurd (let z : ◌≡◌ {A = ℕ} 0 1 = cc in omega arith)
+    by (Some p) q e = let s : span_of p ≡ c = cc in subst (λ (x : Span). x.start + x.length ≤ length block) s (contact_placed block p q).fits
 
-pub contact_target : (block old : List ℕ) (c : Span) → contact_from (contact_of block) ≡ contact.At c → text_or old (contact_of block) ≡ take (c.start + c.length - c.start) (drop c.start block)
+pub contact_target : (block old : List ℕ) (c : Span) → contact_from (contact_of block) ≡ Some c → text_or old (contact_of block) ≡ take (c.start + c.length - c.start) (drop c.start block)
 contact_target block old c e = by (contact_of block) refl e
   where
-    by : (o : Option Piece) → contact_of block ≡ o → contact_from o ≡ contact.At c → text_or old o ≡ take (c.start + c.length - c.start) (drop c.start block)
-    by none q e = absurd (let z : ◌≡◌ {A = ℕ} 0 1 = cc in omega arith)
-    by (some p) q e =
+    by : (o : Option Piece) → contact_of block ≡ o → contact_from o ≡ Some c → text_or old o ≡ take (c.start + c.length - c.start) (drop c.start block)
+    by None q e = absurd (let z : ◌≡◌ {A = ℕ} 0 1 = cc in omega arith)
+    by (Some p) q e =
         let s : span_of p ≡ c = cc in
         let n : p.place + length p.text - p.place ≡ length p.text = omega arith in
         subst (λ (x : Span). p.text ≡ take (x.start + x.length - x.start) (drop x.start block)) s (sym (contact_placed block p q).there ∙ ap (λ (m : ℕ). take m (drop p.place block)) (sym n))
 
 -- the target kept: by the routes that were read, since the record is then one with them
-pub target_kept : (x : Numbers) (o : Outcome (List Piece)) (v : Record) {t : List ℕ} → t ≡ (renewed_by x o v).target → with_target t (renewed_by x o v) ≡ renewed_by x o v
-target_kept x (refused cause) v e = ap (λ (u : List ℕ). with_target u (with_numbers x v)) e
-target_kept x (given ps) v e = ap (λ (u : List ℕ). with_target u (renewed_by x (given ps) v)) e
+pub target_kept : (x : Numbers) (o : Result (List Piece) Refusal) (v : Record) {t : List ℕ} → t ≡ (renewed_by x o v).target → with_target t (renewed_by x o v) ≡ renewed_by x o v
+target_kept x (Err cause) v e = ap (λ (u : List ℕ). with_target u (with_numbers x v)) e
+target_kept x (Ok ps) v e = ap (λ (u : List ℕ). with_target u (renewed_by x (Ok ps) v)) e

@@ -3,13 +3,11 @@ use Prim.Native.Nat.{ℕ, ◌<◌}
 use native.Mathlib.Omega.{arith}
 use mathlib.Core.Path.{◌≡◌, refl, sym, ap, subst, ◌∙◌}
 use mathlib.Core.List.{List, [], ◌++◌}
-use mathlib.Core.Option.{Option, some}
 use lib.ListN.{length, take, get_or}
-use Rattle.limits.specs.Outcome.{Outcome, refused, given, and_then}
+use Rattle.std.specs.Prelude.{Err, Ok, Option, Result, Some}
+use Rattle.limits.specs.Outcome.{and_then}
 use Rattle.limits.specs.declared.Refusal.{Refusal}
 use Rattle.output.specs.Output.{fitted, leaves, written_from}
-use Rattle.output.specs.declared.Written.TheVariants as written
-use Rattle.output.specs.declared.Written.{Written}
 use Rattle.codec.specs.Codec.{Reading}
 use Rattle.record.specs.NumbersForm.{meaning}
 use Rattle.record.specs.Record.{Record, image}
@@ -32,26 +30,26 @@ module _ (s : List ℕ) (at : ℕ) (p : RecordAt) (h : Held s at p) where
   pub numbers_read : meaning p.numbers ≡ h.value.numbers
   numbers_read = ap (λ (q : RecordAt). meaning q.numbers) h.placed ∙ meaning_same h.value.numbers
 
-  module _ (step : Record → Outcome Record) (room : ℕ) where
-    pub stepped_refused : {cause : Refusal} → step h.value ≡ refused cause → stepped step room at s ≡ refused cause
+  module _ (step : Record → Result Record Refusal) (room : ℕ) where
+    pub stepped_refused : {cause : Refusal} → step h.value ≡ Err cause → stepped step room at s ≡ Err cause
     unfolding stepped
     stepped_refused e = rw (h.reads, e)
 
-    pub stepped_given : (f : Record → Record) → step h.value ≡ given (f h.value) → stepped step room at s ≡ fitted room (changed f at s)
+    pub stepped_given : (f : Record → Record) → step h.value ≡ Ok (f h.value) → stepped step room at s ≡ fitted room (changed f at s)
     unfolding stepped changed
     stepped_given f e = rw (h.reads, e)
 
 -- what a refused step leaves
-pub refused_leaves : (bytes : List ℕ) (o : Outcome (List ℕ)) {cause : Refusal} → o ≡ refused cause → (written.Refused cause ≡ written_from o) × (bytes ≡ leaves o bytes)
+pub refused_leaves : (bytes : List ℕ) (o : Result (List ℕ) Refusal) {cause : Refusal} → o ≡ Err cause → (Err cause ≡ written_from o) × (bytes ≡ leaves o bytes)
 refused_leaves bytes o e = rw e (refl, refl)
 
 -- the same result by another name
-pub result_as : (bytes : List ℕ) (o q : Outcome (List ℕ)) (r : Written) (after : List ℕ) → o ≡ q → (r ≡ written_from q) × (after ≡ leaves q bytes) → (r ≡ written_from o) × (after ≡ leaves o bytes)
-result_as bytes o q r after e w = subst (λ (x : Outcome (List ℕ)). (r ≡ written_from x) × (after ≡ leaves x bytes)) (sym e) w
+pub result_as : (bytes : List ℕ) (o q : Result (List ℕ) Refusal) (r : Result ℕ Refusal) (after : List ℕ) → o ≡ q → (r ≡ written_from q) × (after ≡ leaves q bytes) → (r ≡ written_from o) × (after ≡ leaves o bytes)
+result_as bytes o q r after e w = subst (λ (x : Result (List ℕ) Refusal). (r ≡ written_from x) × (after ≡ leaves x bytes)) (sym e) w
 
 -- ---- one image
 
-module _ (bytes : List ℕ) (used : ℕ) (p : RecordAt) (h : One bytes used p) (byte : (i : ℕ) → get_or bytes i 0 < 256) (step : Record → Outcome Record) where
+module _ (bytes : List ℕ) (used : ℕ) (p : RecordAt) (h : One bytes used p) (byte : (i : ℕ) → get_or bytes i 0 < 256) (step : Record → Result Record Refusal) where
   held_one : Held (take used bytes) 0 p
   held_one = held_used bytes used 0 byte h.fits (omega arith) h.whole
 
@@ -59,7 +57,7 @@ module _ (bytes : List ℕ) (used : ℕ) (p : RecordAt) (h : One bytes used p) (
   same_value =
       let m : Reading Record = record { value = held_one.value; rest = held_one.rest } in
       let n : Reading Record = record { value = h.value; rest = [] } in
-      let e : ◌≡◌ {A = Option (Reading Record)} (some m) (some n) = sym held_one.reads ∙ h.reads in
+      let e : ◌≡◌ {A = Option (Reading Record)} (Some m) (Some n) = sym held_one.reads ∙ h.reads in
       let q : m ≡ n = cc in
       ap (λ (x : Reading Record). x.value) q
 
@@ -68,8 +66,8 @@ module _ (bytes : List ℕ) (used : ℕ) (p : RecordAt) (h : One bytes used p) (
   unfolding image_after
   stepped_one = rw h.one (by (step h.value) refl)
     where
-      by : (o : Outcome Record) → step h.value ≡ o → and_then o (λ v. fitted (length bytes) (image.write v)) ≡ stepped step (length bytes) 0 (take used bytes)
-      by (refused cause) e = sym (stepped_refused (take used bytes) 0 p held_one step (length bytes) (ap step same_value ∙ e))
-      by (given v) e =
+      by : (o : Result Record Refusal) → step h.value ≡ o → and_then o (λ v. fitted (length bytes) (image.write v)) ≡ stepped step (length bytes) 0 (take used bytes)
+      by (Err cause) e = sym (stepped_refused (take used bytes) 0 p held_one step (length bytes) (ap step same_value ∙ e))
+      by (Ok v) e =
           ap (fitted (length bytes)) (sym (changed_one bytes used p h (λ _. v) byte))
           ∙ sym (stepped_given (take used bytes) 0 p held_one step (length bytes) (λ _. v) (ap step same_value ∙ e))

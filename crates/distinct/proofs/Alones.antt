@@ -3,15 +3,15 @@ use Prim.Native.Nat.{ℕ, ◌≤◌, ◌<◌}
 use mathlib.Core.Path.{◌≡◌, refl, sym, ap, ◌∙◌}
 use mathlib.Core.Bool.{Bool, true, false, cond, not, ◌&&◌}
 use mathlib.Core.List.{List, ◌∷◌}
-use mathlib.Core.Option.{none, some, some-injective}
 use lib.ListN.{length}
+use Rattle.std.specs.Prelude.{None, Some}
 use Rattle.text.specs.Text.{equal}
 use Rattle.record.specs.Record.{Record, is_given}
 use Rattle.record.specs.Store.{same_id, lacks, distinct, decode_all}
 use Rattle.codec.proofs.CodecLaws.{Bytes}
 use Rattle.distinct.specs.Distinct.{Whole, is_distinct}
 use Rattle.ordered_store.specs.Order.{order}
-use Rattle.ordered_store.specs.declared.Order.TheVariants.{Same}
+use Rattle.std.specs.declared.cmp.Ordering.TheVariants.{Equal}
 use Rattle.ordered_store.proofs.OrderLaws.{order_itself, order_equal}
 use Rattle.record_walk.specs.Walk.{At, end_at}
 use Rattle.distinct.specs.Keys.{key_at}
@@ -33,7 +33,7 @@ module _ (s : List ℕ) (b : Bytes s) where
   pub step : (at : ℕ) → at < length s → WholeFrom s at → Step at
   step at h w =
       let m = from_more s b at w.records h w.are in
-      let e : From s at (m.0 ∷ m.1.0) = w.are ∙ ap some m.1.1 in
+      let e : From s at (m.0 ∷ m.1.0) = w.are ∙ ap Some m.1.1 in
       record { rec = m.0; others = m.1.0; all = e; next = next s b at m.0 m.1.0 e }
 
   abbrev pub step_whole : (at : ℕ) → Step at → WholeFrom s (end_at s at)
@@ -53,10 +53,10 @@ module _ (s : List ℕ) (b : Bytes s) where
         let k : same_id n.rec x.reading.value ≡ equal (key_at s q) (key_at s p) = same_key n.rec x.reading.value n.next.formed (back s p b x).1 ∙ rw (n.next.key, key_is s p b x) in
         rw (x.reads, n.all, n.next.others, k)
 
-    pub alone_met : (q : ℕ) → Step q → order (key_at s q) (key_at s p) ≡ Same → alone_from s p q ≡ false
+    pub alone_met : (q : ℕ) → Step q → order (key_at s q) (key_at s p) ≡ Equal → alone_from s p q ≡ false
     alone_met q n e = alone_step q n ∙ rw (order_equal (key_at s q) (key_at s p) e, equal_same (key_at s p))
 
-    pub alone_next : (q : ℕ) → Step q → (order (key_at s q) (key_at s p) ≡ Same → ⊥) → alone_from s p q ≡ alone_from s p (end_at s q)
+    pub alone_next : (q : ℕ) → Step q → (order (key_at s q) (key_at s p) ≡ Equal → ⊥) → alone_from s p q ≡ alone_from s p (end_at s q)
     alone_next q n e = alone_step q n ∙ by (equal (key_at s q) (key_at s p)) refl
       where
         by : (t : Bool) → equal (key_at s q) (key_at s p) ≡ t → (not (equal (key_at s q) (key_at s p)) && alone_from s p (end_at s q)) ≡ alone_from s p (end_at s q)
@@ -70,10 +70,10 @@ pub record Left (s : List ℕ) (at : ℕ) : Type 0 where
   pub whole : WholeFrom s at
   pub same : is_distinct s ≡ distinct whole.records
 
-distinct_given : (rs : List Record) → is_given (cond (distinct rs) (some rs) none) ≡ distinct rs
+distinct_given : (rs : List Record) → is_given (cond (distinct rs) (Some rs) None) ≡ distinct rs
 distinct_given rs = by (distinct rs) refl
   where
-    by : (t : Bool) → distinct rs ≡ t → is_given (cond (distinct rs) (some rs) none) ≡ distinct rs
+    by : (t : Bool) → distinct rs ≡ t → is_given (cond (distinct rs) (Some rs) None) ≡ distinct rs
     by true t = rw t
     by false t = rw t
 
@@ -91,7 +91,8 @@ module _ (s : List ℕ) (b : Bytes s) where
   unfolding distinct alone_from
   left_step at l h =
       let n = step s b at h l.whole in
-      let m : l.whole.records ≡ n.rec ∷ n.others = some-injective _ _ (sym l.whole.are ∙ n.all) in
+      let e : Some l.whole.records ≡ Some (n.rec ∷ n.others) = sym l.whole.are ∙ n.all in
+      let m : l.whole.records ≡ n.rec ∷ n.others = cc in
       let k : alone_from s at (end_at s at) ≡ lacks n.others n.rec = rw (n.next.here.reads, n.next.others, n.next.is) in
       l.same ∙ ap distinct m ∙ rw k
 

@@ -8,7 +8,7 @@ use lib.ListN.{length, get_or, take, drop, take-append-drop}
 use Rattle.text.specs.Text.{equal}
 use Rattle.record.specs.Record.{bit_of}
 use Rattle.ordered_store.specs.Order.{order}
-use Rattle.ordered_store.specs.declared.Order.TheVariants.{Before, Same}
+use Rattle.std.specs.declared.cmp.Ordering.TheVariants.{Less, Equal}
 use Rattle.ordered_store.proofs.OrderLaws.{order_itself, order_transitive}
 use Rattle.record_walk.specs.Walk.{At}
 use Rattle.distinct.specs.Keys.{key_at}
@@ -57,22 +57,22 @@ module _ (s : List ℕ) where
   -- ---- ascending runs
 
   -- a place that comes before the rest of one run goes to the end of what both have in front
-  pub between : (zs : List ℕ) (x : ℕ) (xs : List ℕ) (y : ℕ) (ys : List ℕ) → Ascending s (zs ++ (x ∷ xs)) → Ascending s (zs ++ (y ∷ ys)) → order (key_at s x) (key_at s y) ≡ Before → Ascending s (zs ++ (x ∷ y ∷ ys))
+  pub between : (zs : List ℕ) (x : ℕ) (xs : List ℕ) (y : ℕ) (ys : List ℕ) → Ascending s (zs ++ (x ∷ xs)) → Ascending s (zs ++ (y ∷ ys)) → order (key_at s x) (key_at s y) ≡ Less → Ascending s (zs ++ (x ∷ y ∷ ys))
   unfolding Ascending
   between [] x xs y ys h k l = (l, k)
   between (a ∷ []) x xs y ys h k l = (h.0, (l, k.1))
   between (a ∷ b ∷ zs) x xs y ys h k l = (h.0, between (b ∷ zs) x xs y ys h.1 k.1 l)
 
   -- a place has no key that is less than its own
-  other : (k : List ℕ) (q : ℕ) → order k (key_at s q) ≡ Before → bit_of (equal (key_at s q) k) ≡ 0
+  other : (k : List ℕ) (q : ℕ) → order k (key_at s q) ≡ Less → bit_of (equal (key_at s q) k) ≡ 0
   other k q h = by (equal (key_at s q) k) refl
     where
       by : (t : Bool) → equal (key_at s q) k ≡ t → bit_of (equal (key_at s q) k) ≡ 0
-      by true t = absurd (let e : Before ≡ Same = sym h ∙ ap (order k) (equal_is (key_at s q) k t) ∙ order_itself k in let z : ◌≡◌ {A = ℕ} 0 1 = cc in omega arith)
+      by true t = absurd (let e : Less ≡ Equal = sym h ∙ ap (order k) (equal_is (key_at s q) k t) ∙ order_itself k in let z : ◌≡◌ {A = ℕ} 0 1 = cc in omega arith)
       by false t = rw t
 
   -- a key below the first of an ascending run stands nowhere in it
-  below : (k : List ℕ) (q : ℕ) (ps : List ℕ) → order k (key_at s q) ≡ Before → Ascending s (q ∷ ps) → tally s k (q ∷ ps) ≡ 0
+  below : (k : List ℕ) (q : ℕ) (ps : List ℕ) → order k (key_at s q) ≡ Less → Ascending s (q ∷ ps) → tally s k (q ∷ ps) ≡ 0
   unfolding tally Ascending
   below k q [] h a = omega (arith, other k q h)
   below k q (r ∷ ps) h a = omega (arith, other k q h, below k r ps (order_transitive k (key_at s q) (key_at s r) h a.0) a.1)

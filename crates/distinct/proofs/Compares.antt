@@ -6,17 +6,17 @@ use mathlib.Core.List.{List}
 use lib.ListN.{length, take, drop, get_or}
 use Rattle.codec.proofs.CodecLaws.{Bytes}
 use Rattle.ordered_store.specs.Order.{order}
-use Rattle.ordered_store.specs.declared.Order.TheVariants.{Before, After}
+use Rattle.std.specs.declared.cmp.Ordering.TheVariants.{Less, Greater}
 use Rattle.ordered_store.proofs.OrderLaws.{byte_less, byte_more, byte_same}
 use Rattle.record_walk.specs.Walk.{At}
 use Rattle.distinct.specs.Keys.{key_at}
 use Rattle.distinct.proofs.KeysAt.{key_bytes}
 
 module _ (s : List ℕ) (p q : ℕ) (b : Bytes s) (x : At s p) (y : At s q) (f g : ℕ) (u : f ≡ get_or (key_at s p) 0 0) (v : g ≡ get_or (key_at s q) 0 0) where
-  pub flags_less : f < g → order (key_at s p) (key_at s q) ≡ Before
+  pub flags_less : f < g → order (key_at s p) (key_at s q) ≡ Less
   flags_less h = ap₂ order (key_bytes s p b x _ refl) (key_bytes s q b y _ refl) ∙ byte_less _ _ _ _ (omega arith)
 
-  pub flags_more : g < f → order (key_at s p) (key_at s q) ≡ After
+  pub flags_more : g < f → order (key_at s p) (key_at s q) ≡ Greater
   flags_more h = ap₂ order (key_bytes s p b x _ refl) (key_bytes s q b y _ refl) ∙ byte_more _ _ _ _ (omega arith)
 
   -- with the same flags, by the bytes up to the identifiers' ends

@@ -4,7 +4,7 @@ use native.Mathlib.Omega.{arith}
 use mathlib.Core.Path.{◌≡◌, refl, sym, ap, ◌∙◌}
 use mathlib.Core.Bool.{Bool, true, false, ◌&&◌}
 use mathlib.Core.List.{List, [], ◌∷◌, ◌++◌}
-use mathlib.Core.Option.{Option, some}
+use Rattle.std.specs.Prelude.{Option, Some}
 use Rattle.text.specs.Text.{is_value, all, equal}
 use Rattle.text.specs.Number.{non_empty}
 use Rattle.codec.specs.Codec.{Reading, Codec, then}
@@ -33,7 +33,7 @@ id_exact flag = flagged_exact flag [] (such_exact text_exact (λ t. non_empty t 
 ids_exact : (f g h : Bool) → Exact (ids_form f g h) (GoodIds f g h)
 ids_exact f g h = then_exact (id_exact f) (then_exact (id_exact g) (id_exact h))
 
-reading_same : (i j : Ids) → ◌≡◌ {A = Option (Reading Ids)} (some (record { value = i; rest = [] })) (some (record { value = j; rest = [] })) → i ≡ j
+reading_same : (i j : Ids) → ◌≡◌ {A = Option (Reading Ids)} (Some (record { value = i; rest = [] })) (Some (record { value = j; rest = [] })) → i ≡ j
 reading_same i j e =
     let q : ◌≡◌ {A = Reading Ids} (record { value = i; rest = [] }) (record { value = j; rest = [] }) = cc in
     ap (λ (r : Reading Ids). r.value) q

@@ -8,7 +8,7 @@ use mathlib.Core.List.{List, [], ◌∷◌, ◌++◌, append_assoc, append-nil}
 use lib.ListN.{length, get_or, take, drop, set, length-append, length-drop, length-set, drop_of_length-le}
 use lib.Seq.{take_all, drop-cons, get_or-take, take-suc-set, append_snoc, length-take-le, take_at, take-add, drop_at}
 use Rattle.ordered_store.specs.Order.{order}
-use Rattle.ordered_store.specs.declared.Order.TheVariants.{Before, Same, After}
+use Rattle.std.specs.declared.cmp.Ordering.TheVariants.{Less, Equal, Greater}
 use Rattle.ordered_store.proofs.OrderLaws.{order_equal, order_mirror, flip}
 use Rattle.distinct.specs.Keys.{key_at}
 use Rattle.distinct.specs.Sorting.{EachAt, Ascending, tally, Sorted, Twice, put}
@@ -61,7 +61,7 @@ module _ (s ps : List ℕ) (mid : ℕ) (h : mid ≤ length ps) (whole : EachAt s
     longer : (x : ℕ) → take (suc k) (set out k x) ≡ take k out ++ (x ∷ [])
     longer x = take-suc-set out k x room
 
-    pub turn_left : order (key_at s (get_or ps i 0)) (key_at s (get_or ps j 0)) ≡ Before → Merging s ps mid (set out k (get_or ps i 0)) (i + 1) j
+    pub turn_left : order (key_at s (get_or ps i 0)) (key_at s (get_or ps j 0)) ≡ Less → Merging s ps mid (set out k (get_or ps i 0)) (i + 1) j
     unfolding tally
     turn_left o =
         let x = get_or ps i 0 in
@@ -80,7 +80,7 @@ module _ (s ps : List ℕ) (mid : ℕ) (h : mid ≤ length ps) (whole : EachAt s
           kept = λ q. rw e (omega (arith, m.kept q, tally_append s q (take k out) (x ∷ []), ap (tally s q) left_is));
         }
 
-    pub turn_right : order (key_at s (get_or ps i 0)) (key_at s (get_or ps j 0)) ≡ After → Merging s ps mid (set out k (get_or ps j 0)) i (j + 1)
+    pub turn_right : order (key_at s (get_or ps i 0)) (key_at s (get_or ps j 0)) ≡ Greater → Merging s ps mid (set out k (get_or ps j 0)) i (j + 1)
     unfolding tally
     turn_right o =
         let y = get_or ps j 0 in
@@ -100,7 +100,7 @@ module _ (s ps : List ℕ) (mid : ℕ) (h : mid ≤ length ps) (whole : EachAt s
         }
 
     -- two equal keys
-    pub met : order (key_at s (get_or ps i 0)) (key_at s (get_or ps j 0)) ≡ Same → Twice s ps
+    pub met : order (key_at s (get_or ps i 0)) (key_at s (get_or ps j 0)) ≡ Equal → Twice s ps
     met o =
         let q = key_at s (get_or ps i 0) in
         let a = tally_first s (get_or ps i 0) q (drop (i + 1) (take mid ps)) refl in

@@ -3,8 +3,8 @@ use Prim.Native.Nat.{ℕ, zero, suc, ◌+◌, ◌≤◌, ◌<◌}
 use native.Mathlib.Omega.{arith}
 use mathlib.Core.Path.{◌≡◌, refl, ap, subst, ◌∙◌}
 use mathlib.Core.List.{List, [], ◌∷◌}
-use mathlib.Core.Option.{Option, none, some}
 use lib.ListN.{length, drop, length-drop, drop_of_length-le}
+use Rattle.std.specs.Prelude.{None, Option, Some}
 use Rattle.codec.specs.Codec.{Reading}
 use Rattle.record.specs.Record.{Record, WellFormed, image}
 use Rattle.record.specs.Store.{record_before, read_on, records_in, places_from}
@@ -22,30 +22,30 @@ use Rattle.distinct.proofs.KeysAt.{key_is}
 -- the first of them, and the others from the rest
 pub record First (f : ℕ) (t : List ℕ) (r : Record) (rs : List Record) : Type 0 where
   pub reading : Reading Record
-  pub reads : image.read t ≡ some reading
+  pub reads : image.read t ≡ Some reading
   pub is : reading.value ≡ r
-  pub others : records_in f reading.rest ≡ some rs
+  pub others : records_in f reading.rest ≡ Some rs
 
-before_cons : (x r : Record) (o : Option (List Record)) (rs : List Record) → record_before x o ≡ some (r ∷ rs) → (x ≡ r) × (o ≡ some rs)
-before_cons x r none rs e = absurd (let z : ◌≡◌ {A = ℕ} 0 1 = cc in omega arith)
-before_cons x r (some ts) rs e = (cc, cc)
+before_cons : (x r : Record) (o : Option (List Record)) (rs : List Record) → record_before x o ≡ Some (r ∷ rs) → (x ≡ r) × (o ≡ Some rs)
+before_cons x r None rs e = absurd (let z : ◌≡◌ {A = ℕ} 0 1 = cc in omega arith)
+before_cons x r (Some ts) rs e = (cc, cc)
 
-before_nil : (x : Record) (o : Option (List Record)) → record_before x o ≡ some [] → ⊥
-before_nil x none e = let z : ◌≡◌ {A = ℕ} 0 1 = cc in omega arith
-before_nil x (some ts) e = let z : ◌≡◌ {A = ℕ} 0 1 = cc in omega arith
+before_nil : (x : Record) (o : Option (List Record)) → record_before x o ≡ Some [] → ⊥
+before_nil x None e = let z : ◌≡◌ {A = ℕ} 0 1 = cc in omega arith
+before_nil x (Some ts) e = let z : ◌≡◌ {A = ℕ} 0 1 = cc in omega arith
 
-none_left : (f : ℕ) (o : Option (Reading Record)) → read_on o (λ u. records_in f u) ≡ some [] → ⊥
-none_left f none e = let z : ◌≡◌ {A = ℕ} 0 1 = cc in omega arith
-none_left f (some x) e = before_nil x.value (records_in f x.rest) e
+none_left : (f : ℕ) (o : Option (Reading Record)) → read_on o (λ u. records_in f u) ≡ Some [] → ⊥
+none_left f None e = let z : ◌≡◌ {A = ℕ} 0 1 = cc in omega arith
+none_left f (Some x) e = before_nil x.value (records_in f x.rest) e
 
-opened : (f : ℕ) (t : List ℕ) (r : Record) (rs : List Record) (o : Option (Reading Record)) → image.read t ≡ o → read_on o (λ u. records_in f u) ≡ some (r ∷ rs) → First f t r rs
-opened f t r rs none q e = absurd (let z : ◌≡◌ {A = ℕ} 0 1 = cc in omega arith)
-opened f t r rs (some x) q e =
+opened : (f : ℕ) (t : List ℕ) (r : Record) (rs : List Record) (o : Option (Reading Record)) → image.read t ≡ o → read_on o (λ u. records_in f u) ≡ Some (r ∷ rs) → First f t r rs
+opened f t r rs None q e = absurd (let z : ◌≡◌ {A = ℕ} 0 1 = cc in omega arith)
+opened f t r rs (Some x) q e =
     let k = before_cons x.value r (records_in f x.rest) rs e in
     record { reading = x; reads = q; is = k.0; others = k.1 }
 
 -- more fuel changes nothing
-pub more_fuel : (f : ℕ) (t : List ℕ) (rs : List Record) → records_in f t ≡ some rs → records_in (suc f) t ≡ some rs
+pub more_fuel : (f : ℕ) (t : List ℕ) (rs : List Record) → records_in f t ≡ Some rs → records_in (suc f) t ≡ Some rs
 unfolding records_in
 more_fuel zero [] rs e = e
 more_fuel zero (b ∷ t) rs e = absurd (let z : ◌≡◌ {A = ℕ} 0 1 = cc in omega arith)
@@ -55,7 +55,7 @@ more_fuel (suc f) (b ∷ t) (r ∷ rs) e =
     let k = opened f (b ∷ t) r rs (image.read (b ∷ t)) refl e in
     rw (k.reads, more_fuel f k.reading.rest rs k.others, k.is)
 
-pub first : (f : ℕ) (t : List ℕ) (r : Record) (rs : List Record) → records_in f t ≡ some (r ∷ rs) → First f t r rs
+pub first : (f : ℕ) (t : List ℕ) (r : Record) (rs : List Record) → records_in f t ≡ Some (r ∷ rs) → First f t r rs
 unfolding records_in
 first zero [] r rs e = absurd (let z : ◌≡◌ {A = ℕ} 0 1 = cc in omega arith)
 first zero (b ∷ t) r rs e = absurd (let z : ◌≡◌ {A = ℕ} 0 1 = cc in omega arith)
@@ -65,7 +65,7 @@ first (suc f) (b ∷ t) r rs e =
     record { reading = k.reading; reads = k.reads; is = k.is; others = more_fuel f k.reading.rest rs k.others }
 
 -- no records, no bytes
-pub no_bytes : (f : ℕ) (t : List ℕ) → records_in f t ≡ some [] → length t ≡ 0
+pub no_bytes : (f : ℕ) (t : List ℕ) → records_in f t ≡ Some [] → length t ≡ 0
 unfolding records_in
 no_bytes zero [] e = refl
 no_bytes zero (b ∷ t) e = absurd (let z : ◌≡◌ {A = ℕ} 0 1 = cc in omega arith)
@@ -73,7 +73,7 @@ no_bytes (suc f) [] e = refl
 no_bytes (suc f) (b ∷ t) e = absurd (none_left f (image.read (b ∷ t)) e)
 
 -- no bytes, no records
-pub no_records : (f : ℕ) (rs : List Record) → records_in f [] ≡ some rs → rs ≡ []
+pub no_records : (f : ℕ) (rs : List Record) → records_in f [] ≡ Some rs → rs ≡ []
 unfolding records_in
 no_records zero rs e = cc
 no_records (suc f) rs e = cc
@@ -82,7 +82,7 @@ no_records (suc f) rs e = cc
 
 -- the records from a place on
 abbrev pub From : List ℕ → ℕ → List Record → Type 0
-From s at rs = records_in (length s) (drop at s) ≡ some rs
+From s at rs = records_in (length s) (drop at s) ≡ Some rs
 
 module _ (s : List ℕ) (b : Bytes s) where
   pub record Next (at : ℕ) (r : Record) (rs : List Record) : Type 0 where

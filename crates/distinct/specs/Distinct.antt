@@ -1,17 +1,16 @@
 -- A step of the code: whether bytes that are whole records have one record per identifier (document 01, refusal 3: "one identifier twice"). What the answer
 -- is, and nothing of how it is found.
-use Rattle.std.specs.Prelude.{ℕ, ◌≡◌, Bool, List, length}
-use Rattle.std.proofs.Math.Option.{some}
+use Rattle.std.specs.Prelude.{ℕ, ◌≡◌, Bool, List, length, Some}
 use Rattle.record.specs.Record.{Record, is_given}
 use Rattle.record.specs.Store.{records_in, decode_all, places_from}
 
 -- the bytes are whole records, and these are the places of their images
 abbrev pub Places : List ℕ → List ℕ → Type 0
-Places s places = (rs : List Record) × ((records_in (length s) s ≡ some rs) × (places ≡ places_from 0 rs))
+Places s places = (rs : List Record) × ((records_in (length s) s ≡ Some rs) × (places ≡ places_from 0 rs))
 
 -- the bytes are whole records
 abbrev pub Whole : List ℕ → Type 0
-Whole s = (rs : List Record) × (records_in (length s) s ≡ some rs)
+Whole s = (rs : List Record) × (records_in (length s) s ≡ Some rs)
 
 -- no two of the records have one identifier: then, and only then, the bytes are a store's
 abbrev pub is_distinct : List ℕ → Bool

@@ -3,7 +3,7 @@ use Rattle.std.specs.Prelude.{ℕ, ◌+◌, ◌≤◌, ◌≡◌, Bool, true, fa
 use Rattle.text.specs.Text.{equal}
 use Rattle.record.specs.Record.{bit_of}
 use Rattle.ordered_store.specs.Order.{order}
-use Rattle.ordered_store.specs.declared.Order.TheVariants.{Before}
+use Rattle.std.specs.declared.cmp.Ordering.TheVariants.{Less}
 use Rattle.record_walk.specs.Walk.{At}
 use Rattle.distinct.specs.Keys.{key_at}
 
@@ -16,7 +16,7 @@ EachAt s (p ∷ ps) = At s p × EachAt s ps
 unfoldable pub Ascending : List ℕ → List ℕ → Type 0
 Ascending s [] = Unit {0}
 Ascending s (p ∷ []) = Unit {0}
-Ascending s (p ∷ q ∷ ps) = (order (key_at s p) (key_at s q) ≡ Before) × Ascending s (q ∷ ps)
+Ascending s (p ∷ q ∷ ps) = (order (key_at s p) (key_at s q) ≡ Less) × Ascending s (q ∷ ps)
 
 -- two ascending runs, the places before mid and the others, and a list as long
 pub record Runs (s ps : List ℕ) (mid : ℕ) (out : List ℕ) : Type 0 where

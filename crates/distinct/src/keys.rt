@@ -5,21 +5,21 @@ ghost use Rattle.ordered_store.specs.Order.{order};
 ghost use Rattle.record_walk.specs.Walk.{At};
 ghost use Rattle.distinct.specs.Keys.{key_at};
 
-use ordered_store::Order;
 use record_walk::{ids_end, two};
+use std::cmp::Ordering;
 
 // How the key of the record at one place stands to that at another.
-pub fn compare(bytes: &[u8], p: usize, q: usize) -> Order
+pub fn compare(bytes: &[u8], p: usize, q: usize) -> Ordering
     requires { At bytes.now p × At bytes.now q }
     ensures { result ≡ order (key_at bytes.now p) (key_at bytes.now q) }
 {
     let p_flags = flags(bytes, p);
     let q_flags = flags(bytes, q);
     if p_flags < q_flags {
-        return Order::Before;
+        return Ordering::Less;
     }
     if q_flags < p_flags {
-        return Order::After;
+        return Ordering::Greater;
     }
     let a = p + 2;
     let a_end = ids_end(bytes, p);

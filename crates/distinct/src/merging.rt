@@ -3,7 +3,7 @@ ghost use Rattle.std.specs.Prelude.{◌≡◌, ◌+◌, ◌≤◌, length};
 ghost use Rattle.distinct.specs.Sorting.{EachAt, Runs, SortedOr, put};
 
 use crate::keys::compare;
-use ordered_store::Order;
+use std::cmp::Ordering;
 
 // `places` in the order of their keys; or `false`, if two keys are equal.
 pub fn sort(bytes: &[u8], places: &mut [usize], scratch: &mut [usize]) -> bool
@@ -50,15 +50,15 @@ fn merge(bytes: &[u8], places: &[usize], mid: usize, out: &mut [usize]) -> bool
         let k = i + (j - mid);
         let way = compare(bytes, p, q);
         match way {
-            Order::Before => {
+            Ordering::Less => {
                 out[k] = p;
                 i += 1;
             }
-            Order::After => {
+            Ordering::Greater => {
                 out[k] = q;
                 j += 1;
             }
-            Order::Same => return false,
+            Ordering::Equal => return false,
         }
     }
     copy_at(out, i + (j - mid), &places[i..mid]);

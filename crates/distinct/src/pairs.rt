@@ -4,8 +4,8 @@ ghost use Rattle.record_walk.specs.Walk.{At};
 ghost use Rattle.distinct.specs.Pairs.{WholeFrom, alone_from};
 
 use crate::keys::compare;
-use ordered_store::Order;
 use record_walk::record_end;
+use std::cmp::Ordering;
 
 // No record from a place on has the identifier of the record at `p`.
 pub fn is_alone(bytes: &[u8], p: usize, from: usize) -> bool
@@ -15,7 +15,7 @@ pub fn is_alone(bytes: &[u8], p: usize, from: usize) -> bool
     let mut q = from;
     while q < bytes.len() {
         let way = compare(bytes, q, p);
-        if let Order::Same = way {
+        if let Ordering::Equal = way {
             return false;
         }
         q = record_end(bytes, q);

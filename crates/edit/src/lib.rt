@@ -39,11 +39,7 @@ pub fn put(bytes: &mut [u8], at: usize, piece: &[u8])
     requires { at + length piece.now ≤ length bytes.old }
     ensures { bytes.new ≡ put_at at piece.now bytes.old }
 {
-    let mut k = 0;
-    while k < piece.len() {
-        bytes[at + k] = piece[k];
-        k += 1;
-    }
+    bytes[at..at + piece.len()].copy_from_slice(piece);
 }
 
 // The n bytes from a place on, moved to another, down or up.
@@ -51,33 +47,21 @@ pub fn shift(bytes: &mut [u8], from: usize, to: usize, n: usize)
     requires { (from + n ≤ length bytes.old) × (to + n ≤ length bytes.old) }
     ensures { bytes.new ≡ put_at to (take n (drop from bytes.old)) bytes.old }
 {
-    if to < from {
-        move_left(bytes, from, to, n);
-    } else {
-        move_right(bytes, from, to, n);
-    }
+    bytes.copy_within(from..from + n, to);
 }
 
-// The n bytes from a place on, moved down to another, the lowest first.
+// The n bytes from a place on, moved down to another.
 pub fn move_left(bytes: &mut [u8], from: usize, to: usize, n: usize)
     requires { (to ≤ from) × (from + n ≤ length bytes.old) }
     ensures { bytes.new ≡ put_at to (take n (drop from bytes.old)) bytes.old }
 {
-    let mut k = 0;
-    while k < n {
-        bytes[to + k] = bytes[from + k];
-        k += 1;
-    }
+    shift(bytes, from, to, n);
 }
 
-// The n bytes from a place on, moved up to another, the highest first.
+// The n bytes from a place on, moved up to another.
 pub fn move_right(bytes: &mut [u8], from: usize, to: usize, n: usize)
     requires { (from ≤ to) × (to + n ≤ length bytes.old) }
     ensures { bytes.new ≡ put_at to (take n (drop from bytes.old)) bytes.old }
 {
-    let mut k = n;
-    while 0 < k {
-        k -= 1;
-        bytes[to + k] = bytes[from + k];
-    }
+    shift(bytes, from, to, n);
 }

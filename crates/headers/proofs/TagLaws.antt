@@ -4,11 +4,11 @@ use native.Mathlib.Omega.{arith}
 use mathlib.Core.Path.{◌≡◌, refl, sym, ap, subst, ◌∙◌}
 use mathlib.Core.Bool.{Bool, true, false, true≢false}
 use mathlib.Core.List.{List, ◌∷◌}
-use mathlib.Core.Option.{Option, none, some}
 use lib.ListN.{length, take, drop, length-drop, length-take}
 use lib.Seq.{length-take-le, drop-drop}
 use lib.Dec.{ltb}
 use borrow.Author.Tests.{ltb-true, ltb-false}
+use Rattle.std.specs.Prelude.{Err, None, Ok, Option, Some}
 use Rattle.text.specs.Text.{blanks, trimmed, Piece}
 use Rattle.text.specs.Answers.{span_of}
 use Rattle.text.specs.declared.Span.{Span}
@@ -19,8 +19,6 @@ use Rattle.text.proofs.Alike.{alike_length}
 use Rattle.headers.proofs.SegmentLaws.{left, left_start, left_done, left_cons, segment_fits}
 use Rattle.headers.specs.declared.tag.Mode.TheVariants.{Outside}
 use Rattle.headers.specs.Tag.{segments_in, cut_length, tag_eq, is_tag, tag_at, first_tag, part_of, part_answer}
-use Rattle.headers.specs.declared.tag.Part.TheVariants.{At, Nothing}
-use Rattle.headers.specs.declared.tag.PartAnswer.TheVariants as answer
 use Rattle.limits.specs.Outcome.{or_refuse}
 use Rattle.limits.specs.declared.Refusal.TheVariants.{MissingHeader}
 
@@ -31,7 +29,7 @@ tag_from v at = first_tag at (left v at)
 pub tag_start : (v : List ℕ) → first_tag 0 (segments_in Outside v) ≡ tag_from v 0
 tag_start v = ap (first_tag 0) (sym (left_start v))
 
-pub tag_done : (v : List ℕ) (at : ℕ) → length v < at → tag_from v at ≡ none
+pub tag_done : (v : List ℕ) (at : ℕ) → length v < at → tag_from v at ≡ None
 unfolding first_tag
 tag_done v at h = rw (left_done v at h)
 
@@ -49,7 +47,7 @@ module _ (v : List ℕ) (at n : ℕ) (h : at ≤ length v) (hn : n ≡ cut_lengt
   tag_next e = rw (left_cons v at n h hn, e, segment_length)
 
   pub tag_hit : is_tag (trimmed segment) ≡ true
-      → part_of (tag_from v at) ≡ At (record { start = at + blanks segment + 4; length = length (trimmed segment) - 4 })
+      → part_of (tag_from v at) ≡ Some (record { start = at + blanks segment + 4; length = length (trimmed segment) - 4 })
   unfolding first_tag
   tag_hit e = rw (left_cons v at n h hn, e, length-drop)
 
@@ -84,21 +82,21 @@ module _ (v : List ℕ) (at n : ℕ) (h : at ≤ length v) (hn : n ≡ cut_lengt
       }
 
 by_first : (v : List ℕ) (p : Piece) (at : ℕ) (g : List ℕ) (gs : List (List ℕ)) (u : Bool) → is_tag (trimmed g) ≡ u
-    → (is_tag (trimmed g) ≡ true → Placed v (tag_at at g)) → (first_tag (at + length g + 1) gs ≡ some p → Placed v p) → first_tag at (g ∷ gs) ≡ some p → Placed v p
+    → (is_tag (trimmed g) ≡ true → Placed v (tag_at at g)) → (first_tag (at + length g + 1) gs ≡ Some p → Placed v p) → first_tag at (g ∷ gs) ≡ Some p → Placed v p
 unfolding first_tag
 by_first v p at g gs true e here more q =
-    let r : some (tag_at at g) ≡ some p = (rw e at q) in
+    let r : Some (tag_at at g) ≡ Some p = (rw e at q) in
     let s : tag_at at g ≡ p = cc in
     subst (λ (x : Piece). Placed v x) s (here e)
 by_first v p at g gs false e here more q = more (rw e at q)
 
 -- by fuel: each segment is at least one byte with what ends it
-placed_from : (v : List ℕ) (p : Piece) (fuel at : ℕ) → length v < at + fuel → tag_from v at ≡ some p → Placed v p
-placed_from v p zero at h e = absurd (let x : tag_from v at ≡ none = tag_done v at (omega arith) in let z : ◌≡◌ {A = ℕ} 0 1 = cc in omega arith)
+placed_from : (v : List ℕ) (p : Piece) (fuel at : ℕ) → length v < at + fuel → tag_from v at ≡ Some p → Placed v p
+placed_from v p zero at h e = absurd (let x : tag_from v at ≡ None = tag_done v at (omega arith) in let z : ◌≡◌ {A = ℕ} 0 1 = cc in omega arith)
 placed_from v p (suc fuel) at h e = by (ltb (length v) at) refl (λ m. placed_from v p fuel m)
   where
-    by : (u : Bool) → ltb (length v) at ≡ u → ((m : ℕ) → length v < m + fuel → tag_from v m ≡ some p → Placed v p) → Placed v p
-    by true k more = absurd (let x : tag_from v at ≡ none = tag_done v at (ltb-true _ _ k) in let z : ◌≡◌ {A = ℕ} 0 1 = cc in omega arith)
+    by : (u : Bool) → ltb (length v) at ≡ u → ((m : ℕ) → length v < m + fuel → tag_from v m ≡ Some p → Placed v p) → Placed v p
+    by true k more = absurd (let x : tag_from v at ≡ None = tag_done v at (ltb-true _ _ k) in let z : ◌≡◌ {A = ℕ} 0 1 = cc in omega arith)
     by false k more =
         let n : ℕ = cut_length Outside (take (length v - at) (drop at v)) in
         let l : at ≤ length v = ltb-false _ _ k in
@@ -109,19 +107,19 @@ placed_from v p (suc fuel) at h e = by (ltb (length v) at) refl (λ m. placed_fr
         (rw (left_cons v at n l refl) at e)
 
 -- a tag that was read stands in the value
-pub tag_placed : (v : List ℕ) (p : Piece) → first_tag 0 (segments_in Outside v) ≡ some p → Placed v p
+pub tag_placed : (v : List ℕ) (p : Piece) → first_tag 0 (segments_in Outside v) ≡ Some p → Placed v p
 tag_placed v p e = placed_from v p (suc (length v)) 0 (omega arith) (sym (tag_start v) ∙ e)
 
 -- as `find_tag` answers it
-pub tag_says : (v : List ℕ) (o : Option Piece) (t : Span) → ((p : Piece) → o ≡ some p → Placed v p) → part_of o ≡ At t → t.start + t.length ≤ length v
-tag_says v none t k e = absurd (let z : ◌≡◌ {A = ℕ} 0 1 = cc in omega arith)
-tag_says v (some p) t k e = let q : span_of p ≡ t = cc in subst (λ (x : Span). x.start + x.length ≤ length v) q (k p refl).fits
+pub tag_says : (v : List ℕ) (o : Option Piece) (t : Span) → ((p : Piece) → o ≡ Some p → Placed v p) → part_of o ≡ Some t → t.start + t.length ≤ length v
+tag_says v None t k e = absurd (let z : ◌≡◌ {A = ℕ} 0 1 = cc in omega arith)
+tag_says v (Some p) t k e = let q : span_of p ≡ t = cc in subst (λ (x : Span). x.start + x.length ≤ length v) q (k p refl).fits
 
 -- the answer with refusals by the one without
-pub tag_missing : (o : Option Piece) → part_of o ≡ Nothing → answer.Refused MissingHeader ≡ part_answer (or_refuse MissingHeader o)
-tag_missing none e = refl
-tag_missing (some p) e = absurd (let z : ◌≡◌ {A = ℕ} 0 1 = cc in omega arith)
+pub tag_missing : (o : Option Piece) → part_of o ≡ None → Err MissingHeader ≡ part_answer (or_refuse MissingHeader o)
+tag_missing None e = refl
+tag_missing (Some p) e = absurd (let z : ◌≡◌ {A = ℕ} 0 1 = cc in omega arith)
 
-pub tag_read : (o : Option Piece) (t : Span) → part_of o ≡ At t → answer.At t ≡ part_answer (or_refuse MissingHeader o)
-tag_read none t e = absurd (let z : ◌≡◌ {A = ℕ} 0 1 = cc in omega arith)
-tag_read (some p) t e = let q : span_of p ≡ t = cc in ap answer.At (sym q)
+pub tag_read : (o : Option Piece) (t : Span) → part_of o ≡ Some t → Ok t ≡ part_answer (or_refuse MissingHeader o)
+tag_read None t e = absurd (let z : ◌≡◌ {A = ℕ} 0 1 = cc in omega arith)
+tag_read (Some p) t e = let q : span_of p ≡ t = cc in ap Ok (sym q)

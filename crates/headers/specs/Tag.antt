@@ -5,19 +5,16 @@
 -- bracket holds all up to its own close or the end." The Rust's `extract_tag` cuts at every semicolon; where none is held the two
 -- agree (`as_the_rust`, proofs/SegmentLaws.antt). RFC 3261 section 25.1 has quotes around a whole display name or parameter value
 -- alone; here they open wherever nothing else is open, and a backslash outside them is a byte like any other.
-use Rattle.std.specs.Prelude.{ℕ, suc, ◌+◌, Bool, true, false, cond, not, ◌&&◌, ◌||◌, List, [], ◌∷◌, length, take, drop, eqb}
-use Rattle.std.proofs.Math.Option.{Option, none, some}
+use Rattle.std.specs.Prelude.{ℕ, suc, ◌+◌, Bool, true, false, cond, not, ◌&&◌, ◌||◌, List, [], ◌∷◌, length, take, drop, eqb, Err, None, Ok, Option, Result, Some}
 use Rattle.limits.specs.Limits.{LimitSet}
-use Rattle.limits.specs.Outcome.{Outcome, refused, given, refuse_by, or_refuse}
+use Rattle.limits.specs.Outcome.{refuse_by, or_refuse}
+use Rattle.limits.specs.declared.Refusal.{Refusal}
 use Rattle.limits.specs.declared.Refusal.TheVariants.{MissingHeader}
 use Rattle.text.specs.Text.{same, blanks, trimmed, on_head, Piece}
 use Rattle.text.specs.Answers.{value_cause, span_of}
+use Rattle.text.specs.declared.Span.{Span}
 use Rattle.headers.specs.declared.tag.Mode.{Mode}
 use Rattle.headers.specs.declared.tag.Mode.TheVariants as mode
-use Rattle.headers.specs.declared.tag.Part.{Part}
-use Rattle.headers.specs.declared.tag.Part.TheVariants as part
-use Rattle.headers.specs.declared.tag.PartAnswer.{PartAnswer}
-use Rattle.headers.specs.declared.tag.PartAnswer.TheVariants as answer
 
 -- ---- where a value is cut: document 02, request 3
 -- A byte is read outside, in quotes, in quotes right after a backslash that covers it (`Escaped`), or in angle brackets. The
@@ -74,25 +71,25 @@ tag_at at g = record { place = at + blanks g + 4; text = drop 4 (trimmed g) }
 
 -- the tag of the first segment that has one; the first segment stands at `at`, and one byte stands between two
 unfoldable pub first_tag : ℕ → List (List ℕ) → Option Piece
-first_tag at [] = none
-first_tag at (g ∷ gs) = cond (is_tag (trimmed g)) (some (tag_at at g)) (first_tag (at + length g + 1) gs)
+first_tag at [] = None
+first_tag at (g ∷ gs) = cond (is_tag (trimmed g)) (Some (tag_at at g)) (first_tag (at + length g + 1) gs)
 
 abbrev pub tag_of : List ℕ → Option Piece
 tag_of v = first_tag 0 (tag_segments v)
 
 -- `extract_tag`: 1, 2, 4
-unfoldable pub extract_tag : LimitSet → List ℕ → Outcome Piece
+unfoldable pub extract_tag : LimitSet → List ℕ → Result Piece Refusal
 extract_tag L v = refuse_by (value_cause L v) (or_refuse MissingHeader (tag_of v))
 
 -- ---- the answers, case by case
 
-abbrev pub part_of : Option Piece → Part
-part_of none = part.Nothing
-part_of (some p) = part.At (span_of p)
+abbrev pub part_of : Option Piece → Option Span
+part_of None = None
+part_of (Some p) = Some (span_of p)
 
-abbrev pub part_answer : Outcome Piece → PartAnswer
-part_answer (refused cause) = answer.Refused cause
-part_answer (given p) = answer.At (span_of p)
+abbrev pub part_answer : Result Piece Refusal → Result Span Refusal
+part_answer (Err cause) = Err cause
+part_answer (Ok p) = Ok (span_of p)
 
 -- ---- steps of the code
 

@@ -5,7 +5,6 @@ mod session_timer;
 mod tag;
 
 pub use session_timer::{
-    Expires, ExpiresAnswer, Refresher, expires_named, parse_session_expires, read_expires,
-    session_expires,
+    Refresher, expires_named, parse_session_expires, read_expires, session_expires,
 };
-pub use tag::{Part, PartAnswer, extract_tag, find_tag};
+pub use tag::{extract_tag, find_tag};

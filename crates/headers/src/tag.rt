@@ -4,15 +4,8 @@ ghost use Rattle.limits.specs.Limits.{rust_limits};
 ghost use Rattle.headers.specs.declared.tag.Mode.TheVariants.{Outside as outside, Quoted as quoted, Bracketed as bracketed};
 ghost use Rattle.headers.specs.Tag.{mode_after, is_outside, is_cut, cut_length, is_tag, tag_of, extract_tag, part_of, part_answer};
 
-use limits::{Check, Refusal};
+use limits::Refusal;
 use text::Span;
-
-// A part of a value: where it stands, or that there is none.
-#[derive(Clone, Copy)]
-pub enum Part {
-    At(Span),
-    Nothing,
-}
 
 // How a byte of a value is read: outside quotes and angle brackets, in quotes, in quotes right after a backslash, or in brackets.
 #[derive(Clone, Copy)]
@@ -23,28 +16,19 @@ pub enum Mode {
     Bracketed,
 }
 
-// What a reading of a part answers.
-#[derive(Clone, Copy)]
-pub enum PartAnswer {
-    At(Span),
-    Refused(Refusal),
-}
-
 // The tag of a value, as the value's own bytes: 1, 2, 4.
-pub fn extract_tag(value: &[u8]) -> PartAnswer
+pub fn extract_tag(value: &[u8]) -> Result<Span, Refusal>
     ensures { result ≡ part_answer (extract_tag rust_limits value.now) }
 {
-    if let Check::Refused(x) = text::check_value(value) {
-        return PartAnswer::Refused(x);
-    }
-    let Part::At(t) = find_tag(value) else {
-        return PartAnswer::Refused(Refusal::MissingHeader);
+    text::check_value(value)?;
+    let Some(t) = find_tag(value) else {
+        return Err(Refusal::MissingHeader);
     };
-    PartAnswer::At(t)
+    Ok(t)
 }
 
 // What follows `tag=` in the first segment that, trimmed, begins so.
-pub fn find_tag(value: &[u8]) -> Part
+pub fn find_tag(value: &[u8]) -> Option<Span>
     ensures { result ≡ part_of (tag_of value.now) }
 {
     let mut at = 0;
@@ -55,14 +39,14 @@ pub fn find_tag(value: &[u8]) -> Part
         let lead = text::leading(g);
         let t = text::trim(g);
         if is_tag(t) {
-            return Part::At(Span {
+            return Some(Span {
                 start: at + lead + 4,
                 length: t.len() - 4,
             });
         }
         at = at + n + 1;
     }
-    Part::Nothing
+    None
 }
 
 // How many bytes stand before the first semicolon outside quotes and angle brackets.

@@ -4,10 +4,10 @@ use native.Mathlib.Omega.{arith}
 use mathlib.Core.Path.{◌≡◌, refl, sym, ap, subst, ◌∙◌}
 use mathlib.Core.Bool.{Bool, true, false, cond, ◌&&◌, ◌||◌, false≢true}
 use mathlib.Core.List.{List, [], ◌∷◌}
-use mathlib.Core.Option.{Option, none, some}
 use lib.ListN.{length}
 use lib.Dec.{leb, ltb, eqb}
 use borrow.Author.Tests.{eq-eqb, ne_eqb, eqb-true, eqb-false, lt-ltb, ltb-true}
+use Rattle.std.specs.Prelude.{None, Option, Some}
 use Rattle.text.specs.Text.{is_value, all}
 use Rattle.text.specs.Number.{non_empty}
 use Rattle.codec.specs.Codec.{Reading, Codec, Pair, four, text, counted, paired, read_then, then, passing, such, flagged, renamed}
@@ -67,36 +67,36 @@ module _ (a b c g h i j k l : ℕ) (ha : a ≤ 1) (hb : b ≤ 1) (hc : c ≤ 1) 
 -- ---- what every value that a form reads is known for
 
 pub record Gives {A : Type 0} (c : Codec A) (P : A → Type 0) : Type 0 where
-  pub holds : (t : List ℕ) (x : Reading A) → c.read t ≡ some x → P x.value
+  pub holds : (t : List ℕ) (x : Reading A) → c.read t ≡ Some x → P x.value
 
 module _ {A B : Type 0} {c : Codec A} {d : Codec B} {P : A → Type 0} {Q : B → Type 0} (p : Gives c P) (q : Gives d Q) where
-  by_second : (a : A) (t : List ℕ) (o : Option (Reading B)) (x : Reading (Pair A B)) → P a → d.read t ≡ o → paired a o ≡ some x → P x.value.first × Q x.value.second
-  by_second a t none x g e r = absurd (no_reading r)
-  by_second a t (some b) x g e r =
+  by_second : (a : A) (t : List ℕ) (o : Option (Reading B)) (x : Reading (Pair A B)) → P a → d.read t ≡ o → paired a o ≡ Some x → P x.value.first × Q x.value.second
+  by_second a t None x g e r = absurd (no_reading r)
+  by_second a t (Some b) x g e r =
       let w : record { value = record { first = a; second = b.value }; rest = b.rest } ≡ x = cc in
       subst (λ (z : Reading (Pair A B)). P z.value.first × Q z.value.second) w (g, q.holds t b e)
 
-  by_first : (t : List ℕ) (o : Option (Reading A)) (x : Reading (Pair A B)) → c.read t ≡ o → read_then o d.read ≡ some x → P x.value.first × Q x.value.second
-  by_first t none x e r = absurd (no_reading r)
-  by_first t (some a) x e r = by_second a.value a.rest (d.read a.rest) x (p.holds t a e) refl r
+  by_first : (t : List ℕ) (o : Option (Reading A)) (x : Reading (Pair A B)) → c.read t ≡ o → read_then o d.read ≡ Some x → P x.value.first × Q x.value.second
+  by_first t None x e r = absurd (no_reading r)
+  by_first t (Some a) x e r = by_second a.value a.rest (d.read a.rest) x (p.holds t a e) refl r
 
   then_gives : Gives (then c d) (λ x. P x.first × Q x.second)
   then_gives = record { holds = λ t x e. by_first t (c.read t) x refl e }
 
-passed : {A : Type 0} (test : A → Bool) (o : Option (Reading A)) (x : Reading A) → passing test o ≡ some x → test x.value ≡ true
-passed test none x r = absurd (no_reading r)
-passed {A} test (some a) x r = by (test a.value) refl
+passed : {A : Type 0} (test : A → Bool) (o : Option (Reading A)) (x : Reading A) → passing test o ≡ Some x → test x.value ≡ true
+passed test None x r = absurd (no_reading r)
+passed {A} test (Some a) x r = by (test a.value) refl
   where
     by : (b : Bool) → test a.value ≡ b → test x.value ≡ true
     by true b =
-        let m : some a ≡ some x = (rw b at r) in
+        let m : Some a ≡ Some x = (rw b at r) in
         let w : a ≡ x = cc in
         subst (λ (z : Reading A). test z.value ≡ true) w b
     by false b = absurd (no_reading (rw b at r))
 
-named : {A B : Type 0} (f : A → B) (P : B → Type 0) → ((a : A) → P (f a)) → (o : Option (Reading A)) (x : Reading B) → renamed f o ≡ some x → P x.value
-named f P all none x r = absurd (no_reading r)
-named {A} {B} f P all (some a) x r =
+named : {A B : Type 0} (f : A → B) (P : B → Type 0) → ((a : A) → P (f a)) → (o : Option (Reading A)) (x : Reading B) → renamed f o ≡ Some x → P x.value
+named f P all None x r = absurd (no_reading r)
+named {A} {B} f P all (Some a) x r =
     let w : record { value = f a.value; rest = a.rest } ≡ x = cc in
     subst (λ (z : Reading B). P z.value) w (all a.value)
 
@@ -105,7 +105,7 @@ flagged_gives : {A : Type 0} {c : Codec A} {there : A → Bool} (flag : Bool) (a
 flagged_gives true absent z p = p
 flagged_gives {A} {c} {there} false absent z p = record { holds = nothing }
   where
-    nothing : (t : List ℕ) (x : Reading A) → some (record { value = absent; rest = t }) ≡ some x → there x.value ≡ false
+    nothing : (t : List ℕ) (x : Reading A) → Some (record { value = absent; rest = t }) ≡ Some x → there x.value ≡ false
     nothing t x e =
         let w : record { value = absent; rest = t } ≡ x = cc in
         subst (λ (y : Reading A). there y.value ≡ false) w z
@@ -127,17 +127,17 @@ number_gives : (flag : Bool) → Gives (number flag) (λ n. ltb 0 n ≡ flag)
 number_gives flag = flagged_gives flag 0 refl (record { holds = λ t x e. passed (λ n. ltb 0 n) (four.read t) x e })
 
 optional_gives : (flag : Bool) → Gives (optional flag) (λ o. is_given o ≡ flag)
-optional_gives flag = flagged_gives flag none refl (record { holds = λ t x e. named some (λ o. is_given o ≡ true) (λ n. refl) (four.read t) x e })
+optional_gives flag = flagged_gives flag None refl (record { holds = λ t x e. named Some (λ o. is_given o ≡ true) (λ n. refl) (four.read t) x e })
 
 given_side : (n : ℕ) → is_given (side_of n) ≡ true
 given_side n = by (eqb n 1)
   where
-    by : (b : Bool) → is_given (cond b (some uac) (some uas)) ≡ true
+    by : (b : Bool) → is_given (cond b (Some uac) (Some uas)) ≡ true
     by true = refl
     by false = refl
 
 side_gives : (flag : Bool) → Gives (refresher_field flag) (λ o. is_given o ≡ flag)
-side_gives flag = flagged_gives flag none refl (record { holds = λ t x e. named side_of (λ o. is_given o ≡ true) given_side ((such four (λ n. eqb n 1 || eqb n 2)).read t) x e })
+side_gives flag = flagged_gives flag None refl (record { holds = λ t x e. named side_of (λ o. is_given o ≡ true) given_side ((such four (λ n. eqb n 1 || eqb n 2)).read t) x e })
 
 routes_gives : (flag : Bool) → Gives (routes_field flag) (λ l. is_filled l ≡ flag)
 routes_gives flag = flagged_gives flag [] refl (record { holds = λ t x e. filled_list x.value (leb (length x.value) 50) (passed (λ l. ltb 0 (length l) && leb (length l) 50) ((counted uri_text).read t) x e) })

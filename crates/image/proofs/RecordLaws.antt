@@ -4,28 +4,19 @@ use native.Mathlib.Omega.{arith}
 use mathlib.Core.Path.{◌≡◌, refl, sym, ap, ap₂, ◌∙◌}
 use mathlib.Core.Bool.{Bool, true, false, cond, not, ◌||◌, beq}
 use mathlib.Core.List.{List}
-use mathlib.Core.Option.{Option, none, some}
 use lib.ListN.{length, drop}
 use lib.Dec.{eqb}
 use borrow.Author.Tests.{not-true, not-false}
+use Rattle.std.specs.Prelude.{None, Option, Some}
 use Rattle.codec.specs.Codec.{Reading, two, paired, passing, renamed, keyed_by}
 use Rattle.record.specs.Record.{Fields, Tail, is_secure, secure_right, map_of, fields, record_of, image, state_byte, ids_field, uris_field, tail_field}
 use Rattle.record.specs.NumbersForm.{state_from, numbers_from}
 use Rattle.record.specs.declared.numbers.State.{State}
 use Rattle.image.specs.Places.{numbers_size, routes_size, ids_places, uris_places, tail_places, record_places, ids_from, state_field_of, uris_from, tail_from, record_from}
-use Rattle.image.specs.declared.parts.StateField.{StateField}
-use Rattle.image.specs.declared.parts.StateField.TheVariants as StateS
 use Rattle.image.specs.declared.sections.IdsAt.{IdsAt}
-use Rattle.image.specs.declared.sections.IdsSection.{IdsSection}
-use Rattle.image.specs.declared.sections.IdsSection.TheVariants as IdsS
 use Rattle.image.specs.declared.sections.UrisAt.{UrisAt}
-use Rattle.image.specs.declared.sections.UrisSection.{UrisSection}
-use Rattle.image.specs.declared.sections.UrisSection.TheVariants as UrisS
 use Rattle.image.specs.declared.sections.TailAt.{TailAt}
-use Rattle.image.specs.declared.sections.TailSection.{TailSection}
-use Rattle.image.specs.declared.sections.TailSection.TheVariants as TailS
 use Rattle.image.specs.declared.RecordAt.{RecordAt}
-use Rattle.image.specs.declared.RecordReading.TheVariants as Whole
 use Rattle.codec.proofs.ReadLaws.{two_none}
 use Rattle.codec.proofs.AnswerLaws.{both}
 use Rattle.image.proofs.AnswerLaws.{IdsGot, ids_not, StateGot, state_not, UrisGot, uris_not, TailGot, tail_not}
@@ -97,26 +88,26 @@ module _ (at : ℕ) (f : Fields) where
 -- ---- the record
 
 module _ (s : List ℕ) (at : ℕ) where
-  pub record_short : length s - at < 2 → Whole.Broken ≡ record_from at (image.read (drop at s))
+  pub record_short : length s - at < 2 → None ≡ record_from at (image.read (drop at s))
   record_short h = rw (two_none s at h)
 
-  module _ {m : ℕ} (k : two.read (drop at s) ≡ some (record { value = m; rest = drop (at + 2) s })) where
-    pub no_map : is_map m ≡ false → Whole.Broken ≡ record_from at (image.read (drop at s))
+  module _ {m : ℕ} (k : two.read (drop at s) ≡ Some (record { value = m; rest = drop (at + 2) s })) where
+    pub no_map : is_map m ≡ false → None ≡ record_from at (image.read (drop at s))
     no_map e = rw k (by ((fields m).read (drop (at + 2) s)))
       where
-        by : (o : Option (Reading Fields)) → Whole.Broken ≡ record_from at (renamed record_of (passing secure_right (keyed_by map_of m o)))
-        by none = refl
-        by (some x) = rw (map_not m x.value e)
+        by : (o : Option (Reading Fields)) → None ≡ record_from at (renamed record_of (passing secure_right (keyed_by map_of m o)))
+        by None = refl
+        by (Some x) = rw (map_not m x.value e)
 
-    pub no_ids : {r : IdsSection} → r ≡ ids_from (at + 2) ((ids_field m).read (drop (at + 2) s)) → r ≡ IdsS.Broken → Whole.Broken ≡ record_from at (image.read (drop at s))
+    pub no_ids : {r : Option IdsAt} → r ≡ ids_from (at + 2) ((ids_field m).read (drop (at + 2) s)) → r ≡ None → None ≡ record_from at (image.read (drop at s))
     no_ids e q = rw (k, ids_not (at + 2) ((ids_field m).read (drop (at + 2) s)) (sym e ∙ q))
 
     module _ {p : IdsAt} (x : IdsGot m s (at + 2) p) where
-      pub no_state : {r : StateField} → r ≡ state_field_of (state_byte.read (drop p.end s)) → r ≡ StateS.Broken → Whole.Broken ≡ record_from at (image.read (drop at s))
+      pub no_state : {r : Option (State × Bool × Bool)} → r ≡ state_field_of (state_byte.read (drop p.end s)) → r ≡ None → None ≡ record_from at (image.read (drop at s))
       no_state e q = rw (k, x.got.reads, state_not (state_byte.read (drop p.end s)) (sym e ∙ q))
 
       module _ {state : State} {uac secure : Bool} (y : StateGot s p.end state uac secure) where
-        pub no_uris : {r : UrisSection} → r ≡ uris_from (p.end + 1) (uris_field.read (drop (p.end + 1) s)) → r ≡ UrisS.Broken → Whole.Broken ≡ record_from at (image.read (drop at s))
+        pub no_uris : {r : Option UrisAt} → r ≡ uris_from (p.end + 1) (uris_field.read (drop (p.end + 1) s)) → r ≡ None → None ≡ record_from at (image.read (drop at s))
         no_uris e q = rw (k, x.got.reads, y.got.reads, uris_not (p.end + 1) (uris_field.read (drop (p.end + 1) s)) (sym e ∙ q))
 
         module _ {u : UrisAt} (z : UrisGot s (p.end + 1) u) where
@@ -124,18 +115,18 @@ module _ (s : List ℕ) (at : ℕ) where
           right_is : beq y.value.secure (is_secure z.value) ≡ beq secure (u.local_secure || u.remote_secure)
           right_is = cc ((both (both y.placed).1).1, z.placed)
 
-          pub wrong_bit : beq secure (u.local_secure || u.remote_secure) ≡ false → Whole.Broken ≡ record_from at (image.read (drop at s))
+          pub wrong_bit : beq secure (u.local_secure || u.remote_secure) ≡ false → None ≡ record_from at (image.read (drop at s))
           wrong_bit e = rw (k, x.got.reads, y.got.reads, z.got.reads) (by ((tail_field m).read (drop u.end s)))
             where
-              by : (o : Option (Reading Tail)) → Whole.Broken ≡ record_from at (renamed record_of (passing secure_right (keyed_by map_of m (paired x.value (paired y.value (paired z.value o))))))
-              by none = refl
-              by (some t) = is (eqb (map_of (record { first = x.value; second = record { first = y.value; second = record { first = z.value; second = t.value } } })) m)
+              by : (o : Option (Reading Tail)) → None ≡ record_from at (renamed record_of (passing secure_right (keyed_by map_of m (paired x.value (paired y.value (paired z.value o))))))
+              by None = refl
+              by (Some t) = is (eqb (map_of (record { first = x.value; second = record { first = y.value; second = record { first = z.value; second = t.value } } })) m)
                 where
-                  is : (b : Bool) → Whole.Broken ≡ record_from at (renamed record_of (passing secure_right (cond b (some (record { value = record { first = x.value; second = record { first = y.value; second = record { first = z.value; second = t.value } } }; rest = t.rest })) none)))
+                  is : (b : Bool) → None ≡ record_from at (renamed record_of (passing secure_right (cond b (Some (record { value = record { first = x.value; second = record { first = y.value; second = record { first = z.value; second = t.value } } }; rest = t.rest })) None)))
                   is true = rw (right_is, e)
                   is false = refl
 
-          pub no_tail : {r : TailSection} → r ≡ tail_from u.end ((tail_field m).read (drop u.end s)) → r ≡ TailS.Broken → Whole.Broken ≡ record_from at (image.read (drop at s))
+          pub no_tail : {r : Option TailAt} → r ≡ tail_from u.end ((tail_field m).read (drop u.end s)) → r ≡ None → None ≡ record_from at (image.read (drop at s))
           no_tail e q = rw (k, x.got.reads, y.got.reads, z.got.reads, tail_not u.end ((tail_field m).read (drop u.end s)) (sym e ∙ q))
 
           module _ (f : is_map m ≡ true) (g : beq secure (u.local_secure || u.remote_secure) ≡ true) {t : TailAt} (w : TailGot m s u.end t) where
@@ -145,5 +136,5 @@ module _ (s : List ℕ) (at : ℕ) where
             mapped_right : eqb (map_of all) m ≡ true
             mapped_right = map_is m all f ((ids_give m).holds (drop (at + 2) s) _ x.got.reads) ((tail_gives m).holds (drop u.end s) _ w.got.reads)
 
-            pub record_whole : {r : RecordAt} → r ≡ made p state uac u t → Whole.Whole r ≡ record_from at (image.read (drop at s))
-            record_whole e = rw (k, x.got.reads, y.got.reads, z.got.reads, w.got.reads, mapped_right, right_is, g) (ap Whole.Whole (e ∙ made_is at all x.placed (both y.placed).0 (both (both y.placed).1).0 z.placed w.placed))
+            pub record_whole : {r : RecordAt} → r ≡ made p state uac u t → Some r ≡ record_from at (image.read (drop at s))
+            record_whole e = rw (k, x.got.reads, y.got.reads, z.got.reads, w.got.reads, mapped_right, right_is, g) (ap Some (e ∙ made_is at all x.placed (both y.placed).0 (both (both y.placed).1).0 z.placed w.placed))

@@ -3,96 +3,82 @@ use Prim.Native.Nat.{ℕ, ◌+◌, ◌≤◌}
 use mathlib.Core.Path.{◌≡◌, sym, ap, ◌∙◌}
 use mathlib.Core.Bool.{Bool}
 use mathlib.Core.List.{List}
-use mathlib.Core.Option.{none}
 use lib.ListN.{length, drop}
+use Rattle.std.specs.Prelude.{None, Option, Some}
 use Rattle.text.specs.declared.Span.{Span}
 use Rattle.record.specs.Record.{stands, id_text, uri_text, number, optional, refresher_field, routes_field, ids_field, uris_field, tail_field}
-use Rattle.record.specs.declared.numbers.Optional.{Optional}
 use Rattle.record.specs.declared.numbers.Refresher.{Refresher}
 use Rattle.image.specs.Places.{id_from, number_at, optional_at, refresher_at, routes_at, ids_from, uris_from, tail_from}
-use Rattle.codec.specs.declared.reading.Text.{Text}
-use Rattle.codec.specs.declared.reading.Text.TheVariants as T
-use Rattle.image.specs.declared.parts.Number.{Number}
-use Rattle.image.specs.declared.parts.Number.TheVariants as N
-use Rattle.image.specs.declared.parts.OptionalNumber.{OptionalNumber}
-use Rattle.image.specs.declared.parts.OptionalNumber.TheVariants as O
-use Rattle.image.specs.declared.parts.RefresherNumber.{RefresherNumber}
-use Rattle.image.specs.declared.parts.RefresherNumber.TheVariants as F
-use Rattle.image.specs.declared.parts.Routes.{Routes}
-use Rattle.image.specs.declared.parts.Routes.TheVariants as R
-use Rattle.image.specs.declared.sections.IdsSection.TheVariants as IdsS
-use Rattle.image.specs.declared.sections.UrisSection.TheVariants as UrisS
-use Rattle.image.specs.declared.sections.TailSection.TheVariants as TailS
 use Rattle.codec.proofs.AnswerLaws.{both}
 use Rattle.image.proofs.AnswerLaws.{IdGot, id_got, id_not, UriGot, NumberGot, number_got, number_not, OptionalGot, optional_got, optional_not, SideGot, side_got, side_not, RoutesGot, routes_got, routes_not}
 
 -- ---- in a caller's words: r is what the call gave, b the bit that it was handed
 
 module _ (s : List ℕ) (at : ℕ) {b flag : Bool} (f : b ≡ flag) where
-  pub id_told : {r : Text} {p : Span} → at ≤ length s → r ≡ id_from at ((id_text b).read (drop at s)) → r ≡ T.At p → IdGot flag s at p
+  pub id_told : {r : Option Span} {p : Span} → at ≤ length s → r ≡ id_from at ((id_text b).read (drop at s)) → r ≡ Some p → IdGot flag s at p
   id_told h e q = id_got flag s at h (ap (λ (x : Bool). id_from at ((id_text x).read (drop at s))) (sym f) ∙ sym e ∙ q)
 
-  pub id_none : {r : Text} → r ≡ id_from at ((id_text b).read (drop at s)) → r ≡ T.Broken → (id_text flag).read (drop at s) ≡ none
+  pub id_none : {r : Option Span} → r ≡ id_from at ((id_text b).read (drop at s)) → r ≡ None → (id_text flag).read (drop at s) ≡ None
   id_none e q = id_not at ((id_text flag).read (drop at s)) (ap (λ (x : Bool). id_from at ((id_text x).read (drop at s))) (sym f) ∙ sym e ∙ q)
 
-  pub number_told : {r : Number} {n next : ℕ} → at ≤ length s → r ≡ number_at at ((number b).read (drop at s)) → r ≡ N.Of n next → NumberGot flag s at n next
+  pub number_told : {r : Option (ℕ × ℕ)} {n next : ℕ} → at ≤ length s → r ≡ number_at at ((number b).read (drop at s)) → r ≡ Some (n, next) → NumberGot flag s at n next
   number_told h e q = number_got flag s at h (ap (λ (x : Bool). number_at at ((number x).read (drop at s))) (sym f) ∙ sym e ∙ q)
 
-  pub number_none : {r : Number} → r ≡ number_at at ((number b).read (drop at s)) → r ≡ N.Broken → (number flag).read (drop at s) ≡ none
+  pub number_none : {r : Option (ℕ × ℕ)} → r ≡ number_at at ((number b).read (drop at s)) → r ≡ None → (number flag).read (drop at s) ≡ None
   number_none e q = number_not at ((number flag).read (drop at s)) (ap (λ (x : Bool). number_at at ((number x).read (drop at s))) (sym f) ∙ sym e ∙ q)
 
-  pub optional_told : {r : OptionalNumber} {n : Optional} {next : ℕ} → at ≤ length s → r ≡ optional_at at ((optional b).read (drop at s)) → r ≡ O.Of n next → OptionalGot flag s at n next
+  pub optional_told : {r : Option (Option ℕ × ℕ)} {n : Option ℕ} {next : ℕ} → at ≤ length s → r ≡ optional_at at ((optional b).read (drop at s)) → r ≡ Some (n, next) → OptionalGot flag s at n next
   optional_told h e q = optional_got flag s at h (ap (λ (x : Bool). optional_at at ((optional x).read (drop at s))) (sym f) ∙ sym e ∙ q)
 
-  pub optional_none : {r : OptionalNumber} → r ≡ optional_at at ((optional b).read (drop at s)) → r ≡ O.Broken → (optional flag).read (drop at s) ≡ none
+  pub optional_none : {r : Option (Option ℕ × ℕ)} → r ≡ optional_at at ((optional b).read (drop at s)) → r ≡ None → (optional flag).read (drop at s) ≡ None
   optional_none e q = optional_not at ((optional flag).read (drop at s)) (ap (λ (x : Bool). optional_at at ((optional x).read (drop at s))) (sym f) ∙ sym e ∙ q)
 
-  pub side_told : {r : RefresherNumber} {n : Refresher} {next : ℕ} → at ≤ length s → r ≡ refresher_at at ((refresher_field b).read (drop at s)) → r ≡ F.Of n next → SideGot flag s at n next
+  pub side_told : {r : Option (Refresher × ℕ)} {n : Refresher} {next : ℕ} → at ≤ length s → r ≡ refresher_at at ((refresher_field b).read (drop at s)) → r ≡ Some (n, next) → SideGot flag s at n next
   side_told h e q = side_got flag s at h (ap (λ (x : Bool). refresher_at at ((refresher_field x).read (drop at s))) (sym f) ∙ sym e ∙ q)
 
-  pub side_none : {r : RefresherNumber} → r ≡ refresher_at at ((refresher_field b).read (drop at s)) → r ≡ F.Broken → (refresher_field flag).read (drop at s) ≡ none
+  pub side_none : {r : Option (Refresher × ℕ)} → r ≡ refresher_at at ((refresher_field b).read (drop at s)) → r ≡ None → (refresher_field flag).read (drop at s) ≡ None
   side_none e q = side_not at ((refresher_field flag).read (drop at s)) (ap (λ (x : Bool). refresher_at at ((refresher_field x).read (drop at s))) (sym f) ∙ sym e ∙ q)
 
-  pub routes_told : {r : Routes} {n next : ℕ} → at ≤ length s → r ≡ routes_at at ((routes_field b).read (drop at s)) → r ≡ R.Of n next → RoutesGot flag s at n next
+  pub routes_told : {r : Option (ℕ × ℕ)} {n next : ℕ} → at ≤ length s → r ≡ routes_at at ((routes_field b).read (drop at s)) → r ≡ Some (n, next) → RoutesGot flag s at n next
   routes_told h e q = routes_got flag s at h (ap (λ (x : Bool). routes_at at ((routes_field x).read (drop at s))) (sym f) ∙ sym e ∙ q)
 
-  pub routes_none : {r : Routes} → r ≡ routes_at at ((routes_field b).read (drop at s)) → r ≡ R.Broken → (routes_field flag).read (drop at s) ≡ none
+  pub routes_none : {r : Option (ℕ × ℕ)} → r ≡ routes_at at ((routes_field b).read (drop at s)) → r ≡ None → (routes_field flag).read (drop at s) ≡ None
   routes_none e q = routes_not at ((routes_field flag).read (drop at s)) (ap (λ (x : Bool). routes_at at ((routes_field x).read (drop at s))) (sym f) ∙ sym e ∙ q)
 
 -- ---- the identifiers
 
 module _ (m : ℕ) (s : List ℕ) (at : ℕ) where
-  pub ids_none_1 : (id_text (stands 0 m)).read (drop at s) ≡ none → IdsS.Broken ≡ ids_from at ((ids_field m).read (drop at s))
+  pub ids_none_1 : (id_text (stands 0 m)).read (drop at s) ≡ None → None ≡ ids_from at ((ids_field m).read (drop at s))
   ids_none_1 e = rw e
 
   module _ {a : Span} (x : IdGot (stands 0 m) s at a) where
-    pub ids_none_2 : (id_text (stands 1 m)).read (drop (a.start + a.length) s) ≡ none → IdsS.Broken ≡ ids_from at ((ids_field m).read (drop at s))
+    pub ids_none_2 : (id_text (stands 1 m)).read (drop (a.start + a.length) s) ≡ None → None ≡ ids_from at ((ids_field m).read (drop at s))
     ids_none_2 e = rw (x.got.reads, e)
 
     module _ {b : Span} (y : IdGot (stands 1 m) s (a.start + a.length) b) where
-      pub ids_none_3 : (id_text (stands 2 m)).read (drop (b.start + b.length) s) ≡ none → IdsS.Broken ≡ ids_from at ((ids_field m).read (drop at s))
+      pub ids_none_3 : (id_text (stands 2 m)).read (drop (b.start + b.length) s) ≡ None → None ≡ ids_from at ((ids_field m).read (drop at s))
       ids_none_3 e = rw (x.got.reads, y.got.reads, e)
 
       pub ids_whole : {c : Span} → IdGot (stands 2 m) s (b.start + b.length) c
-          → IdsS.At (record { call_id = a; local_tag = b; remote_tag = c; end = c.start + c.length }) ≡ ids_from at ((ids_field m).read (drop at s))
+          → Some (record { call_id = a; local_tag = b; remote_tag = c; end = c.start + c.length }) ≡ ids_from at ((ids_field m).read (drop at s))
       ids_whole z = rw (x.got.reads, y.got.reads, z.got.reads) (cc (x.placed, y.placed, z.placed))
 
 -- ---- the URIs
 
 module _ (s : List ℕ) (at : ℕ) where
-  pub uris_none_1 : uri_text.read (drop at s) ≡ none → UrisS.Broken ≡ uris_from at (uris_field.read (drop at s))
+  pub uris_none_1 : uri_text.read (drop at s) ≡ None → None ≡ uris_from at (uris_field.read (drop at s))
   uris_none_1 e = rw e
 
   module _ {a : Span} {sa : Bool} (x : UriGot s at a sa) where
-    pub uris_none_2 : uri_text.read (drop (a.start + a.length) s) ≡ none → UrisS.Broken ≡ uris_from at (uris_field.read (drop at s))
+    pub uris_none_2 : uri_text.read (drop (a.start + a.length) s) ≡ None → None ≡ uris_from at (uris_field.read (drop at s))
     uris_none_2 e = rw (x.got.reads, e)
 
     module _ {b : Span} {sb : Bool} (y : UriGot s (a.start + a.length) b sb) where
-      pub uris_none_3 : uri_text.read (drop (b.start + b.length) s) ≡ none → UrisS.Broken ≡ uris_from at (uris_field.read (drop at s))
+      pub uris_none_3 : uri_text.read (drop (b.start + b.length) s) ≡ None → None ≡ uris_from at (uris_field.read (drop at s))
       uris_none_3 e = rw (x.got.reads, y.got.reads, e)
 
       pub uris_whole : {c : Span} {sc : Bool} → UriGot s (b.start + b.length) c sc
-          → UrisS.At (record { target = a; local_uri = b; remote_uri = c; local_secure = sb; remote_secure = sc; end = c.start + c.length }) ≡ uris_from at (uris_field.read (drop at s))
+          → Some (record { target = a; local_uri = b; remote_uri = c; local_secure = sb; remote_secure = sc; end = c.start + c.length }) ≡ uris_from at (uris_field.read (drop at s))
       uris_whole z =
           rw (x.got.reads, y.got.reads, z.got.reads)
           (cc ((both x.placed).0, (both y.placed).0, (both z.placed).0, (both y.placed).1, (both z.placed).1))
@@ -100,31 +86,31 @@ module _ (s : List ℕ) (at : ℕ) where
 -- ---- the numbers and the routes
 
 module _ (m : ℕ) (s : List ℕ) (at : ℕ) where
-  pub tail_none_1 : (number (stands 7 m)).read (drop at s) ≡ none → TailS.Broken ≡ tail_from at ((tail_field m).read (drop at s))
+  pub tail_none_1 : (number (stands 7 m)).read (drop at s) ≡ None → None ≡ tail_from at ((tail_field m).read (drop at s))
   tail_none_1 e = rw e
 
   module _ {i b : ℕ} (x1 : NumberGot (stands 7 m) s at i b) where
-    pub tail_none_2 : (number (stands 8 m)).read (drop b s) ≡ none → TailS.Broken ≡ tail_from at ((tail_field m).read (drop at s))
+    pub tail_none_2 : (number (stands 8 m)).read (drop b s) ≡ None → None ≡ tail_from at ((tail_field m).read (drop at s))
     tail_none_2 e = rw (x1.got.reads, e)
 
     module _ {j c : ℕ} (x2 : NumberGot (stands 8 m) s b j c) where
-      pub tail_none_3 : (optional (stands 9 m)).read (drop c s) ≡ none → TailS.Broken ≡ tail_from at ((tail_field m).read (drop at s))
+      pub tail_none_3 : (optional (stands 9 m)).read (drop c s) ≡ None → None ≡ tail_from at ((tail_field m).read (drop at s))
       tail_none_3 e = rw (x1.got.reads, x2.got.reads, e)
 
-      module _ {k : Optional} {d : ℕ} (x3 : OptionalGot (stands 9 m) s c k d) where
-        pub tail_none_4 : (optional (stands 10 m)).read (drop d s) ≡ none → TailS.Broken ≡ tail_from at ((tail_field m).read (drop at s))
+      module _ {k : Option ℕ} {d : ℕ} (x3 : OptionalGot (stands 9 m) s c k d) where
+        pub tail_none_4 : (optional (stands 10 m)).read (drop d s) ≡ None → None ≡ tail_from at ((tail_field m).read (drop at s))
         tail_none_4 e = rw (x1.got.reads, x2.got.reads, x3.got.reads, e)
 
-        module _ {l : Optional} {e : ℕ} (x4 : OptionalGot (stands 10 m) s d l e) where
-          pub tail_none_5 : (refresher_field (stands 11 m)).read (drop e s) ≡ none → TailS.Broken ≡ tail_from at ((tail_field m).read (drop at s))
+        module _ {l : Option ℕ} {e : ℕ} (x4 : OptionalGot (stands 10 m) s d l e) where
+          pub tail_none_5 : (refresher_field (stands 11 m)).read (drop e s) ≡ None → None ≡ tail_from at ((tail_field m).read (drop at s))
           tail_none_5 z = rw (x1.got.reads, x2.got.reads, x3.got.reads, x4.got.reads, z)
 
           module _ {n : Refresher} {f : ℕ} (x5 : SideGot (stands 11 m) s e n f) where
-            pub tail_none_6 : (routes_field (stands 12 m)).read (drop f s) ≡ none → TailS.Broken ≡ tail_from at ((tail_field m).read (drop at s))
+            pub tail_none_6 : (routes_field (stands 12 m)).read (drop f s) ≡ None → None ≡ tail_from at ((tail_field m).read (drop at s))
             tail_none_6 z = rw (x1.got.reads, x2.got.reads, x3.got.reads, x4.got.reads, x5.got.reads, z)
 
             pub tail_whole : {count g : ℕ} → RoutesGot (stands 12 m) s f count g
-                → TailS.At (record { local = i; remote = j; last_ack = k; seconds = l; refresher = n; routes = f; route_count = count; end = g }) ≡ tail_from at ((tail_field m).read (drop at s))
+                → Some (record { local = i; remote = j; last_ack = k; seconds = l; refresher = n; routes = f; route_count = count; end = g }) ≡ tail_from at ((tail_field m).read (drop at s))
             tail_whole x6 =
                 rw (x1.got.reads, x2.got.reads, x3.got.reads, x4.got.reads, x5.got.reads, x6.got.reads)
                 (cc (

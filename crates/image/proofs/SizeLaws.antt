@@ -4,10 +4,10 @@ use native.Mathlib.Omega.{arith}
 use mathlib.Core.Path.{◌≡◌, refl, ap, subst, ◌∙◌}
 use mathlib.Core.Bool.{Bool, true, false, cond, ◌&&◌, ◌||◌, false≢true}
 use mathlib.Core.List.{List, [], ◌∷◌}
-use mathlib.Core.Option.{Option, none, some}
 use lib.ListN.{length, drop, length-drop}
 use lib.Seq.{drop-drop}
 use lib.Dec.{leb, ltb, eqb}
+use Rattle.std.specs.Prelude.{None, Option, Some}
 use Rattle.text.specs.Text.{is_value, all}
 use Rattle.text.specs.Number.{non_empty}
 use Rattle.codec.specs.Codec.{Reading, read_byte, in_front, and_more, read_all, read_counted, counted}
@@ -39,17 +39,17 @@ pub number_sized : (flag : Bool) → Sized (number flag) number_size
 number_sized flag = flagged_sized flag 0 (such_sized four_sized (λ n. ltb 0 n) number_size (λ n e. ap (λ (b : Bool). 4 * bit_of b) e)) refl
 
 pub optional_sized : (flag : Bool) → Sized (optional flag) option_size
-optional_sized flag = flagged_sized flag none (mapped_sized four_sized some value_or option_size (λ n. refl)) refl
+optional_sized flag = flagged_sized flag None (mapped_sized four_sized Some value_or option_size (λ n. refl)) refl
 
 side_size : (n : ℕ) → option_size (side_of n) ≡ 4
 side_size n = by (eqb n 1)
   where
-    by : (b : Bool) → option_size (cond b (some uac) (some uas)) ≡ 4
+    by : (b : Bool) → option_size (cond b (Some uac) (Some uas)) ≡ 4
     by true = refl
     by false = refl
 
 pub side_sized : (flag : Bool) → Sized (refresher_field flag) option_size
-side_sized flag = flagged_sized flag none (mapped_sized (such_sized four_sized (λ n. eqb n 1 || eqb n 2) (λ n. 4) (λ n e. refl)) side_of side_number option_size side_size) refl
+side_sized flag = flagged_sized flag None (mapped_sized (such_sized four_sized (λ n. eqb n 1 || eqb n 2) (λ n. 4) (λ n e. refl)) side_of side_number option_size side_size) refl
 
 pub state_sized : Sized state_byte (λ b. 1)
 state_sized = mapped_sized (such_sized byte_sized (λ n. ltb n 16 && ltb 0 (n % 4)) (λ n. 1) (λ n e. refl)) state_byte_of state_byte_number (λ b. 1) (λ n. refl)
@@ -61,10 +61,10 @@ abbrev Texts : List ℕ → ℕ → Reading (List (List ℕ)) → Type 0
 Texts t n x = (x.rest ≡ drop (texts_size x.value) t) × ((texts_size x.value ≤ length t) × (length x.value ≡ n))
 
 by_others : (t : List ℕ) (n : ℕ) (a : Reading (List ℕ)) (o : Option (Reading (List (List ℕ)))) (x : Reading (List (List ℕ))) → (a.rest ≡ drop (uri_size a.value) t) × (uri_size a.value ≤ length t)
-    → ((b : Reading (List (List ℕ))) → o ≡ some b → Texts a.rest n b) → in_front a.value o ≡ some x → Texts t (suc n) x
+    → ((b : Reading (List (List ℕ))) → o ≡ Some b → Texts a.rest n b) → in_front a.value o ≡ Some x → Texts t (suc n) x
 unfolding texts_size
-by_others t n a none x k more r = absurd (no_reading r)
-by_others t n a (some b) x k more r =
+by_others t n a None x k more r = absurd (no_reading r)
+by_others t n a (Some b) x k more r =
     let w : record { value = a.value ∷ b.value; rest = b.rest } ≡ x = cc in
     let m = more b refl in
     let l : length a.rest ≡ length t - uri_size a.value = ap length k.0 ∙ length-drop (uri_size a.value) t in
@@ -72,11 +72,11 @@ by_others t n a (some b) x k more r =
     (m.0 ∙ ap (λ (u : List ℕ). drop (texts_size b.value) u) k.0 ∙ drop-drop (texts_size b.value) (uri_size a.value) t, (omega (arith, m.1.0, k.1, l), ap suc m.1.1))
 
 by_one : (t : List ℕ) (n : ℕ) (o : Option (Reading (List ℕ))) (x : Reading (List (List ℕ))) → uri_text.read t ≡ o
-    → ((u : List ℕ) (b : Reading (List (List ℕ))) → read_all uri_text n u ≡ some b → Texts u n b) → and_more o (read_all uri_text n) ≡ some x → Texts t (suc n) x
-by_one t n none x e more r = absurd (no_reading r)
-by_one t n (some a) x e more r = by_others t n a (read_all uri_text n a.rest) x (uri_sized.ends t a e) (λ b. more a.rest b) r
+    → ((u : List ℕ) (b : Reading (List (List ℕ))) → read_all uri_text n u ≡ Some b → Texts u n b) → and_more o (read_all uri_text n) ≡ Some x → Texts t (suc n) x
+by_one t n None x e more r = absurd (no_reading r)
+by_one t n (Some a) x e more r = by_others t n a (read_all uri_text n a.rest) x (uri_sized.ends t a e) (λ b. more a.rest b) r
 
-pub texts_end_lem : (n : ℕ) (t : List ℕ) (x : Reading (List (List ℕ))) → read_all uri_text n t ≡ some x → Texts t n x
+pub texts_end_lem : (n : ℕ) (t : List ℕ) (x : Reading (List (List ℕ))) → read_all uri_text n t ≡ Some x → Texts t n x
 unfolding read_all texts_size
 texts_end_lem zero t x e =
     let w : record { value = []; rest = t } ≡ x = cc in
@@ -86,9 +86,9 @@ texts_end_lem (suc n) t x e = by_one t n (uri_text.read t) x refl (texts_end_lem
 abbrev counted_size : List (List ℕ) → ℕ
 counted_size l = 1 + texts_size l
 
-by_count : (t : List ℕ) (o : Option (Reading ℕ)) (x : Reading (List (List ℕ))) → read_byte t ≡ o → read_counted uri_text o ≡ some x → (x.rest ≡ drop (counted_size x.value) t) × (counted_size x.value ≤ length t)
-by_count t none x e r = absurd (no_reading r)
-by_count t (some n) x e r =
+by_count : (t : List ℕ) (o : Option (Reading ℕ)) (x : Reading (List (List ℕ))) → read_byte t ≡ o → read_counted uri_text o ≡ Some x → (x.rest ≡ drop (counted_size x.value) t) × (counted_size x.value ≤ length t)
+by_count t None x e r = absurd (no_reading r)
+by_count t (Some n) x e r =
     let k = byte_ends t n e in
     let m = texts_end_lem n.value n.rest x r in
     let l : length n.rest ≡ length t - 1 = ap length k.0 ∙ length-drop 1 t in

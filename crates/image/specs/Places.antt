@@ -1,39 +1,18 @@
 -- Where the parts of a record lie that is read at a place of lent bytes. Document 01, "Record image": two bytes of bit map, then the
 -- fields whose bit stands, in bit order. A text lies past its two length bytes; one whose bit doesn't stand lies where it would begin,
 -- with length 0. What the parts are is `image.read` alone (record/specs/Record.antt); here are only their places.
-use Rattle.std.specs.Prelude.{ℕ, ◌+◌, ◌*◌, List, [], ◌∷◌, length, ltb}
-use Rattle.std.proofs.Math.Option.{Option}
+use Rattle.std.specs.Prelude.{ℕ, ◌+◌, ◌*◌, List, [], ◌∷◌, length, ltb, Bool, None, Option, Some}
 use Rattle.text.specs.declared.Span.{Span}
 use Rattle.codec.specs.Codec.{Reading}
 use Rattle.codec.specs.Places.{answered, text_span, text_end}
 use Rattle.record.specs.Record.{Side, Record, Numbers, Ids, Uris, Tail, StateByte, bit_of, is_filled, is_given, is_sips}
 use Rattle.record.specs.NumbersForm.{state_from, number_from, side_from, numbers_from}
-use Rattle.codec.specs.declared.reading.Text.{Text}
-use Rattle.codec.specs.declared.reading.Text.TheVariants as text
-use Rattle.image.specs.declared.parts.UriText.{UriText}
-use Rattle.image.specs.declared.parts.UriText.TheVariants as uri_text
-use Rattle.image.specs.declared.parts.Number.{Number}
-use Rattle.image.specs.declared.parts.Number.TheVariants as number
-use Rattle.image.specs.declared.parts.OptionalNumber.{OptionalNumber}
-use Rattle.image.specs.declared.parts.OptionalNumber.TheVariants as optional_number
-use Rattle.image.specs.declared.parts.RefresherNumber.{RefresherNumber}
-use Rattle.image.specs.declared.parts.RefresherNumber.TheVariants as refresher_number
-use Rattle.image.specs.declared.parts.Routes.{Routes}
-use Rattle.image.specs.declared.parts.Routes.TheVariants as routes
-use Rattle.image.specs.declared.parts.StateField.{StateField}
-use Rattle.image.specs.declared.parts.StateField.TheVariants as state_field
+use Rattle.record.specs.declared.numbers.State.{State}
+use Rattle.record.specs.declared.numbers.Refresher.{Refresher}
 use Rattle.image.specs.declared.sections.IdsAt.{IdsAt}
-use Rattle.image.specs.declared.sections.IdsSection.{IdsSection}
-use Rattle.image.specs.declared.sections.IdsSection.TheVariants as ids_section
 use Rattle.image.specs.declared.sections.UrisAt.{UrisAt}
-use Rattle.image.specs.declared.sections.UrisSection.{UrisSection}
-use Rattle.image.specs.declared.sections.UrisSection.TheVariants as uris_section
 use Rattle.image.specs.declared.sections.TailAt.{TailAt}
-use Rattle.image.specs.declared.sections.TailSection.{TailSection}
-use Rattle.image.specs.declared.sections.TailSection.TheVariants as tail_section
 use Rattle.image.specs.declared.RecordAt.{RecordAt}
-use Rattle.image.specs.declared.RecordReading.{RecordReading}
-use Rattle.image.specs.declared.RecordReading.TheVariants as reading
 
 -- ---- sizes
 
@@ -64,29 +43,29 @@ id_span at t = record { start = at + lead t; length = length t }
 abbrev pub id_end : ℕ → List ℕ → ℕ
 id_end at t = at + lead t + length t
 
-abbrev pub id_from : ℕ → Option (Reading (List ℕ)) → Text
-id_from at o = answered text.Broken (λ v. text.At (id_span at v)) o
+abbrev pub id_from : ℕ → Option (Reading (List ℕ)) → Option Span
+id_from at o = answered None (λ v. Some (id_span at v)) o
 
 -- with whether it is `sips`
-abbrev pub uri_from : ℕ → Option (Reading (List ℕ)) → UriText
-uri_from at o = answered uri_text.Broken (λ v. uri_text.At (text_span at v) (is_sips v)) o
+abbrev pub uri_from : ℕ → Option (Reading (List ℕ)) → Option (Span × Bool)
+uri_from at o = answered None (λ v. Some (text_span at v, is_sips v)) o
 
 -- a number and the place after it
-abbrev pub number_at : ℕ → Option (Reading ℕ) → Number
-number_at at o = answered number.Broken (λ v. number.Of v (at + number_size v)) o
+abbrev pub number_at : ℕ → Option (Reading ℕ) → Option (ℕ × ℕ)
+number_at at o = answered None (λ v. Some (v, at + number_size v)) o
 
-abbrev pub optional_at : ℕ → Option (Reading (Option ℕ)) → OptionalNumber
-optional_at at o = answered optional_number.Broken (λ v. optional_number.Of (number_from v) (at + option_size v)) o
+abbrev pub optional_at : ℕ → Option (Reading (Option ℕ)) → Option (Option ℕ × ℕ)
+optional_at at o = answered None (λ v. Some (number_from v, at + option_size v)) o
 
-abbrev pub refresher_at : ℕ → Option (Reading (Option Side)) → RefresherNumber
-refresher_at at o = answered refresher_number.Broken (λ v. refresher_number.Of (side_from v) (at + option_size v)) o
+abbrev pub refresher_at : ℕ → Option (Reading (Option Side)) → Option (Refresher × ℕ)
+refresher_at at o = answered None (λ v. Some (side_from v, at + option_size v)) o
 
 -- how many routes, and the place after them
-abbrev pub routes_at : ℕ → Option (Reading (List (List ℕ))) → Routes
-routes_at at o = answered routes.Broken (λ v. routes.Of (length v) (at + routes_size v)) o
+abbrev pub routes_at : ℕ → Option (Reading (List (List ℕ))) → Option (ℕ × ℕ)
+routes_at at o = answered None (λ v. Some (length v, at + routes_size v)) o
 
-abbrev pub state_field_of : Option (Reading StateByte) → StateField
-state_field_of o = answered state_field.Broken (λ v. state_field.Of (state_from v.state) v.we_are_uac v.secure) o
+abbrev pub state_field_of : Option (Reading StateByte) → Option (State × Bool × Bool)
+state_field_of o = answered None (λ v. Some (state_from v.state, v.we_are_uac, v.secure)) o
 
 -- ---- the sections of an image
 
@@ -96,8 +75,8 @@ ids_places at i =
     let remote = id_end local i.second.first in
     record { call_id = id_span at i.first; local_tag = id_span local i.second.first; remote_tag = id_span remote i.second.second; end = id_end remote i.second.second }
 
-abbrev pub ids_from : ℕ → Option (Reading Ids) → IdsSection
-ids_from at o = answered ids_section.Broken (λ v. ids_section.At (ids_places at v)) o
+abbrev pub ids_from : ℕ → Option (Reading Ids) → Option IdsAt
+ids_from at o = answered None (λ v. Some (ids_places at v)) o
 
 abbrev pub uris_places : ℕ → Uris → UrisAt
 uris_places at u =
@@ -112,8 +91,8 @@ uris_places at u =
       end = text_end remote u.second.second;
     }
 
-abbrev pub uris_from : ℕ → Option (Reading Uris) → UrisSection
-uris_from at o = answered uris_section.Broken (λ v. uris_section.At (uris_places at v)) o
+abbrev pub uris_from : ℕ → Option (Reading Uris) → Option UrisAt
+uris_from at o = answered None (λ v. Some (uris_places at v)) o
 
 abbrev pub tail_places : ℕ → Tail → TailAt
 tail_places at t =
@@ -133,8 +112,8 @@ tail_places at t =
       end = f + routes_size t.second.second.second.second.second;
     }
 
-abbrev pub tail_from : ℕ → Option (Reading Tail) → TailSection
-tail_from at o = answered tail_section.Broken (λ v. tail_section.At (tail_places at v)) o
+abbrev pub tail_from : ℕ → Option (Reading Tail) → Option TailAt
+tail_from at o = answered None (λ v. Some (tail_places at v)) o
 
 -- ---- the record
 
@@ -163,5 +142,5 @@ record_places at r =
       end = u.end + numbers_size r.numbers + routes_size r.routes;
     }
 
-abbrev pub record_from : ℕ → Option (Reading Record) → RecordReading
-record_from at o = answered reading.Broken (λ v. reading.Whole (record_places at v)) o
+abbrev pub record_from : ℕ → Option (Reading Record) → Option RecordAt
+record_from at o = answered None (λ v. Some (record_places at v)) o

@@ -5,8 +5,7 @@ ghost use Rattle.std.specs.Prelude.{◌≡◌, ◌&&◌, ◌||◌, ◌≤◌, �
 ghost use Rattle.record.specs.Record.{image};
 ghost use Rattle.image.specs.Places.{record_from};
 
-use crate::parts::StateField;
-use crate::sections::{IdsSection, TailAt, TailSection, UrisSection};
+use crate::sections::TailAt;
 use record::{Numbers, State};
 
 mod parts;
@@ -27,41 +26,27 @@ pub struct RecordAt {
     pub end: usize,
 }
 
-#[derive(Clone, Copy)]
-pub enum RecordReading {
-    Whole(RecordAt),
-    Broken,
-}
-
 // The record whose image begins at a place.
-pub fn read_record(bytes: &[u8], at: usize) -> RecordReading
+pub fn read_record(bytes: &[u8], at: usize) -> Option<RecordAt>
     requires { at ≤ length bytes.now }
     ensures { result ≡ record_from at (image.read (drop at bytes.now)) }
 {
     if bytes.len() - at < 2 {
-        return RecordReading::Broken;
+        return None;
     }
     let map = codec::read_two(bytes, at);
     if !is_map(map) {
-        return RecordReading::Broken;
+        return None;
     }
-    let IdsSection::At(ids) = sections::read_ids(bytes, at + 2, map) else {
-        return RecordReading::Broken;
-    };
+    let ids = sections::read_ids(bytes, at + 2, map)?;
     let state_at = ids.end;
-    let StateField::Of(state, we_are_uac, secure) = parts::read_state(bytes, state_at) else {
-        return RecordReading::Broken;
-    };
-    let UrisSection::At(uris) = sections::read_uris(bytes, state_at + 1) else {
-        return RecordReading::Broken;
-    };
+    let (state, we_are_uac, secure) = parts::read_state(bytes, state_at)?;
+    let uris = sections::read_uris(bytes, state_at + 1)?;
     if secure != either(uris.local_secure, uris.remote_secure) {
-        return RecordReading::Broken;
+        return None;
     }
-    let TailSection::At(tail) = sections::read_tail(bytes, uris.end, map) else {
-        return RecordReading::Broken;
-    };
-    RecordReading::Whole(placed(state, we_are_uac, ids, uris, tail))
+    let tail = sections::read_tail(bytes, uris.end, map)?;
+    Some(placed(state, we_are_uac, ids, uris, tail))
 }
 
 // Whether bits 3 to 6 stand, and none above 12.

@@ -4,11 +4,9 @@ ghost use Rattle.record.specs.Record.{ids_field, uris_field, tail_field};
 ghost use Rattle.image.specs.Places.{ids_from, uris_from, tail_from};
 
 use crate::parts::{
-    Number, OptionalNumber, RefresherNumber, Routes, UriText, read_id, read_number, read_optional,
-    read_refresher, read_routes, read_uri_text,
+    read_id, read_number, read_optional, read_refresher, read_routes, read_uri_text,
 };
-use codec::Text;
-use record::{Optional, Refresher};
+use record::Refresher;
 use text::Span;
 
 // Where the identifier's parts lie, and the place after them.
@@ -18,12 +16,6 @@ pub struct IdsAt {
     pub local_tag: Span,
     pub remote_tag: Span,
     pub end: usize,
-}
-
-#[derive(Clone, Copy)]
-pub enum IdsSection {
-    At(IdsAt),
-    Broken,
 }
 
 // Where the URIs lie, which of the local and the remote one is `sips`, and the place after them.
@@ -37,46 +29,27 @@ pub struct UrisAt {
     pub end: usize,
 }
 
-#[derive(Clone, Copy)]
-pub enum UrisSection {
-    At(UrisAt),
-    Broken,
-}
-
 // The numbers, where the routes' section lies, how many routes it has, and the place after it.
 #[derive(Clone, Copy)]
 pub struct TailAt {
     pub local: u32,
     pub remote: u32,
-    pub last_ack: Optional,
-    pub seconds: Optional,
+    pub last_ack: Option<u32>,
+    pub seconds: Option<u32>,
     pub refresher: Refresher,
     pub routes: usize,
     pub route_count: usize,
     pub end: usize,
 }
 
-#[derive(Clone, Copy)]
-pub enum TailSection {
-    At(TailAt),
-    Broken,
-}
-
-pub fn read_ids(bytes: &[u8], at: usize, map: usize) -> IdsSection
+pub fn read_ids(bytes: &[u8], at: usize, map: usize) -> Option<IdsAt>
     requires { at ≤ length bytes.now }
     ensures { result ≡ ids_from at ((ids_field map).read (drop at bytes.now)) }
 {
-    let Text::At(call_id) = read_id(bytes, at, bit(map, 1)) else {
-        return IdsSection::Broken;
-    };
-    let Text::At(local_tag) = read_id(bytes, call_id.start + call_id.length, bit(map, 2)) else {
-        return IdsSection::Broken;
-    };
-    let Text::At(remote_tag) = read_id(bytes, local_tag.start + local_tag.length, bit(map, 4))
-    else {
-        return IdsSection::Broken;
-    };
-    IdsSection::At(IdsAt {
+    let call_id = read_id(bytes, at, bit(map, 1))?;
+    let local_tag = read_id(bytes, call_id.start + call_id.length, bit(map, 2))?;
+    let remote_tag = read_id(bytes, local_tag.start + local_tag.length, bit(map, 4))?;
+    Some(IdsAt {
         call_id,
         local_tag,
         remote_tag,
@@ -84,24 +57,14 @@ pub fn read_ids(bytes: &[u8], at: usize, map: usize) -> IdsSection
     })
 }
 
-pub fn read_uris(bytes: &[u8], at: usize) -> UrisSection
+pub fn read_uris(bytes: &[u8], at: usize) -> Option<UrisAt>
     requires { at ≤ length bytes.now }
     ensures { result ≡ uris_from at (uris_field.read (drop at bytes.now)) }
 {
-    let UriText::At(target, _) = read_uri_text(bytes, at) else {
-        return UrisSection::Broken;
-    };
-    let UriText::At(local_uri, local_secure) = read_uri_text(bytes, target.start + target.length)
-    else {
-        return UrisSection::Broken;
-    };
-    let UriText::At(remote_uri, remote_secure) = read_uri_text(
-        bytes,
-        local_uri.start + local_uri.length,
-    ) else {
-        return UrisSection::Broken;
-    };
-    UrisSection::At(UrisAt {
+    let (target, _) = read_uri_text(bytes, at)?;
+    let (local_uri, local_secure) = read_uri_text(bytes, target.start + target.length)?;
+    let (remote_uri, remote_secure) = read_uri_text(bytes, local_uri.start + local_uri.length)?;
+    Some(UrisAt {
         target,
         local_uri,
         remote_uri,
@@ -111,29 +74,25 @@ pub fn read_uris(bytes: &[u8], at: usize) -> UrisSection
     })
 }
 
-pub fn read_tail(bytes: &[u8], at: usize, map: usize) -> TailSection
+pub fn read_tail(bytes: &[u8], at: usize, map: usize) -> Option<TailAt>
     requires { at ≤ length bytes.now }
     ensures { result ≡ tail_from at ((tail_field map).read (drop at bytes.now)) }
 {
-    let Number::Of(local, b) = read_number(bytes, at, bit(map, 128)) else {
-        return TailSection::Broken;
+    let Some((local, b)) = read_number(bytes, at, bit(map, 128)) else {
+        return None;
     };
-    let Number::Of(remote, c) = read_number(bytes, b, bit(map, 256)) else {
-        return TailSection::Broken;
+    let Some((remote, c)) = read_number(bytes, b, bit(map, 256)) else {
+        return None;
     };
-    let OptionalNumber::Of(last_ack, d) = read_optional(bytes, c, bit(map, 512)) else {
-        return TailSection::Broken;
+    let Some((last_ack, d)) = read_optional(bytes, c, bit(map, 512)) else {
+        return None;
     };
-    let OptionalNumber::Of(seconds, e) = read_optional(bytes, d, bit(map, 1024)) else {
-        return TailSection::Broken;
+    let Some((seconds, e)) = read_optional(bytes, d, bit(map, 1024)) else {
+        return None;
     };
-    let RefresherNumber::Of(refresher, routes) = read_refresher(bytes, e, bit(map, 2048)) else {
-        return TailSection::Broken;
-    };
-    let Routes::Of(route_count, end) = read_routes(bytes, routes, bit(map, 4096)) else {
-        return TailSection::Broken;
-    };
-    TailSection::At(TailAt {
+    let (refresher, routes) = read_refresher(bytes, e, bit(map, 2048))?;
+    let (route_count, end) = read_routes(bytes, routes, bit(map, 4096))?;
+    Some(TailAt {
         local,
         remote,
         last_ack,

@@ -1,17 +1,16 @@
 -- The used bytes around a record that was read at a place: those before, its image, those after. What a change makes of them. Assumes nothing.
 use mathlib.Core.Path.{◌≡◌, refl, sym, ap, ◌∙◌}
 use mathlib.Core.List.{List, [], ◌∷◌, ◌++◌}
-use mathlib.Core.Option.{some}
 use Prim.Native.Nat.{ℕ, ◌+◌, ◌≤◌, ◌<◌}
 use native.Mathlib.Omega.{arith}
 use lib.ListN.{length, take, drop, get_or, take-append-drop}
 use lib.Seq.{length-take-le}
+use Rattle.std.specs.Prelude.{Some}
 use Rattle.record.specs.Record.{Record, Ids, is_filled, id_text, image}
 use Rattle.codec.proofs.CodecLaws.{Bytes, bytes_take, bytes_drop, bytes_all}
 use Rattle.record.proofs.WellFormedLaws.{image_back}
 use Rattle.image.specs.Places.{lead, ids_places, record_places, record_from}
 use Rattle.image.specs.declared.RecordAt.{RecordAt}
-use Rattle.image.specs.declared.RecordReading.TheVariants.{Whole}
 use Rattle.image.proofs.AnswerLaws.{record_got}
 use Rattle.image_writer.specs.Parts.{ids_bytes}
 use Rattle.image_writer.proofs.FieldLaws.{ids_size_lem}
@@ -24,12 +23,12 @@ use Rattle.image_edit.proofs.CutLaws.{splice_cut}
 pub record Held (s : List ℕ) (at : ℕ) (p : RecordAt) : Type 0 where
   pub value : Record
   pub rest : List ℕ
-  pub reads : read_at at s ≡ some (record { value = value; rest = rest })
+  pub reads : read_at at s ≡ Some (record { value = value; rest = rest })
   pub whole : s ≡ take at s ++ (image.write value ++ rest)
   pub front : length (take at s) ≡ at
   pub placed : p ≡ record_places at value
 
-held : (s : List ℕ) (at : ℕ) {p : RecordAt} → Bytes s → at ≤ length s → record_from at (read_at at s) ≡ Whole p → Held s at p
+held : (s : List ℕ) (at : ℕ) {p : RecordAt} → Bytes s → at ≤ length s → record_from at (read_at at s) ≡ Some p → Held s at p
 held s at {p} b h e =
     let g = record_got s at h e in
     let k = (image_back (drop at s) (record { value = g.value; rest = drop p.end s }) (bytes_drop at s b) g.got.reads).0 in
@@ -43,7 +42,7 @@ held s at {p} b h e =
     }
 
 -- the same of the used bytes at the front of lent ones
-pub held_used : (bytes : List ℕ) (used at : ℕ) {p : RecordAt} → ((i : ℕ) → get_or bytes i 0 < 256) → used ≤ length bytes → at ≤ used → record_from at (read_at at (take used bytes)) ≡ Whole p → Held (take used bytes) at p
+pub held_used : (bytes : List ℕ) (used at : ℕ) {p : RecordAt} → ((i : ℕ) → get_or bytes i 0 < 256) → used ≤ length bytes → at ≤ used → record_from at (read_at at (take used bytes)) ≡ Some p → Held (take used bytes) at p
 held_used bytes used at b h k e =
     let n : length (take used bytes) ≡ used = length-take-le used bytes h in
     held (take used bytes) at (bytes_take used bytes (bytes_all bytes b)) (omega arith) e

@@ -1,7 +1,6 @@
 -- A step of the code: a record changed in its place among the used bytes of a store. The images before and after it are as they were, and move only as far as
 -- its own image grows or shrinks (document 01, "Record image": "a replacement keeps its place"). What the change is, is a function on records.
-use Rattle.std.specs.Prelude.{ℕ, List, length, drop}
-use Rattle.std.proofs.Math.Option.{Option, none, some}
+use Rattle.std.specs.Prelude.{ℕ, List, length, drop, None, Option, Some}
 use Rattle.edit.specs.Edit.{spliced}
 use Rattle.codec.specs.Codec.{Reading}
 use Rattle.record.specs.Record.{Record, image}
@@ -13,8 +12,8 @@ abbrev pub read_at : ℕ → List ℕ → Option (Reading Record)
 read_at at s = image.read (drop at s)
 
 abbrev pub changed_by : (Record → Record) → ℕ → List ℕ → Option (Reading Record) → List ℕ
-changed_by f at s none = s
-changed_by f at s (some x) = spliced at (length (image.write x.value)) (image.write (f x.value)) s
+changed_by f at s None = s
+changed_by f at s (Some x) = spliced at (length (image.write x.value)) (image.write (f x.value)) s
 
 -- s are the used bytes
 unfoldable pub changed : (Record → Record) → ℕ → List ℕ → List ℕ

@@ -1,12 +1,11 @@
 // A record's numbers changed in its place in lent bytes. The caller has read it, and has measured that the change fits.
 #![tactic(auto)]
 
-ghost use Rattle.std.specs.Prelude.{◌≡◌, ◌+◌, ◌-◌, ◌≤◌, ◌<◌, ltb, length, take};
+ghost use Rattle.std.specs.Prelude.{◌≡◌, ◌+◌, ◌-◌, ◌≤◌, ◌<◌, ltb, length, take, Some};
 ghost use Rattle.edit.specs.Edit.{over, spliced};
 ghost use Rattle.record.specs.NumbersForm.{meaning};
 ghost use Rattle.record.specs.Record.{bit_of};
 ghost use Rattle.image.specs.Places.{record_from};
-ghost use Rattle.image.specs.declared.RecordReading.TheVariants.{Whole};
 ghost use Rattle.image_writer.specs.Parts.{numbers_bytes};
 ghost use Rattle.image_edit.specs.Changes.{read_at, changed};
 ghost use Rattle.record.specs.Changes.{with_numbers};
@@ -27,7 +26,7 @@ pub fn change_numbers(
     numbers: Numbers,
 ) -> usize
     requires used_in_bounds { (used ≤ length bytes.old) × (at ≤ used) }
-    requires bytes_value { record_from at (read_at at (take used bytes.old)) ≡ Whole r }
+    requires bytes_value { record_from at (read_at at (take used bytes.old)) ≡ Some r }
     requires bytes_in_bounds { length (changed (with_numbers (meaning numbers)) at (take used bytes.old)) ≤ length bytes.old }
     ensures value { result ≡ length (changed (with_numbers (meaning numbers)) at (take used bytes.old)) }
     ensures bytes_after { bytes.new ≡ over (changed (with_numbers (meaning numbers)) at (take used bytes.old)) bytes.old }

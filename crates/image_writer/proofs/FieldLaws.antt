@@ -5,10 +5,10 @@ use native.Mathlib.Omega.{arith}
 use mathlib.Core.Path.{◌≡◌, refl, ap, subst, ◌∙◌}
 use mathlib.Core.Bool.{Bool, true, false}
 use mathlib.Core.List.{List, [], ◌∷◌, ◌++◌, append_assoc}
-use mathlib.Core.Option.{Option, none, some}
 use lib.ListN.{length, length-append}
 use lib.Dec.{ltb}
 use borrow.Author.Tests.{lt-ltb, le-ltb}
+use Rattle.std.specs.Prelude.{Err, None, Ok, Option, Some}
 use Rattle.codec.specs.Codec.{two, four, text}
 use Rattle.codec.proofs.SizeLaws.{text_size}
 use Rattle.record.specs.Record.{Side, uac, uas, Numbers, Ids, Uris, bit_of, is_filled, is_given, ids_map, id_text, number, optional, refresher_field}
@@ -16,7 +16,6 @@ use Rattle.edit.specs.Edit.{over}
 use Rattle.edit.proofs.EditLaws.{Wrote, wrote_then}
 use Rattle.limits.specs.declared.Refusal.TheVariants.{NoRoom}
 use Rattle.output.specs.Output.{fitted, leaves, written_from}
-use Rattle.output.specs.declared.Written.TheVariants as written
 use Rattle.image_writer.specs.Parts.{Front, ids_bytes, uris_bytes, numbers_bytes, numbers_map, map_of_front, state_byte_in, front_of, fitted_before}
 
 -- ---- texts
@@ -60,13 +59,13 @@ number_bit_some zero h = absurd (h refl)
 number_bit_some (suc n) h = rw (lt-ltb 0 (suc n) (omega arith))
 
 pub optional_size : (o : Option ℕ) → length ((optional (is_given o)).write o) ≡ 4 * bit_of (is_given o)
-optional_size none = refl
-optional_size (some n) = refl
+optional_size None = refl
+optional_size (Some n) = refl
 
 pub refresher_size : (o : Option Side) → length ((refresher_field (is_given o)).write o) ≡ 4 * bit_of (is_given o)
-refresher_size none = refl
-refresher_size (some uac) = refl
-refresher_size (some uas) = refl
+refresher_size None = refl
+refresher_size (Some uac) = refl
+refresher_size (Some uas) = refl
 
 -- ---- the sections' sizes
 
@@ -131,18 +130,18 @@ front_written f bytes w = w.1 ∙ rw (zero-add (length (front_of f)))
 -- ---- 18 only where the image is larger
 
 module _ (s bytes : List ℕ) where
-  pub refused_large : length bytes < length s → (written.Refused NoRoom ≡ written_from (fitted (length bytes) s)) × (bytes ≡ leaves (fitted (length bytes) s) bytes)
+  pub refused_large : length bytes < length s → (Err NoRoom ≡ written_from (fitted (length bytes) s)) × (bytes ≡ leaves (fitted (length bytes) s) bytes)
   refused_large h = rw (lt-ltb (length bytes) (length s) h) (refl, refl)
 
   pub accepted : {n : ℕ} {after : List ℕ} → length s ≤ length bytes → n ≡ length s → after ≡ over s bytes
-      → (written.Length n ≡ written_from (fitted (length bytes) s)) × (after ≡ leaves (fitted (length bytes) s) bytes)
-  accepted h e q = rw (le-ltb (length bytes) (length s) h) (ap written.Length e, q)
+      → (Ok n ≡ written_from (fitted (length bytes) s)) × (after ≡ leaves (fitted (length bytes) s) bytes)
+  accepted h e q = rw (le-ltb (length bytes) (length s) h) (ap Ok e, q)
 
 -- the same of a text with so many bytes after it
 module _ (more : ℕ) (s bytes : List ℕ) where
-  pub refused_before : length bytes < length s + more → (written.Refused NoRoom ≡ written_from (fitted_before more (length bytes) s)) × (bytes ≡ leaves (fitted_before more (length bytes) s) bytes)
+  pub refused_before : length bytes < length s + more → (Err NoRoom ≡ written_from (fitted_before more (length bytes) s)) × (bytes ≡ leaves (fitted_before more (length bytes) s) bytes)
   refused_before h = rw (lt-ltb (length bytes) (length s + more) h) (refl, refl)
 
   pub accepted_before : {n : ℕ} {after : List ℕ} → length s + more ≤ length bytes → n ≡ length s → after ≡ over s bytes
-      → (written.Length n ≡ written_from (fitted_before more (length bytes) s)) × (after ≡ leaves (fitted_before more (length bytes) s) bytes)
-  accepted_before h e q = rw (le-ltb (length bytes) (length s + more) h) (ap written.Length e, q)
+      → (Ok n ≡ written_from (fitted_before more (length bytes) s)) × (after ≡ leaves (fitted_before more (length bytes) s) bytes)
+  accepted_before h e q = rw (le-ltb (length bytes) (length s + more) h) (ap Ok e, q)

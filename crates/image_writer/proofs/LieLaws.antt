@@ -3,9 +3,9 @@ use Prim.Native.Nat.{ℕ, ◌+◌}
 use native.Mathlib.Nat.{add-zero}
 use mathlib.Core.Path.{◌≡◌, refl, sym, ap, ◌∙◌}
 use mathlib.Core.List.{List, [], ◌∷◌, ◌++◌, append_assoc}
-use mathlib.Core.Option.{some}
 use lib.ListN.{length, take, drop}
 use lib.Seq.{drop-drop, take-append_seam, drop-append_seam}
+use Rattle.std.specs.Prelude.{Some}
 use Rattle.codec.specs.Codec.{Reading, two}
 use Rattle.record.specs.Record.{Record, Ids, is_filled, id_text, image}
 use Rattle.codec.proofs.CodecLaws.{Bytes}
@@ -39,7 +39,7 @@ ids_lie s at i rest e =
     record { call_id = f.0; local_tag = g.0; remote_tag = h.0 }
 
 -- where a record was read
-pub record_lies : (s : List ℕ) (at : ℕ) (x : Reading Record) → Bytes (drop at s) → image.read (drop at s) ≡ some x → Lie s (at + 2) (parts_in x.value).ids
+pub record_lies : (s : List ℕ) (at : ℕ) (x : Reading Record) → Bytes (drop at s) → image.read (drop at s) ≡ Some x → Lie s (at + 2) (parts_in x.value).ids
 unfolding image_of
 record_lies s at x b e =
     let p = parts_in x.value in

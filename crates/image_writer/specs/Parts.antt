@@ -1,8 +1,9 @@
 -- Steps of the code: a record's image from its parts, in the order of document 01, "Record image": the bit map, the identifiers, the state byte, the URIs, the
 -- numbers, and the routes as a section that is encoded already (no bytes where there are no routes). That these are the bytes of `image`
 -- (record/specs/Record.antt) is the law `image_parts`. The front of an image is all before the routes: the law `image_front`.
-use Rattle.std.specs.Prelude.{ℕ, ◌+◌, ◌*◌, Bool, List, ◌∷◌, [], ◌++◌, length, ltb}
-use Rattle.limits.specs.Outcome.{Outcome, given, cause_if, refuse_by}
+use Rattle.limits.specs.declared.Refusal.{Refusal}
+use Rattle.std.specs.Prelude.{ℕ, ◌+◌, ◌*◌, Bool, List, ◌∷◌, [], ◌++◌, length, ltb, Ok, Result}
+use Rattle.limits.specs.Outcome.{cause_if, refuse_by}
 use Rattle.limits.specs.declared.Refusal.TheVariants.{NoRoom}
 use Rattle.codec.specs.Codec.{two, text}
 use Rattle.record.specs.Record.{Numbers, Ids, Uris, bit_of, is_filled, is_given, ids_map, id_text, number, optional, refresher_field, state_byte_number}
@@ -117,5 +118,5 @@ front_from x we_are_uac secure call_id local_tag remote_tag target local_uri rem
 }
 
 -- 18 where a text and so many bytes after it are larger than the room
-abbrev pub fitted_before : ℕ → ℕ → List ℕ → Outcome (List ℕ)
-fitted_before more room s = refuse_by (cause_if (ltb room (length s + more)) NoRoom) (given s)
+abbrev pub fitted_before : ℕ → ℕ → List ℕ → Result (List ℕ) Refusal
+fitted_before more room s = refuse_by (cause_if (ltb room (length s + more)) NoRoom) (Ok s)

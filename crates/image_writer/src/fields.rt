@@ -6,7 +6,7 @@ ghost use Rattle.record.specs.NumbersForm.{number_in, side_in};
 ghost use Rattle.record.specs.Record.{is_filled, is_given, id_text, number, optional, refresher_field};
 
 use codec::{write_four, write_text};
-use record::{Optional, Refresher};
+use record::Refresher;
 
 // An identifier part: nothing where it is empty.
 pub fn write_id(out: &mut [u8], at: usize, t: &[u8]) -> usize
@@ -33,14 +33,14 @@ pub fn write_number(out: &mut [u8], at: usize, n: u32) -> usize
 }
 
 // A number that may be absent.
-pub fn write_optional(out: &mut [u8], at: usize, n: Optional) -> usize
+pub fn write_optional(out: &mut [u8], at: usize, n: Option<u32>) -> usize
     requires { at + length ((optional (is_given (number_in n))).write (number_in n)) ≤ length out.old }
     ensures value { result ≡ at + length ((optional (is_given (number_in n))).write (number_in n)) }
     ensures out_after { out.new ≡ put_at at ((optional (is_given (number_in n))).write (number_in n)) out.old }
 {
     match n {
-        Optional::Number(k) => write_four(out, at, k),
-        Optional::Absent => at,
+        Some(k) => write_four(out, at, k),
+        None => at,
     }
 }
 

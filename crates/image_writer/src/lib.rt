@@ -11,7 +11,6 @@ ghost use Rattle.image_writer.specs.Parts.{front_from, front_of, fitted_before};
 use crate::sections::{front_map, ids_size, uris_size, write_ids, write_uris};
 use codec::{write_byte, write_two};
 use limits::Refusal;
-use output::Written;
 use record::Numbers;
 
 mod fields;
@@ -20,15 +19,15 @@ mod sections;
 pub use sections::{map_of, numbers_size, state_byte, write_numbers};
 
 // A new record's image over the front of `free`, a store's bytes from its used length on: 18.
-pub fn write_image(image: &[u8], free: &mut [u8]) -> Written
+pub fn write_image(image: &[u8], free: &mut [u8]) -> Result<usize, Refusal>
     ensures value { result ≡ written_from (fitted (length free.old) image.now) }
     ensures free_after { free.new ≡ leaves (fitted (length free.old) image.now) free.old }
 {
     if free.len() < image.len() {
-        return Written::Refused(Refusal::NoRoom);
+        return Err(Refusal::NoRoom);
     }
     edit::put(free, 0, image);
-    Written::Length(image.len())
+    Ok(image.len())
 }
 
 // All sections of an image before its routes, over the front of `free`, the bytes that a creation is lent. `routes` is how many bytes
@@ -45,7 +44,7 @@ pub fn write_front(
     local_uri: &[u8],
     remote_uri: &[u8],
     routes: usize,
-) -> Written
+) -> Result<usize, Refusal>
     requires call_id_len_bound { (length call_id.now < 65536) × (length local_tag.now < 65536) × (length remote_tag.now < 65536) }
     requires target_len_bound { (length target.now < 65536) × (length local_uri.now < 65536) × (length remote_uri.now < 65536) }
     ensures value { result ≡ written_from (fitted_before routes (length free.old) (front_of (front_from (meaning numbers) we_are_uac secure call_id.now local_tag.now remote_tag.now target.now local_uri.now remote_uri.now (ltb 0 routes)))) }
@@ -55,10 +54,10 @@ pub fn write_front(
     let uris = uris_size(target, local_uri, remote_uri);
     let size = 2 + ids + 1 + uris + numbers_size(numbers);
     if free.len() < size {
-        return Written::Refused(Refusal::NoRoom);
+        return Err(Refusal::NoRoom);
     }
     if free.len() - size < routes {
-        return Written::Refused(Refusal::NoRoom);
+        return Err(Refusal::NoRoom);
     }
     write_parts(
         free,
@@ -73,7 +72,7 @@ pub fn write_front(
         remote_uri,
         0 < routes,
     );
-    Written::Length(size)
+    Ok(size)
 }
 
 // The same where it fits.

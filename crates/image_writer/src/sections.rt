@@ -7,7 +7,7 @@ ghost use Rattle.image_writer.specs.Parts.{ids_bytes, uris_bytes, numbers_bytes,
 
 use crate::fields::{write_id, write_number, write_optional, write_refresher};
 use codec::write_text;
-use record::{Numbers, Optional, Refresher, State};
+use record::{Numbers, Refresher, State};
 
 // ---- sizes
 
@@ -141,12 +141,12 @@ fn number_bit(n: u32) -> usize
     1
 }
 
-fn optional_bit(n: Optional) -> usize
+fn optional_bit(n: Option<u32>) -> usize
     ensures { (result ≡ bit_of (is_given (number_in n))) × (result ≤ 1) }
 {
     match n {
-        Optional::Number(_) => 1,
-        Optional::Absent => 0,
+        Some(_) => 1,
+        None => 0,
     }
 }
 

@@ -3,7 +3,7 @@
 use Prim.Native.Nat.{ℕ, min, max}
 use native.Mathlib.Omega.{arith}
 use mathlib.Core.Path.{◌≡◌}
-use mathlib.Core.Option.{none, some}
+use Rattle.std.specs.Prelude.{None, Some}
 use Rattle.limits.specs.Limits.{LimitSet, rust_limits}
 use Rattle.session_timer_manager.specs.Intervals.{negotiated}
 use Rattle.interval_contest.specs.Contest.{Offer, Within, Callee, Permitted, answer}
@@ -34,7 +34,7 @@ module _ (L : LimitSet) (offer : Offer) (within : Within L offer) (callee : Call
       let preferred : max (max callee.preference L.min_expires) (max callee.minimum offer.min_se) ≡ max callee.preference (max callee.minimum offer.min_se) = omega arith in
       rw (joint, preferred)
 
-  pub without_preference : negotiated offer.requested callee.minimum (some offer.min_se) none ≡ answer offer (record { minimum = callee.minimum; preference = offer.requested })
+  pub without_preference : negotiated offer.requested callee.minimum (Some offer.min_se) None ≡ answer offer (record { minimum = callee.minimum; preference = offer.requested })
   unfolding negotiated
   without_preference =
       let whole : min offer.requested (max offer.requested (max callee.minimum offer.min_se)) ≡ offer.requested = omega arith in

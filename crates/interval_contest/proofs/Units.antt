@@ -3,10 +3,9 @@ use Prim.Native.Nat.{ℕ, min, max}
 use native.Mathlib.Omega.{arith}
 use mathlib.Core.Path.{◌≡◌, refl}
 use mathlib.Core.Bool.{Bool, true, false, cond}
-use mathlib.Core.Option.{some}
 use lib.Dec.{ltb}
 use borrow.Author.Tests.{ltb-true, ltb-false, lt-ltb, le-ltb}
-use Rattle.limits.specs.Outcome.{refused, given}
+use Rattle.std.specs.Prelude.{Err, Ok, Some}
 use Rattle.limits.specs.declared.Refusal.TheVariants.{SessionExpiresTooSmall}
 use Rattle.session_timer_manager.specs.Intervals.{seconds, negotiated}
 use Rattle.interval_contest.specs.Contest.{Offer, Callee, answer, in_nanos}
@@ -24,12 +23,12 @@ longer a b = by (ltb a b) refl
     by true h = let k = ltb-true a b h in rw h (lt-ltb (seconds a) (seconds b) (omega arith))
     by false h = let k = ltb-false a b h in rw h (le-ltb (seconds a) (seconds b) (omega arith))
 
-same : (t : Bool) (least interval : ℕ) → cond t (refused (SessionExpiresTooSmall (seconds least))) (given (seconds interval)) ≡ in_nanos (cond t (refused (SessionExpiresTooSmall least)) (given interval))
+same : (t : Bool) (least interval : ℕ) → cond t (Err (SessionExpiresTooSmall (seconds least))) (Ok (seconds interval)) ≡ in_nanos (cond t (Err (SessionExpiresTooSmall least)) (Ok interval))
 same true least interval = refl
 same false least interval = refl
 
 pub in_nanoseconds : (offer : Offer) (callee : Callee)
-    → negotiated (seconds offer.requested) (seconds callee.minimum) (some (seconds offer.min_se)) (some (seconds callee.preference)) ≡ in_nanos (answer offer callee)
+    → negotiated (seconds offer.requested) (seconds callee.minimum) (Some (seconds offer.min_se)) (Some (seconds callee.preference)) ≡ in_nanos (answer offer callee)
 unfolding negotiated
 in_nanoseconds offer callee =
     let least = max callee.minimum offer.min_se in

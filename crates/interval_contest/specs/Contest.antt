@@ -7,10 +7,9 @@
 -- seconds; `negotiate_session_expires` is given nanoseconds. `in_nanoseconds` (proofs/Units.antt) says that the two agree on whole seconds, by `in_nanos`.
 --
 -- 90 and 86,400 are `min_expires` and `max_expires` of the limits L.
-use Rattle.std.specs.Prelude.{ℕ, ◌≤◌, ◌≡◌, ◌⊎◌, Bool, true, false, cond, ltb}
-use Rattle.std.proofs.Math.Option.{Option, none, some}
+use Rattle.std.specs.Prelude.{ℕ, ◌≤◌, ◌≡◌, ◌⊎◌, Bool, true, false, cond, ltb, Err, None, Ok, Option, Result, Some}
 use Rattle.limits.specs.Limits.{LimitSet}
-use Rattle.limits.specs.Outcome.{Outcome, refused, given, cause_if, or_else, number_in}
+use Rattle.limits.specs.Outcome.{cause_if, or_else, number_in}
 use Rattle.limits.specs.Refusal.{least_of}
 use Rattle.limits.specs.declared.Refusal.{Refusal}
 use Rattle.limits.specs.declared.Refusal.TheVariants.{SessionExpiresTooSmall, SessionExpiresTooLarge}
@@ -42,51 +41,51 @@ pub record Permitted (L : LimitSet) (callee : Callee) : Type 0 where
 -- ---- what the callee answers
 
 -- the negotiation's answer; it is the callee who negotiates, so that its minimum is the local one and M that of the peer
-abbrev pub answer : Offer → Callee → Outcome ℕ
-answer offer callee = negotiated offer.requested callee.minimum (some offer.min_se) (some callee.preference)
+abbrev pub answer : Offer → Callee → Result ℕ Refusal
+answer offer callee = negotiated offer.requested callee.minimum (Some offer.min_se) (Some callee.preference)
 
 -- it is an interval from M to R
 abbrev pub Agrees : Offer → Callee → Type 0
-Agrees offer callee = (interval : ℕ) × (answer offer callee ≡ given interval) × (offer.min_se ≤ interval) × (interval ≤ offer.requested)
+Agrees offer callee = (interval : ℕ) × (answer offer callee ≡ Ok interval) × (offer.min_se ≤ interval) × (interval ≤ offer.requested)
 
 -- it is 13 with the callee's minimum
 abbrev pub TurnsBack : Offer → Callee → Type 0
-TurnsBack offer callee = answer offer callee ≡ refused (SessionExpiresTooSmall callee.minimum)
+TurnsBack offer callee = answer offer callee ≡ Err (SessionExpiresTooSmall callee.minimum)
 
 -- "the returned minimum as both R and M"; "a minimum above 86,400 ends without an interval"
 abbrev pub offer_with : LimitSet → Option ℕ → Option Offer
-offer_with L none = none
-offer_with L (some minimum) = cond (ltb L.max_expires minimum) none (some (record { requested = minimum; min_se = minimum }))
+offer_with L None = None
+offer_with L (Some minimum) = cond (ltb L.max_expires minimum) None (Some (record { requested = minimum; min_se = minimum }))
 
 -- the offer of the retry: there is one after 13, the only refusal that returns a minimum, and none after an interval
-abbrev pub retry_offer : LimitSet → Outcome ℕ → Option Offer
-retry_offer L (given interval) = none
-retry_offer L (refused cause) = offer_with L (least_of cause)
+abbrev pub retry_offer : LimitSet → Result ℕ Refusal → Option Offer
+retry_offer L (Ok interval) = None
+retry_offer L (Err cause) = offer_with L (least_of cause)
 
 -- the two answers that the callee may be asked for: "the retry after 13, one only"
 pub data Turn : Type 0 where
   first_answer : Turn
   retry_answer : Turn
 
-abbrev pub answer_to : Option Offer → Callee → Option (Outcome ℕ)
-answer_to none callee = none
-answer_to (some offer) callee = some (answer offer callee)
+abbrev pub answer_to : Option Offer → Callee → Option (Result ℕ Refusal)
+answer_to None callee = None
+answer_to (Some offer) callee = Some (answer offer callee)
 
 -- the answer at a turn, or none where the contest ends before it; the retry is "against an unchanged callee"
-abbrev pub answer_at : LimitSet → Turn → Offer → Callee → Option (Outcome ℕ)
-answer_at L first_answer offer callee = some (answer offer callee)
+abbrev pub answer_at : LimitSet → Turn → Offer → Callee → Option (Result ℕ Refusal)
+answer_at L first_answer offer callee = Some (answer offer callee)
 answer_at L retry_answer offer callee = answer_to (retry_offer L (answer offer callee)) callee
 
 -- ---- how the contest ends
 
-abbrev pub interval_of : Option (Outcome ℕ) → Option ℕ
-interval_of none = none
-interval_of (some (refused cause)) = none
-interval_of (some (given interval)) = some interval
+abbrev pub interval_of : Option (Result ℕ Refusal) → Option ℕ
+interval_of None = None
+interval_of (Some (Err cause)) = None
+interval_of (Some (Ok interval)) = Some interval
 
 abbrev pub or_then : Option ℕ → Option ℕ → Option ℕ
-or_then none second = second
-or_then (some interval) second = some interval
+or_then None second = second
+or_then (Some interval) second = Some interval
 
 -- with the interval of the first answer, or else with that of the retry's, or else without one: no third answer is asked for
 abbrev pub ending : LimitSet → Offer → Callee → Option ℕ
@@ -96,7 +95,7 @@ ending L offer callee = or_then (interval_of (answer_at L first_answer offer cal
 
 -- some callee makes this interval the answer
 abbrev pub Forces : LimitSet → Turn → Offer → ℕ → Type 0
-Forces L turn offer interval = (callee : Callee) × Permitted L callee × (answer_at L turn offer callee ≡ some (given interval))
+Forces L turn offer interval = (callee : Callee) × Permitted L callee × (answer_at L turn offer callee ≡ Some (Ok interval))
 
 -- the least and the most of some numbers
 pub record Extent : Type 0 where
@@ -105,12 +104,12 @@ pub record Extent : Type 0 where
 
 -- the extent of the numbers that have a property: its two ends have it, and no number outside; or none where no number has it
 abbrev pub ExtentOf : (ℕ → Type 0) → Option Extent → Type 0
-ExtentOf Has none = (n : ℕ) → Has n → ⊥
-ExtentOf Has (some e) = Has e.least × Has e.most × ((n : ℕ) → Has n → (e.least ≤ n) × (n ≤ e.most))
+ExtentOf Has None = (n : ℕ) → Has n → ⊥
+ExtentOf Has (Some e) = Has e.least × Has e.most × ((n : ℕ) → Has n → (e.least ≤ n) × (n ≤ e.most))
 
 -- "the caller has left it only R or 13": whatever callee answers first, it is one of the two
 abbrev pub OnlyRequested : LimitSet → Offer → Type 0
-OnlyRequested L offer = (callee : Callee) → Permitted L callee → (answer offer callee ≡ given offer.requested) ⊎ (number_in (answer offer callee) ≡ 13)
+OnlyRequested L offer = (callee : Callee) → Permitted L callee → (answer offer callee ≡ Ok offer.requested) ⊎ (number_in (answer offer callee) ≡ 13)
 
 -- yes exactly where it is so
 abbrev pub Says : Bool → Type 0 → Type 0
@@ -138,17 +137,17 @@ pub record PowerOver (L : LimitSet) (offer : Offer) (power : Power) : Type 0 whe
   pub only_is : Says power.only_requested (OnlyRequested L offer)
 
 -- refused by the first cause that is true, or what the callee can force
-abbrev pub Settles : LimitSet → Offer → Outcome Power → Type 0
-Settles L offer (refused cause) = offer_cause L offer ≡ some cause
-Settles L offer (given power) = (offer_cause L offer ≡ none) × PowerOver L offer power
+abbrev pub Settles : LimitSet → Offer → Result Power Refusal → Type 0
+Settles L offer (Err cause) = offer_cause L offer ≡ Some cause
+Settles L offer (Ok power) = (offer_cause L offer ≡ None) × PowerOver L offer power
 
 -- ---- seconds and nanoseconds
 
 -- an answer in seconds as one in nanoseconds: the interval, or the minimum that is returned
-abbrev pub refused_in : Option ℕ → Refusal → Outcome ℕ
-refused_in none cause = refused cause
-refused_in (some minimum) cause = refused (SessionExpiresTooSmall (seconds minimum))
+abbrev pub refused_in : Option ℕ → Refusal → Result ℕ Refusal
+refused_in None cause = Err cause
+refused_in (Some minimum) cause = Err (SessionExpiresTooSmall (seconds minimum))
 
-abbrev pub in_nanos : Outcome ℕ → Outcome ℕ
-in_nanos (given interval) = given (seconds interval)
-in_nanos (refused cause) = refused_in (least_of cause) cause
+abbrev pub in_nanos : Result ℕ Refusal → Result ℕ Refusal
+in_nanos (Ok interval) = Ok (seconds interval)
+in_nanos (Err cause) = refused_in (least_of cause) cause

@@ -1,6 +1,5 @@
 -- Document 01, "Turned back": the number of each cause, and the value that is returned beside it.
-use Rattle.std.specs.Prelude.{ℕ}
-use Rattle.std.proofs.Math.Option.{Option, none, some}
+use Rattle.std.specs.Prelude.{ℕ, None, Option, Some}
 use Rattle.limits.specs.declared.Refusal.{Refusal}
 use Rattle.limits.specs.declared.Refusal.TheVariants.{TextTooLong, Malformed, BadStore, MissingHeader, InvalidStatus, InvalidUri, UriTooLong, RouteSetTooLarge, CSeqZero, CSeqTooLarge, InvalidCSeq, CSeqJumpTooLarge, SessionExpiresTooSmall, SessionExpiresTooLarge, NotFound, TooManyDialogs, TooManyEarlyDialogs, NoRoom, InvalidRAck, NoPendingList, UnknownRSeq, RAckCSeqMismatch, RAckMethodMismatch, DuplicatePrack, IdentifierEmpty, IdentifierTooLong, ControlCharacters, InvalidMethod}
 
@@ -36,31 +35,31 @@ number_of InvalidMethod = 28
 
 -- 13 returns the least interval that is taken; no other cause returns a value
 abbrev pub least_of : Refusal → Option ℕ
-least_of (SessionExpiresTooSmall least) = some least
-least_of TextTooLong = none
-least_of Malformed = none
-least_of BadStore = none
-least_of MissingHeader = none
-least_of InvalidStatus = none
-least_of InvalidUri = none
-least_of UriTooLong = none
-least_of RouteSetTooLarge = none
-least_of CSeqZero = none
-least_of CSeqTooLarge = none
-least_of InvalidCSeq = none
-least_of CSeqJumpTooLarge = none
-least_of SessionExpiresTooLarge = none
-least_of NotFound = none
-least_of TooManyDialogs = none
-least_of TooManyEarlyDialogs = none
-least_of NoRoom = none
-least_of InvalidRAck = none
-least_of NoPendingList = none
-least_of UnknownRSeq = none
-least_of RAckCSeqMismatch = none
-least_of RAckMethodMismatch = none
-least_of DuplicatePrack = none
-least_of IdentifierEmpty = none
-least_of IdentifierTooLong = none
-least_of ControlCharacters = none
-least_of InvalidMethod = none
+least_of (SessionExpiresTooSmall least) = Some least
+least_of TextTooLong = None
+least_of Malformed = None
+least_of BadStore = None
+least_of MissingHeader = None
+least_of InvalidStatus = None
+least_of InvalidUri = None
+least_of UriTooLong = None
+least_of RouteSetTooLarge = None
+least_of CSeqZero = None
+least_of CSeqTooLarge = None
+least_of InvalidCSeq = None
+least_of CSeqJumpTooLarge = None
+least_of SessionExpiresTooLarge = None
+least_of NotFound = None
+least_of TooManyDialogs = None
+least_of TooManyEarlyDialogs = None
+least_of NoRoom = None
+least_of InvalidRAck = None
+least_of NoPendingList = None
+least_of UnknownRSeq = None
+least_of RAckCSeqMismatch = None
+least_of RAckMethodMismatch = None
+least_of DuplicatePrack = None
+least_of IdentifierEmpty = None
+least_of IdentifierTooLong = None
+least_of ControlCharacters = None
+least_of InvalidMethod = None

@@ -78,13 +78,6 @@ pub enum Refusal {
     InvalidMethod,
 }
 
-// Whether a check was passed.
-#[derive(Clone, Copy)]
-pub enum Check {
-    Passed,
-    Refused(Refusal),
-}
-
 impl Refusal {
     // The number of document 01's table.
     pub fn number(self) -> u8

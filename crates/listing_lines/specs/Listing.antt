@@ -2,10 +2,9 @@
 -- letter (E, C, T), side, local, remote, last ACK, seconds, refresh second, route count; absent is `-`, but local and remote numbers print 0
 -- when their bits don't stand". Positions are counted from 1. Document 02, request 8: the refresh second is half of the seconds, "halves to the
 -- nearest second, a half going to the even one".
-use Rattle.std.specs.Prelude.{ℕ, suc, ◌+◌, ◌*◌, ◌-◌, ◌≤◌, ◌/◌, ◌%◌, ◌≡◌, ◌⊎◌, Bool, true, false, List, [], ◌∷◌, ◌++◌, length, ltb}
-use Rattle.std.proofs.Math.Option.{Option, none, some}
+use Rattle.std.specs.Prelude.{ℕ, suc, ◌+◌, ◌*◌, ◌-◌, ◌≤◌, ◌/◌, ◌%◌, ◌≡◌, ◌⊎◌, Bool, true, false, List, [], ◌∷◌, ◌++◌, length, ltb, None, Option, Result, Some}
 use Rattle.limits.specs.Limits.{LimitSet}
-use Rattle.limits.specs.Outcome.{Outcome, cause_if, refuse_by, and_then, or_refuse}
+use Rattle.limits.specs.Outcome.{cause_if, refuse_by, and_then, or_refuse}
 use Rattle.limits.specs.Refusal.{number_of}
 use Rattle.limits.specs.declared.Refusal.{Refusal}
 use Rattle.limits.specs.declared.Refusal.TheVariants.{TextTooLong, BadStore}
@@ -29,8 +28,8 @@ side_text false = 117 ∷ 97 ∷ 115 ∷ []
 
 -- `-` where the number is absent
 abbrev pub or_dash : Option ℕ → List ℕ
-or_dash none = 45 ∷ []
-or_dash (some n) = decimal_of n
+or_dash None = 45 ∷ []
+or_dash (Some n) = decimal_of n
 
 -- How far two numbers are apart.
 abbrev pub apart : ℕ → ℕ → ℕ
@@ -47,8 +46,8 @@ half_to_even n = n / 2 + n % 4 / 3
 
 -- the refresh second of a number of seconds
 abbrev pub refresh_second : Option ℕ → Option ℕ
-refresh_second none = none
-refresh_second (some n) = some (half_to_even n)
+refresh_second None = None
+refresh_second (Some n) = Some (half_to_even n)
 
 abbrev pub columns_of : ℕ → Numbers → Bool → ℕ → List (List ℕ)
 columns_of position x we_are_uac routes =
@@ -89,7 +88,7 @@ listing_of rs = lines_from 1 rs ++ total_line (length rs)
 -- ---- the operation
 
 -- 1 over 65,536 bytes, 3, 18; then the text
-unfoldable pub listing : LimitSet → List ℕ → ℕ → Outcome (List ℕ)
+unfoldable pub listing : LimitSet → List ℕ → ℕ → Result (List ℕ) Refusal
 listing L s room =
     refuse_by (cause_if (ltb L.listed_store (length s)) TextTooLong)
     (and_then (or_refuse BadStore (decode_all s)) (λ rs. fitted room (listing_of rs)))

@@ -1,6 +1,5 @@
 -- Steps of the code: a column with the byte after it, and the three parts of a line. `line_parts` says that they make the line.
-use Rattle.std.specs.Prelude.{ℕ, Bool, List, [], ◌∷◌, ◌++◌, length}
-use Rattle.std.proofs.Math.Option.{Option, none, some}
+use Rattle.std.specs.Prelude.{ℕ, Bool, List, [], ◌∷◌, ◌++◌, length, None, Option, Some}
 use Rattle.output.specs.Decimal.{decimal_of}
 use Rattle.record.specs.Record.{State, Record}
 use Rattle.record.specs.Store.{records_in}
@@ -27,8 +26,8 @@ interval_part seconds routes = spaced (or_dash seconds) ++ (spaced (or_dash (ref
 
 -- the records of bytes that are whole records
 abbrev pub records_of : Option (List Record) → List Record
-records_of none = []
-records_of (some rs) = rs
+records_of None = []
+records_of (Some rs) = rs
 
 abbrev pub listed : List ℕ → List Record
 listed s = records_of (records_in (length s) s)

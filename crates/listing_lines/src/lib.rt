@@ -9,7 +9,7 @@ ghost use Rattle.listing_lines.specs.Listing.{state_letter, side_text, or_dash, 
 ghost use Rattle.listing_lines.specs.Steps.{head_part, sequence_part, interval_part};
 
 use edit::put;
-use record::{Numbers, Optional, State};
+use record::{Numbers, State};
 
 // The line of a record at a position, over the front of out. Its length.
 pub fn write_line(
@@ -55,7 +55,13 @@ fn write_head(out: &mut [u8], at: usize, position: usize, state: State, we_are_u
 }
 
 // Local, remote, last ACK.
-fn write_sequence(out: &mut [u8], at: usize, local: u32, remote: u32, last_ack: Optional) -> usize
+fn write_sequence(
+    out: &mut [u8],
+    at: usize,
+    local: u32,
+    remote: u32,
+    last_ack: Option<u32>,
+) -> usize
     requires { at + 63 ≤ length out.old }
     ensures value { (result ≡ at + length (sequence_part local remote (number_in last_ack))) × (result ≤ at + 63) }
     ensures out_after { out.new ≡ put_at at (sequence_part local remote (number_in last_ack)) out.old }
@@ -66,7 +72,7 @@ fn write_sequence(out: &mut [u8], at: usize, local: u32, remote: u32, last_ack: 
 }
 
 // Seconds, refresh second, route count.
-fn write_interval(out: &mut [u8], at: usize, seconds: Optional, routes: usize) -> usize
+fn write_interval(out: &mut [u8], at: usize, seconds: Option<u32>, routes: usize) -> usize
     requires { at + 63 ≤ length out.old }
     ensures value { (result ≡ at + length (interval_part (number_in seconds) routes)) × (result ≤ at + 63) }
     ensures out_after { out.new ≡ put_at at (interval_part (number_in seconds) routes) out.old }
@@ -102,24 +108,24 @@ fn write_side(out: &mut [u8], at: usize, we_are_uac: bool) -> usize
 }
 
 // A number, or `-` where it is absent.
-fn write_optional(out: &mut [u8], at: usize, n: Optional) -> usize
+fn write_optional(out: &mut [u8], at: usize, n: Option<u32>) -> usize
     requires { at + 21 ≤ length out.old }
     ensures value { (result ≡ at + length (or_dash (number_in n) ++ (32 ∷ []))) × (result ≤ at + 21) }
     ensures out_after { out.new ≡ put_at at (or_dash (number_in n) ++ (32 ∷ [])) out.old }
 {
     match n {
-        Optional::Number(k) => write_number(out, at, k as u64, b' '),
-        Optional::Absent => write_text(out, at, b"-", b' '),
+        Some(k) => write_number(out, at, k as u64, b' '),
+        None => write_text(out, at, b"-", b' '),
     }
 }
 
 // Half of the seconds, to the nearest whole second; of two that are as near, the even one.
-fn refresh_second(seconds: Optional) -> Optional
+fn refresh_second(seconds: Option<u32>) -> Option<u32>
     ensures { number_in result ≡ refresh_second (number_in seconds) }
 {
     match seconds {
-        Optional::Number(n) => Optional::Number(n / 2 + n % 4 / 3),
-        Optional::Absent => Optional::Absent,
+        Some(n) => Some(n / 2 + n % 4 / 3),
+        None => None,
     }
 }
 

@@ -1,15 +1,13 @@
 // The listing of a store, written to standard output: what `listing` and `listings` print.
 #![tactic(auto)]
 
-ghost use Rattle.std.specs.Prelude.{◌≡◌, ◌≢◌, ◌≤◌, length};
+ghost use Rattle.std.specs.Prelude.{◌≡◌, ◌≢◌, ◌≤◌, length, Err};
 ghost use Rattle.limits.specs.Limits.{rust_limits};
 ghost use Rattle.limits.specs.declared.Refusal.TheVariants.{NoRoom};
 ghost use Rattle.output.specs.Output.{written_from};
-ghost use Rattle.output.specs.declared.Written.TheVariants.{Refused};
 ghost use Rattle.listing_lines.specs.Listing.{listing};
 
 use limits::Refusal;
-use output::Written;
 use std::io;
 use std::io::Write;
 
@@ -17,16 +15,16 @@ use std::io::Write;
 pub fn print_listing(rt: &(impl Print + Eprint), store: &[u8]) {
     let mut text = [0u8; 131072];
     match list_any(store, &mut text) {
-        Written::Length(n) => print(rt, &text[..n]),
-        Written::Refused(cause) => print_refused(rt, cause),
+        Ok(n) => print(rt, &text[..n]),
+        Err(cause) => print_refused(rt, cause),
     }
 }
 
 // The listing of a store over the front of out, which has room for that of any store: 1 over 65,536 bytes, 3, and never 18.
-fn list_any(store: &[u8], out: &mut [u8]) -> Written
+fn list_any(store: &[u8], out: &mut [u8]) -> Result<usize, Refusal>
     requires { 131072 ≤ length out.old }
     ensures value { result ≡ written_from (listing rust_limits store.now (length out.old)) }
-    ensures result_nonzero { result ≢ Refused NoRoom }
+    ensures result_nonzero { result ≢ Err NoRoom }
 {
     listing_text::list_store(store, out)
 }

@@ -5,9 +5,9 @@ use native.Mathlib.Omega.{arith}
 use mathlib.Core.Path.{◌≡◌, refl, sym, ap, ◌∙◌}
 use mathlib.Core.Bool.{true}
 use mathlib.Core.List.{List, [], ◌∷◌, ◌++◌, append_assoc, append-nil}
-use mathlib.Core.Option.{Option, none, some}
 use lib.ListN.{length, drop, length-append, drop_of_length-le}
 use lib.Seq.{drop-cons}
+use Rattle.std.specs.Prelude.{None, Option, Some}
 use Rattle.codec.specs.Codec.{Reading}
 use Rattle.record.specs.Record.{Numbers, Record, is_given, image}
 use Rattle.record.specs.NumbersForm.{meaning}
@@ -15,7 +15,6 @@ use Rattle.record.proofs.NumberLaws.{meaning_same}
 use Rattle.record.specs.Store.{records_in, record_before}
 use Rattle.image.specs.Places.{record_from, record_places}
 use Rattle.image.specs.declared.RecordAt.{RecordAt}
-use Rattle.image.specs.declared.RecordReading.TheVariants.{Whole, Broken}
 use Rattle.image.proofs.AnswerLaws.{record_got, record_not}
 use Rattle.listing_lines.specs.Listing.{columns, columns_of, line_of, lines_from}
 use Rattle.listing_lines.specs.Steps.{records_of, listed_lines}
@@ -34,25 +33,25 @@ record Opened (fuel : ℕ) (t : List ℕ) (x : Reading Record) (rest : List Reco
   others : List Record
   less : ℕ
   all : rest ≡ x.value ∷ others
-  reads : records_in less x.rest ≡ some others
+  reads : records_in less x.rest ≡ Some others
 
-opened : (fuel : ℕ) (t : List ℕ) (x : Reading Record) (rest : List Record) → records_in fuel t ≡ some rest → 0 < length t → image.read t ≡ some x → Opened fuel t x rest
+opened : (fuel : ℕ) (t : List ℕ) (x : Reading Record) (rest : List Record) → records_in fuel t ≡ Some rest → 0 < length t → image.read t ≡ Some x → Opened fuel t x rest
 unfolding records_in
 opened fuel [] x rest e h q = absurd (let z : 0 < 0 = h in omega arith)
 opened zero (b ∷ t) x rest e h q = absurd (let z : ◌≡◌ {A = ℕ} 0 1 = cc in omega arith)
 opened (suc fuel) (b ∷ t) x rest e h q = by (records_in fuel x.rest) refl (rw q at e)
   where
-    by : (o : Option (List Record)) → records_in fuel x.rest ≡ o → record_before x.value o ≡ some rest → Opened (suc fuel) (b ∷ t) x rest
-    by none u v = absurd (let z : ◌≡◌ {A = ℕ} 0 1 = cc in omega arith)
-    by (some rs) u v = record { others = rs; less = fuel; all = (let w : x.value ∷ rs ≡ rest = cc in sym w); reads = u }
+    by : (o : Option (List Record)) → records_in fuel x.rest ≡ o → record_before x.value o ≡ Some rest → Opened (suc fuel) (b ∷ t) x rest
+    by None u v = absurd (let z : ◌≡◌ {A = ℕ} 0 1 = cc in omega arith)
+    by (Some rs) u v = record { others = rs; less = fuel; all = (let w : x.value ∷ rs ≡ rest = cc in sym w); reads = u }
 
-unreadable : (fuel : ℕ) (t : List ℕ) (rest : List Record) → records_in fuel t ≡ some rest → 0 < length t → image.read t ≡ none → ⊥
+unreadable : (fuel : ℕ) (t : List ℕ) (rest : List Record) → records_in fuel t ≡ Some rest → 0 < length t → image.read t ≡ None → ⊥
 unfolding records_in
 unreadable fuel [] rest e h q = let z : 0 < 0 = h in omega arith
 unreadable zero (b ∷ t) rest e h q = let z : ◌≡◌ {A = ℕ} 0 1 = cc in omega arith
-unreadable (suc fuel) (b ∷ t) rest e h q = let v : none ≡ some rest = (rw q at e) in let z : ◌≡◌ {A = ℕ} 0 1 = cc in omega arith
+unreadable (suc fuel) (b ∷ t) rest e h q = let v : None ≡ Some rest = (rw q at e) in let z : ◌≡◌ {A = ℕ} 0 1 = cc in omega arith
 
-none_left : (fuel : ℕ) (rest : List Record) → records_in fuel [] ≡ some rest → rest ≡ []
+none_left : (fuel : ℕ) (rest : List Record) → records_in fuel [] ≡ Some rest → rest ≡ []
 unfolding records_in
 none_left zero rest e = let q : [] ≡ rest = cc in sym q
 none_left (suc fuel) rest e = let q : [] ≡ rest = cc in sym q
@@ -63,7 +62,7 @@ none_left (suc fuel) rest e = let q : [] ≡ rest = cc in sym q
 pub record Left (s : List ℕ) (at position size : ℕ) (text : List ℕ) : Type 0 where
   pub rest : List Record
   pub fuel : ℕ
-  pub reads : records_in fuel (drop at s) ≡ some rest
+  pub reads : records_in fuel (drop at s) ≡ Some rest
   pub here : at ≤ length s
   pub whole : listed_lines s ≡ text ++ lines_from position rest
   pub sized : size ≡ length text
@@ -74,18 +73,18 @@ pub start : (s : List ℕ) → is_given (records_in (length s) s) ≡ true → L
 start s h = by (records_in (length s) s) refl h
   where
     by : (o : Option (List Record)) → records_in (length s) s ≡ o → is_given o ≡ true → Left s 0 1 0 []
-    by none e g = absurd (let z : ◌≡◌ {A = ℕ} 0 1 = cc in omega arith)
-    by (some rs) e g = record { rest = rs; fuel = length s; reads = e; here = omega arith; whole = ap (λ (o : Option (List Record)). lines_from 1 (records_of o)) e; sized = refl; small = omega arith; low = omega arith }
+    by None e g = absurd (let z : ◌≡◌ {A = ℕ} 0 1 = cc in omega arith)
+    by (Some rs) e g = record { rest = rs; fuel = length s; reads = e; here = omega arith; whole = ap (λ (o : Option (List Record)). lines_from 1 (records_of o)) e; sized = refl; small = omega arith; low = omega arith }
 
 module _ (s : List ℕ) (at position size : ℕ) (text : List ℕ) (l : Left s at position size text) (more : at < length s) where
   ahead : 0 < length (drop at s)
   ahead = rw (drop-cons s at 0 more) (omega arith)
 
   -- the record at the place can be read
-  pub not_broken : record_from at (image.read (drop at s)) ≡ Broken → ⊥
+  pub not_broken : record_from at (image.read (drop at s)) ≡ None → ⊥
   not_broken e = unreadable l.fuel (drop at s) l.rest l.reads ahead (record_not at (image.read (drop at s)) e)
 
-  module _ (p : RecordAt) (e : record_from at (image.read (drop at s)) ≡ Whole p) where
+  module _ (p : RecordAt) (e : record_from at (image.read (drop at s)) ≡ Some p) where
     abbrev pub line : List ℕ
     line = line_of (columns_of position (meaning p.numbers) p.we_are_uac p.route_count)
 

@@ -6,10 +6,10 @@ use native.Mathlib.Omega.{arith}
 use mathlib.Core.Path.{◌≡◌, refl, sym, ap, ◌∙◌}
 use mathlib.Core.Bool.{Bool, true, false, cond, false≢true}
 use mathlib.Core.List.{List, [], ◌∷◌, ◌++◌, append-nil}
-use mathlib.Core.Option.{Option, none, some}
 use lib.ListN.{length, take, drop, length-append, drop_of_length-le}
 use lib.Dec.{leb, ltb}
 use borrow.Author.Tests.{leb-true, leb-false, ltb-false}
+use Rattle.std.specs.Prelude.{None, Option, Some}
 use Rattle.text.specs.Text.{all, same, span}
 use Rattle.uri_bytes.specs.Bytes.{is_uri}
 use Rattle.uri.specs.SipUri.{sip, sips, host_text, is_host_text, with_host, with_user, with_scheme, sip_uri}
@@ -29,7 +29,7 @@ use Rattle.listing_lines.specs.Listing.{state_letter, side_text, or_dash, half_t
 
 -- ---- an image
 
-no_host : with_user false 4 [] ≡ none
+no_host : with_user false 4 [] ≡ None
 unfolding with_user with_host host_text is_host_text span
 no_host = refl
 
@@ -45,7 +45,7 @@ uri_least t e = by (all is_uri t) (same (take 4 t) sip) (same (take 5 t) sips) r
     longer false l e = omega (arith, leb-false (length t) 4 l)
 
     by : (a b c : Bool) → same (take 4 t) sip ≡ b → same (take 5 t) sips ≡ c
-        → is_read (cond a (cond b (with_user false 4 (drop 4 t)) (cond c (with_user true 5 (drop 5 t)) none)) none) ≡ true → 5 ≤ length t
+        → is_read (cond a (cond b (with_user false 4 (drop 4 t)) (cond c (with_user true 5 (drop 5 t)) None)) None) ≡ true → 5 ≤ length t
     by false b c p q e = absurd (false≢true e)
     by true true c p q e = longer (leb (length t) 4) refl e
     by true false true p q e = starts_fits t sips q
@@ -79,13 +79,13 @@ number_length n h = by (ltb 0 n) refl
     by false e = omega (arith, few_digits n 0 (omega (arith, ltb-false 0 n e)))
 
 option_length : (o : Option ℕ) → OptionalPart o → length (or_dash o) ≤ 2 + 2 * option_size o
-option_length none h = omega arith
-option_length (some n) h = omega (arith, ten_digits n h)
+option_length None h = omega arith
+option_length (Some n) h = omega (arith, ten_digits n h)
 
 -- the seconds, and half of them
 seconds_length : (o : Option ℕ) → OptionalPart o → length (or_dash o) + length (or_dash (refresh_second o)) ≤ 12 + 2 * option_size o
-seconds_length none h = omega arith
-seconds_length (some n) h = omega (arith, ten_digits n h, ten_digits (half_to_even n) (omega (arith, h, half_least n)))
+seconds_length None h = omega arith
+seconds_length (Some n) h = omega (arith, ten_digits n h, ten_digits (half_to_even n) (omega (arith, h, half_least n)))
 
 -- ---- a line
 
@@ -163,5 +163,5 @@ listing_most (r ∷ rs) w h =
     omega (arith, h, l, t, length-append (lines_from 1 (r ∷ rs)) (total_line (length (r ∷ rs))))
 
 -- the listing of a store that can be read
-pub listing_small : (s : List ℕ) (rs : List Record) → Bytes s → length s ≤ 65536 → decode_all s ≡ some rs → length (listing_of rs) ≤ 131072
+pub listing_small : (s : List ℕ) (rs : List Record) → Bytes s → length s ≤ 65536 → decode_all s ≡ Some rs → length (listing_of rs) ≤ 131072
 listing_small s rs b h e = let d = decoded s rs b e in listing_most rs d.1 (omega (arith, h, ap length d.0))

@@ -4,47 +4,45 @@ use native.Mathlib.Omega.{arith}
 use mathlib.Core.Path.{◌≡◌, refl, sym, ap, ◌∙◌}
 use mathlib.Core.Bool.{Bool, true, false}
 use mathlib.Core.List.{List, ◌++◌}
-use mathlib.Core.Option.{Option, none, some}
 use lib.ListN.{length}
 use borrow.Author.Tests.{lt-ltb, le-ltb}
+use Rattle.std.specs.Prelude.{Err, None, Ok, Option, Some}
 use Rattle.limits.specs.Limits.{LimitSet}
-use Rattle.limits.specs.Outcome.{refused, given}
 use Rattle.limits.specs.declared.Refusal.TheVariants.{TextTooLong, BadStore, NoRoom}
 use Rattle.record.specs.Record.{Record, is_given}
 use Rattle.record.specs.Store.{distinct, records_in, only_distinct, decode_all}
 use Rattle.store.specs.Reading.{store_from}
-use Rattle.store.specs.declared.StoreReading.TheVariants.{Records, Broken}
 use Rattle.listing_lines.specs.Listing.{lines_from, total_line, listing_of, listing}
 use Rattle.listing_lines.specs.Steps.{records_of, listed_lines}
 
 -- ---- what the reading of the store answered
 
-pub broken_none : (s : List ℕ) → store_from (decode_all s) ≡ Broken → decode_all s ≡ none
+pub broken_none : (s : List ℕ) → store_from (decode_all s) ≡ None → decode_all s ≡ None
 broken_none s e = by (decode_all s) refl e
   where
-    by : (o : Option (List Record)) → decode_all s ≡ o → store_from o ≡ Broken → o ≡ none
-    by none q e = refl
-    by (some rs) q e = absurd (let z : ◌≡◌ {A = ℕ} 0 1 = cc in omega arith)
+    by : (o : Option (List Record)) → decode_all s ≡ o → store_from o ≡ None → o ≡ None
+    by None q e = refl
+    by (Some rs) q e = absurd (let z : ◌≡◌ {A = ℕ} 0 1 = cc in omega arith)
 
 pub record Decoded (s : List ℕ) (count : ℕ) : Type 0 where
   pub records : List Record
-  pub all : decode_all s ≡ some records
-  pub whole : records_in (length s) s ≡ some records
+  pub all : decode_all s ≡ Some records
+  pub whole : records_in (length s) s ≡ Some records
   pub counted : count ≡ length records
 
-pub decoded : (s : List ℕ) (count : ℕ) → store_from (decode_all s) ≡ Records count → Decoded s count
+pub decoded : (s : List ℕ) (count : ℕ) → store_from (decode_all s) ≡ Some count → Decoded s count
 unfolding decode_all
 decoded s count e = by (records_in (length s) s) refl e
   where
-    by : (o : Option (List Record)) → records_in (length s) s ≡ o → store_from (only_distinct o) ≡ Records count → Decoded s count
-    by none q e = absurd (let z : ◌≡◌ {A = ℕ} 0 1 = cc in omega arith)
-    by (some rs) q e = is (distinct rs) refl
+    by : (o : Option (List Record)) → records_in (length s) s ≡ o → store_from (only_distinct o) ≡ Some count → Decoded s count
+    by None q e = absurd (let z : ◌≡◌ {A = ℕ} 0 1 = cc in omega arith)
+    by (Some rs) q e = is (distinct rs) refl
       where
         is : (t : Bool) → distinct rs ≡ t → Decoded s count
         is true t =
-            let u : Records (length rs) ≡ Records count = (rw t at e) in
+            let u : Some (length rs) ≡ Some count = (rw t at e) in
             record { records = rs; all = rw (q, t); whole = q; counted = (let v : length rs ≡ count = cc in sym v) }
-        is false t = absurd (let u : Broken ≡ Records count = (rw t at e) in let z : ◌≡◌ {A = ℕ} 0 1 = cc in omega arith)
+        is false t = absurd (let u : None ≡ Some count = (rw t at e) in let z : ◌≡◌ {A = ℕ} 0 1 = cc in omega arith)
 
 pub whole_given : (s : List ℕ) (count : ℕ) → Decoded s count → is_given (records_in (length s) s) ≡ true
 whole_given s count d = rw d.whole
@@ -59,19 +57,19 @@ listing_parts s count d =
 -- ---- the refusals, in their order
 
 module _ (L : LimitSet) (s : List ℕ) (room : ℕ) where
-  pub too_long : L.listed_store < length s → listing L s room ≡ refused TextTooLong
+  pub too_long : L.listed_store < length s → listing L s room ≡ Err TextTooLong
   unfolding listing
   too_long h = rw (lt-ltb L.listed_store (length s) h)
 
   module _ (h : length s ≤ L.listed_store) where
-    pub bad_store : decode_all s ≡ none → listing L s room ≡ refused BadStore
+    pub bad_store : decode_all s ≡ None → listing L s room ≡ Err BadStore
     unfolding listing
     bad_store e = rw (le-ltb L.listed_store (length s) h, e)
 
-    pub no_room : {count : ℕ} (d : Decoded s count) → room < length (listing_of d.records) → listing L s room ≡ refused NoRoom
+    pub no_room : {count : ℕ} (d : Decoded s count) → room < length (listing_of d.records) → listing L s room ≡ Err NoRoom
     unfolding listing
     no_room d l = rw (le-ltb L.listed_store (length s) h, d.all, lt-ltb room (length (listing_of d.records)) l)
 
-    pub listed_all : {count : ℕ} (d : Decoded s count) → length (listing_of d.records) ≤ room → listing L s room ≡ given (listing_of d.records)
+    pub listed_all : {count : ℕ} (d : Decoded s count) → length (listing_of d.records) ≤ room → listing L s room ≡ Ok (listing_of d.records)
     unfolding listing
     listed_all d l = rw (le-ltb L.listed_store (length s) h, d.all, le-ltb room (length (listing_of d.records)) l)

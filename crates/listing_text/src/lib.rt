@@ -11,35 +11,32 @@ ghost use Rattle.listing_lines.specs.Listing.{listing, refused_line};
 ghost use Rattle.listing_lines.specs.Steps.{listed_lines};
 
 use edit::put;
-use image::RecordReading;
 use limits::{Limits, Refusal};
 use listing_lines::{write_line, write_words};
-use output::Written;
-use store::StoreReading;
 
 // Positions are counted from here.
 const FIRST_POSITION: usize = 1;
 
 // The listing of a store's bytes, over the front of out: 1 over 65,536 bytes, 3, 18.
-pub fn list_store(bytes: &[u8], out: &mut [u8]) -> Written
+pub fn list_store(bytes: &[u8], out: &mut [u8]) -> Result<usize, Refusal>
     ensures value { result ≡ written_from (listing rust_limits bytes.now (length out.old)) }
     ensures out_after { out.new ≡ leaves (listing rust_limits bytes.now (length out.old)) out.old }
 {
     if Limits::MAX_LISTED_STORE < bytes.len() {
-        return Written::Refused(Refusal::TextTooLong);
+        return Err(Refusal::TextTooLong);
     }
-    let StoreReading::Records(count) = store::read_store(bytes) else {
-        return Written::Refused(Refusal::BadStore);
+    let Some(count) = store::read_store(bytes) else {
+        return Err(Refusal::BadStore);
     };
     let mut text = [0u8; 192];
     let n = write_words(&mut text, b"total", count as u64);
     let size = lines_length(bytes) + n;
     if out.len() < size {
-        return Written::Refused(Refusal::NoRoom);
+        return Err(Refusal::NoRoom);
     }
     let end = write_lines(bytes, out);
     put(out, end, &text[..n]);
-    Written::Length(size)
+    Ok(size)
 }
 
 // What is printed of a refused store, over the front of out: `refused` and the number. Its length.
@@ -63,7 +60,7 @@ fn lines_length(bytes: &[u8]) -> usize
     let mut position = FIRST_POSITION;
     let mut size = 0;
     while at < bytes.len() {
-        let RecordReading::Whole(r) = image::read_record(bytes, at) else {
+        let Some(r) = image::read_record(bytes, at) else {
             return size;
         };
         let numbers = r.numbers;
@@ -86,7 +83,7 @@ fn write_lines(bytes: &[u8], out: &mut [u8]) -> usize
     let mut position = FIRST_POSITION;
     let mut end = 0;
     while at < bytes.len() {
-        let RecordReading::Whole(r) = image::read_record(bytes, at) else {
+        let Some(r) = image::read_record(bytes, at) else {
             return end;
         };
         let numbers = r.numbers;

@@ -2,31 +2,29 @@
 use Prim.Native.Nat.{ℕ, zero, suc, ◌+◌, ◌-◌, ◌≤◌, ◌<◌}
 use native.Mathlib.Numerals.{add-one}
 use native.Mathlib.Omega.{arith}
-use mathlib.Core.Path.{◌≡◌, refl, ap}
+use mathlib.Core.Path.{◌≡◌, refl}
 use mathlib.Core.Bool.{Bool, true, false, cond, not, ◌&&◌}
 use mathlib.Core.List.{List, [], ◌∷◌, ◌++◌, map}
-use mathlib.Core.Option.{Option, none, some}
-use lib.ListN.{length, get_or, take, drop, drop_of_length-le, length-take, replicate}
+use lib.ListN.{length, get_or, take, drop, drop_of_length-le, replicate}
 use lib.Seq.{drop-cons, take-append_seam}
 use lib.Dec.{leb}
 use borrow.Author.Tests.{leb-true, le-leb, lt-ltb, le-ltb}
-use Rattle.limits.specs.Outcome.{refused, given, refuse_by}
-use Rattle.limits.specs.declared.Refusal.TheVariants.{InvalidMethod, NoRoom}
+use Rattle.std.specs.Prelude.{Err, None, Ok, Option, Some}
+use Rattle.limits.specs.Outcome.{refuse_by}
+use Rattle.limits.specs.declared.Refusal.TheVariants.{NoRoom}
 use Rattle.text.specs.Text.{is_blank, is_value, all, same}
 use Rattle.text.specs.Number.{non_empty}
 use Rattle.methods.specs.Methods.{method_names, position_from, method_of, is_method, name_of, method_from, method_cause}
-use Rattle.methods.specs.declared.Method.TheVariants.{Of, Unknown}
-use Rattle.methods.specs.declared.Method.{Method}
 use Rattle.output.specs.Output.{fitted}
 use Rattle.output.proofs.ClassLaws.{both_left, both_right, within_range}
 
 -- the turns of the loop over the names: number is the next to be compared
 module _ (names : List (List ℕ)) (s : List ℕ) where
-  pub position_done : (number : ℕ) → length names < number → position_from number s (drop (number - 1) names) ≡ none
+  pub position_done : (number : ℕ) → length names < number → position_from number s (drop (number - 1) names) ≡ None
   unfolding position_from
   position_done number h = let k : length names ≤ number - 1 = omega arith in rw (drop_of_length-le names k)
 
-  pub position_hit : (number : ℕ) → 0 < number → number ≤ length names → same s (get_or names (number - 1) []) ≡ true → position_from number s (drop (number - 1) names) ≡ some number
+  pub position_hit : (number : ℕ) → 0 < number → number ≤ length names → same s (get_or names (number - 1) []) ≡ true → position_from number s (drop (number - 1) names) ≡ Some number
   unfolding position_from
   position_hit number p h e = let k : number - 1 < length names = omega arith in rw (drop-cons names (number - 1) [] k, e)
 
@@ -54,27 +52,23 @@ row_name [] k h = absurd (omega arith)
 row_name (name ∷ names) zero h = take-append_seam name (replicate (9 - length name) 32)
 row_name (name ∷ names) (suc k) h = row_name names k (omega arith)
 
--- a name within its row
-pub row_fits : (n : ℕ) (row name : List ℕ) → take n row ≡ name → n ≡ length name → n ≤ length row
-row_fits n row name e h = omega (arith, length-take n row, ap length e)
-
 -- ---- the numbers of methods
 
 pub method_range : (number : ℕ) → is_method number ≡ true → (1 ≤ number) × (number ≤ 14)
 method_range number e = within_range 1 14 number e
 
-position_range : (names : List (List ℕ)) (n : ℕ) (s : List ℕ) {m : ℕ} → position_from n s names ≡ some m → (n ≤ m) × (m < n + length names)
+position_range : (names : List (List ℕ)) (n : ℕ) (s : List ℕ) {m : ℕ} → position_from n s names ≡ Some m → (n ≤ m) × (m < n + length names)
 unfolding position_from
 position_range [] n s e = absurd (let z : ◌≡◌ {A = ℕ} 0 1 = cc in omega arith)
 position_range (name ∷ names) n s {m} e = by (same s name) e (position_range names (suc n) s)
   where
-    by : (t : Bool) → cond t (some n) (position_from (suc n) s names) ≡ some m → (position_from (suc n) s names ≡ some m → (suc n ≤ m) × (m < suc n + length names))
+    by : (t : Bool) → cond t (Some n) (position_from (suc n) s names) ≡ Some m → (position_from (suc n) s names ≡ Some m → (suc n ≤ m) × (m < suc n + length names))
         → (n ≤ m) × (m < n + suc (length names))
     by true e more = let q : n ≡ m = cc in (omega arith, omega arith)
     by false e more = let r = more e in (omega arith, omega arith)
 
 -- a text that is a method has a method's number
-pub method_known : (s : List ℕ) {m : ℕ} → method_of s ≡ some m → is_method m ≡ true
+pub method_known : (s : List ℕ) {m : ℕ} → method_of s ≡ Some m → is_method m ≡ true
 method_known s {m} e =
     let r = position_range method_names 1 s e in
     rw (le-leb 1 m (omega arith), le-leb m 14 (omega (arith, fourteen)))
@@ -120,22 +114,19 @@ name_short number l h = go (name_of number) (each_at is_short method_names (numb
         }
 
 -- what the answer of a reading says of the number
-pub unknown : (o : Option ℕ) {r : Method} → r ≡ method_from o → r ≡ Unknown → o ≡ none
-unknown none h e = refl
-unknown (some n) h e = absurd (let z : ◌≡◌ {A = ℕ} 0 1 = cc in omega arith)
+pub unknown : (o : Option ℕ) {r : Option ℕ} → r ≡ method_from o → r ≡ None → o ≡ None
+unknown None h e = refl
+unknown (Some n) h e = absurd (let z : ◌≡◌ {A = ℕ} 0 1 = cc in omega arith)
 
-pub known : (o : Option ℕ) {r : Method} {n : ℕ} → r ≡ method_from o → r ≡ Of n → o ≡ some n
-known none h e = absurd (let z : ◌≡◌ {A = ℕ} 0 1 = cc in omega arith)
-known (some m) h e = cc
+pub known : (o : Option ℕ) {r : Option ℕ} {n : ℕ} → r ≡ method_from o → r ≡ Some n → o ≡ Some n
+known None h e = absurd (let z : ◌≡◌ {A = ℕ} 0 1 = cc in omega arith)
+known (Some m) h e = cc
 
 -- ---- the refusals of a call that writes a method's name, in their order
 
 module _ (number room : ℕ) (s : List ℕ) where
-  pub no_method : is_method number ≡ false → refuse_by (method_cause number) (fitted room s) ≡ refused InvalidMethod
-  no_method e = rw e
-
-  pub no_room : is_method number ≡ true → room < length s → refuse_by (method_cause number) (fitted room s) ≡ refused NoRoom
+  pub no_room : is_method number ≡ true → room < length s → refuse_by (method_cause number) (fitted room s) ≡ Err NoRoom
   no_room e h = rw (e, lt-ltb room (length s) h)
 
-  pub fits : is_method number ≡ true → length s ≤ room → refuse_by (method_cause number) (fitted room s) ≡ given s
+  pub fits : is_method number ≡ true → length s ≤ room → refuse_by (method_cause number) (fitted room s) ≡ Ok s
   fits e h = rw (e, le-ltb room (length s) h)

@@ -1,18 +1,13 @@
 -- The methods that `parse_method` of prack_validator.rs knows, in its order: document 01, refusal 28, numbers them from 1.
 -- RFC 3261 tells method names apart by letter case (sections 20.16 and 25.1); the Rust, and so this reading, doesn't.
-use Rattle.std.specs.Prelude.{ℕ, suc, ◌-◌, Bool, cond, not, List, [], ◌∷◌, get_or}
-use Rattle.std.proofs.Math.Option.{Option, none, some}
+use Rattle.std.specs.Prelude.{ℕ, suc, ◌-◌, Bool, cond, not, List, [], ◌∷◌, get_or, Err, None, Ok, Option, Result, Some}
 use Rattle.limits.specs.Limits.{LimitSet}
-use Rattle.limits.specs.Outcome.{Outcome, refused, given, cause_if, refuse_by}
+use Rattle.limits.specs.Outcome.{cause_if, refuse_by}
 use Rattle.limits.specs.declared.Refusal.{Refusal}
 use Rattle.limits.specs.declared.Refusal.TheVariants.{InvalidMethod}
 use Rattle.text.specs.Text.{within, same}
 use Rattle.text.specs.Answers.{length_cause}
 use Rattle.output.specs.Output.{fitted}
-use Rattle.methods.specs.declared.Method.TheVariants as method
-use Rattle.methods.specs.declared.Method.{Method}
-use Rattle.methods.specs.declared.MethodLookup.TheVariants as lookup
-use Rattle.methods.specs.declared.MethodLookup.{MethodLookup}
 
 -- the names, in the order of their numbers
 unfoldable pub method_names : List (List ℕ)
@@ -49,8 +44,8 @@ method_names =
 
 -- the number of the first name that is the same text, letter case ignored; the first of the names has the number n
 unfoldable pub position_from : ℕ → List ℕ → List (List ℕ) → Option ℕ
-position_from n s [] = none
-position_from n s (name ∷ names) = cond (same s name) (some n) (position_from (suc n) s names)
+position_from n s [] = None
+position_from n s (name ∷ names) = cond (same s name) (Some n) (position_from (suc n) s names)
 
 -- the number of a method's text
 abbrev pub method_of : List ℕ → Option ℕ
@@ -67,24 +62,24 @@ name_of number = get_or method_names (number - 1) []
 -- ---- the operations
 
 -- 1; then the number, or nothing
-abbrev pub method_number : LimitSet → List ℕ → Outcome (Option ℕ)
-method_number L s = refuse_by (length_cause L s) (given (method_of s))
+abbrev pub method_number : LimitSet → List ℕ → Result (Option ℕ) Refusal
+method_number L s = refuse_by (length_cause L s) (Ok (method_of s))
 
 -- 28
 abbrev pub method_cause : ℕ → Option Refusal
 method_cause number = cause_if (not (is_method number)) InvalidMethod
 
 -- 28, then 18; then the name
-abbrev pub method_text : ℕ → ℕ → Outcome (List ℕ)
+abbrev pub method_text : ℕ → ℕ → Result (List ℕ) Refusal
 method_text number room = refuse_by (method_cause number) (fitted room (name_of number))
 
 -- ---- the answers
 
-abbrev pub method_from : Option ℕ → Method
-method_from none = method.Unknown
-method_from (some n) = method.Of n
+abbrev pub method_from : Option ℕ → Option ℕ
+method_from None = None
+method_from (Some n) = Some n
 
-abbrev pub method_lookup : Outcome (Option ℕ) → MethodLookup
-method_lookup (refused cause) = lookup.Refused cause
-method_lookup (given none) = lookup.Unknown
-method_lookup (given (some n)) = lookup.Of n
+abbrev pub method_lookup : Result (Option ℕ) Refusal → Result (Option ℕ) Refusal
+method_lookup (Err cause) = Err cause
+method_lookup (Ok None) = Ok None
+method_lookup (Ok (Some n)) = Ok (Some n)

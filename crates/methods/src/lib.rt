@@ -7,22 +7,6 @@ ghost use Rattle.output.specs.Output.{leaves, written_from};
 ghost use Rattle.methods.specs.Methods.{method_of, is_method, name_of, method_number, method_text, method_from, method_lookup};
 
 use limits::Refusal;
-use output::Written;
-
-// A method's number.
-#[derive(Clone, Copy)]
-pub enum Method {
-    Of(u8),
-    Unknown,
-}
-
-// What `method_number` answers.
-#[derive(Clone, Copy)]
-pub enum MethodLookup {
-    Of(u8),
-    Unknown,
-    Refused(Refusal),
-}
 
 // A method's name: the first `length` of the bytes.
 #[derive(Clone, Copy)]
@@ -54,61 +38,52 @@ const NAMES: [[u8; 9]; 14] = [
 const LENGTHS: [usize; 14] = [6, 3, 3, 6, 8, 7, 4, 6, 7, 5, 5, 9, 6, 7];
 
 // The number of a method's text, letter case ignored, or nothing: 1.
-pub fn method_number(s: &[u8]) -> MethodLookup
+pub fn method_number(s: &[u8]) -> Result<Option<u8>, Refusal>
     ensures { result ≡ method_lookup (method_number rust_limits s.now) }
 {
     if text::too_long(s) {
-        return MethodLookup::Refused(Refusal::TextTooLong);
+        return Err(Refusal::TextTooLong);
     }
-    let Method::Of(n) = method_of(s) else {
-        return MethodLookup::Unknown;
-    };
-    MethodLookup::Of(n)
+    Ok(method_of(s))
 }
 
 // The name of a method's number at the front of out: 28, 18.
-pub fn method_text(number: u8, out: &mut [u8]) -> Written
+pub fn method_text(number: u8, out: &mut [u8]) -> Result<usize, Refusal>
     ensures value { result ≡ written_from (method_text number (length out.old)) }
     ensures out_after { out.new ≡ leaves (method_text number (length out.old)) out.old }
 {
     if !is_method(number) {
-        return Written::Refused(Refusal::InvalidMethod);
+        return Err(Refusal::InvalidMethod);
     }
     let name = name_of(number);
     let bytes = name.bytes;
     let n = name.length;
     if out.len() < n {
-        return Written::Refused(Refusal::NoRoom);
+        return Err(Refusal::NoRoom);
     }
     edit::put(out, 0, &bytes[..n]);
-    Written::Length(n)
+    Ok(n)
 }
 
 // The number of a method's text.
-pub fn method_of(s: &[u8]) -> Method
+pub fn method_of(s: &[u8]) -> Option<u8>
     ensures { result ≡ method_from (method_of s.now) }
 {
-    let mut number: u8 = 1;
-    while number <= COUNT {
+    for number in 1..=COUNT {
         let name = name_of(number);
         let bytes = name.bytes;
-        let n = name.length;
-        if text::same_text(s, &bytes[..n]) {
-            return Method::Of(number);
+        if text::same_text(s, &bytes[..name.length]) {
+            return Some(number);
         }
-        number += 1;
     }
-    Method::Unknown
+    None
 }
 
 // Whether a number is a method's.
 pub fn is_method(number: u8) -> bool
     ensures { result ≡ is_method number }
 {
-    if number == 0 {
-        return false;
-    }
-    number <= COUNT
+    1 <= number && number <= COUNT
 }
 
 // The name of a method's number.

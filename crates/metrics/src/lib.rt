@@ -4,8 +4,6 @@
 ghost use Rattle.std.specs.Prelude.{◌≡◌};
 ghost use Rattle.metrics.specs.Metrics.{counted, none_counted, created_counted, terminated_counted};
 
-const LARGEST_COUNT: u64 = 18446744073709551615;
-
 // How many dialogs were put into a store, and how many were removed.
 #[derive(Clone, Copy)]
 pub struct DialogMetrics {
@@ -49,8 +47,5 @@ impl DialogMetrics {
 pub fn count_one(count: u64) -> u64
     ensures { result ≡ counted count }
 {
-    if count == LARGEST_COUNT {
-        return count;
-    }
-    count + 1
+    count.saturating_add(1)
 }

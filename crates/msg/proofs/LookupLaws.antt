@@ -3,28 +3,23 @@
 use Prim.Native.Nat.{ℕ, zero, suc, ◌+◌, ◌-◌, ◌≤◌, ◌<◌}
 use native.Mathlib.Nat.{add-zero, add-sub_cancel_left}
 use native.Mathlib.Omega.{arith}
-use mathlib.Core.Path.{◌≡◌, refl, sym, ap, ap₂, subst, ◌∙◌}
+use mathlib.Core.Path.{◌≡◌, refl, sym, ap, subst, ◌∙◌}
 use mathlib.Core.Bool.{Bool, true, false, cond}
 use mathlib.Core.List.{List, [], ◌∷◌}
-use mathlib.Core.Option.{Option, none, some}
 use lib.ListN.{length, take, drop, drop_of_length-le, length-drop, length-take}
 use lib.Seq.{drop-cons, drop-drop}
 use lib.Dec.{ltb}
 use borrow.Author.Tests.{lt-ltb, le-ltb, ltb-true, ltb-false}
+use Rattle.std.specs.Prelude.{None, Ok, Option, Some}
 use Rattle.text.specs.Text.{trimmed_span, same, Piece}
+use Rattle.limits.proofs.Laws.{some_pair}
 use Rattle.limits.specs.Limits.{LimitSet}
-use Rattle.limits.specs.Outcome.{given}
 use Rattle.limits.specs.declared.Refusal.TheVariants.{TextTooLong}
 use Rattle.text.specs.Answers.{too_long, span_of, lookup_of, next_of}
-use Rattle.text.specs.declared.Lookup.TheVariants as look
-use Rattle.text.specs.declared.Next.TheVariants as step
 use Rattle.text.specs.declared.Span.{Span}
 use Rattle.text.proofs.Runs.{drop_part}
 use Rattle.text.proofs.Trimming.{trimmed_at, trimmed_part}
 use Rattle.msg.specs.Block.{line_at, lines_after, HeaderLine, line_of, with_line, tail_of, lines_from, lines_since, first_named, value_of, text_of, part_of, part_place, stop_of, found_of, block_cause, lookup_cause}
-use Rattle.msg.specs.declared.Line.{Line}
-use Rattle.msg.specs.declared.Line.TheVariants.{Of, Malformed}
-use Rattle.msg.specs.declared.Found.TheVariants.{At, Nothing}
 use Rattle.msg.proofs.LineLaws.{line_length}
 
 -- ---- nothing but lines
@@ -35,7 +30,7 @@ after_skip zero s = refl
 after_skip (suc k) [] = refl
 after_skip (suc k) (b ∷ s) = after_skip k s
 
-after_line : (t : List ℕ) (n m : ℕ) → line_at t ≡ Of n m → lines_after 0 t ≡ lines_after 0 (drop (suc (n + m + 2)) t)
+after_line : (t : List ℕ) (n m : ℕ) → line_at t ≡ Some (n, m) → lines_after 0 t ≡ lines_after 0 (drop (suc (n + m + 2)) t)
 unfolding lines_after
 after_line [] n m e = refl
 after_line (b ∷ s) n m e = rw e (after_skip (n + m + 2) s)
@@ -46,11 +41,11 @@ module _ (s : List ℕ) (at : ℕ) where
   unfolding lines_after
   block_done h = rw (drop_of_length-le s h)
 
-  pub block_stop : at < length s → line_at (take (length s - at) (drop at s)) ≡ Malformed → lines_after 0 (drop at s) ≡ false
+  pub block_stop : at < length s → line_at (take (length s - at) (drop at s)) ≡ None → lines_after 0 (drop at s) ≡ false
   unfolding lines_after
   block_stop h e = rw (drop-cons s at 0 h, rw (drop_part s at, drop-cons s at 0 h) at e)
 
-  pub block_next : (n m : ℕ) → line_at (take (length s - at) (drop at s)) ≡ Of n m → lines_after 0 (drop at s) ≡ lines_after 0 (drop (at + (n + m + 3)) s)
+  pub block_next : (n m : ℕ) → line_at (take (length s - at) (drop at s)) ≡ Some (n, m) → lines_after 0 (drop at s) ≡ lines_after 0 (drop (at + (n + m + 3)) s)
   block_next n m e =
       let q : at + suc (n + m + 2) ≡ at + (n + m + 3) = omega arith in
       after_line (drop at s) n m (rw drop_part at e) ∙ rw (drop-drop, q)
@@ -65,7 +60,7 @@ from_skip (suc k) at (b ∷ s) =
     let q : at + 1 + k ≡ at + suc k = omega arith in
     from_skip k (at + 1) s ∙ rw q
 
-from_line : (at : ℕ) (t : List ℕ) (n m : ℕ) → line_at t ≡ Of n m → lines_from 0 at t ≡ line_of at t n m ∷ lines_from 0 (at + (n + m + 3)) (drop (suc (n + m + 2)) t)
+from_line : (at : ℕ) (t : List ℕ) (n m : ℕ) → line_at t ≡ Some (n, m) → lines_from 0 at t ≡ line_of at t n m ∷ lines_from 0 (at + (n + m + 3)) (drop (suc (n + m + 2)) t)
 unfolding lines_from
 from_line at [] n m e = absurd (omega (arith, line_length [] n m e))
 from_line at (b ∷ s) n m e =
@@ -81,11 +76,11 @@ module _ (s : List ℕ) (at : ℕ) where
   unfolding lines_from
   left_done h = rw (drop_of_length-le s h)
 
-  pub left_stop : at < length s → line_at (take (length s - at) (drop at s)) ≡ Malformed → lines_left s at ≡ []
+  pub left_stop : at < length s → line_at (take (length s - at) (drop at s)) ≡ None → lines_left s at ≡ []
   unfolding lines_from
   left_stop h e = rw (drop-cons s at 0 h, rw (drop_part s at, drop-cons s at 0 h) at e)
 
-  pub left_line : (n m : ℕ) → line_at (take (length s - at) (drop at s)) ≡ Of n m → lines_left s at ≡ line_of at (drop at s) n m ∷ lines_left s (at + (n + m + 3))
+  pub left_line : (n m : ℕ) → line_at (take (length s - at) (drop at s)) ≡ Some (n, m) → lines_left s at ≡ line_of at (drop at s) n m ∷ lines_left s (at + (n + m + 3))
   left_line n m e =
       let q : at + suc (n + m + 2) ≡ at + (n + m + 3) = omega arith in
       from_line at (drop at s) n m (rw drop_part at e) ∙ rw (drop-drop (suc (n + m + 2)) at s, q)
@@ -93,19 +88,19 @@ module _ (s : List ℕ) (at : ℕ) where
 -- ---- the first line of a name
 
 module _ (s asked : List ℕ) (at : ℕ) where
-  pub first_done : lines_left s at ≡ [] → first_named asked (lines_left s at) ≡ none
+  pub first_done : lines_left s at ≡ [] → first_named asked (lines_left s at) ≡ None
   unfolding first_named
   first_done e = rw e
 
-  pub first_next : (n m : ℕ) → line_at (take (length s - at) (drop at s)) ≡ Of n m → same (take n (take (length s - at) (drop at s))) asked ≡ false
+  pub first_next : (n m : ℕ) → line_at (take (length s - at) (drop at s)) ≡ Some (n, m) → same (take n (take (length s - at) (drop at s))) asked ≡ false
       → first_named asked (lines_left s at) ≡ first_named asked (lines_left s (at + (n + m + 3)))
   unfolding first_named
   first_next n m e d = rw (left_line s at n m e, rw drop_part at d)
 
   -- the line's value is trimmed in the part after the name and the colon
   pub first_hit : (n m : ℕ) (v : Span) → v ≡ trimmed_span (take (n + 1 + m - (n + 1)) (drop (n + 1) (take (length s - at) (drop at s))))
-      → line_at (take (length s - at) (drop at s)) ≡ Of n m → same (take n (take (length s - at) (drop at s))) asked ≡ true
-      → At (record { start = at + (n + 1) + v.start; length = v.length }) (at + (n + m + 3)) ≡ found_of (first_named asked (lines_left s at))
+      → line_at (take (length s - at) (drop at s)) ≡ Some (n, m) → same (take n (take (length s - at) (drop at s))) asked ≡ true
+      → Some (record { start = at + (n + 1) + v.start; length = v.length }, at + (n + m + 3)) ≡ found_of (first_named asked (lines_left s at))
   unfolding first_named
   first_hit n m v p e d = rw (p, left_line s at n m e, rw drop_part at d, drop_part s at, add-sub_cancel_left)
 
@@ -116,10 +111,10 @@ module _ (s asked : List ℕ) (at : ℕ) where
 -- ---- the lines from a place on
 
 -- once the place is not before `from`, the rest is left: its first line starts at the place
-by_reached : (s : List ℕ) (from at : ℕ) (l : Line) → line_at (take (length s - at) (drop at s)) ≡ l → at < length s → from ≤ at → lines_since from (lines_left s at) ≡ lines_left s at
+by_reached : (s : List ℕ) (from at : ℕ) (l : Option (ℕ × ℕ)) → line_at (take (length s - at) (drop at s)) ≡ l → at < length s → from ≤ at → lines_since from (lines_left s at) ≡ lines_left s at
 unfolding lines_since
-by_reached s from at (Of n m) e h k = rw (left_line s at n m e, le-ltb at from k)
-by_reached s from at Malformed e h k = rw (left_stop s at h e)
+by_reached s from at (Some (n, m)) e h k = rw (left_line s at n m e, le-ltb at from k)
+by_reached s from at None e h k = rw (left_stop s at h e)
 
 pub since_reached : (s : List ℕ) (from at : ℕ) → from ≤ at → lines_since from (lines_left s at) ≡ lines_left s at
 unfolding lines_since
@@ -133,7 +128,7 @@ pub since_none : (s : List ℕ) (from at : ℕ) → lines_left s at ≡ [] → l
 unfolding lines_since
 since_none s from at e = rw e
 
-pub since_next : (s : List ℕ) (from at n m : ℕ) → line_at (take (length s - at) (drop at s)) ≡ Of n m → at < from → lines_since from (lines_left s at) ≡ lines_since from (lines_left s (at + (n + m + 3)))
+pub since_next : (s : List ℕ) (from at n m : ℕ) → line_at (take (length s - at) (drop at s)) ≡ Some (n, m) → at < from → lines_since from (lines_left s at) ≡ lines_since from (lines_left s (at + (n + m + 3)))
 unfolding lines_since
 since_next s from at n m e h = rw (left_line s at n m e, lt-ltb at from h)
 
@@ -143,7 +138,7 @@ pub record Placed (s : List ℕ) (p : Piece) : Type 0 where
   pub fits : p.place + length p.text ≤ length s
   pub there : take (length p.text) (drop p.place s) ≡ p.text
 
-placed_line : (s : List ℕ) (at n m : ℕ) → at ≤ length s → line_at (drop at s) ≡ Of n m → Placed s (line_of at (drop at s) n m).value
+placed_line : (s : List ℕ) (at n m : ℕ) → at ≤ length s → line_at (drop at s) ≡ Some (n, m) → Placed s (line_of at (drop at s) n m).value
 placed_line s at n m h e =
     let p : at + (n + 1) ≤ length s = omega (arith, line_length (drop at s) n m e, length-drop at s) in
     record {
@@ -154,19 +149,19 @@ placed_line s at n m h e =
 -- by what the line is, and whether its name is the one sought
 module _ (asked s : List ℕ) (f : HeaderLine) (b : ℕ) (t : List ℕ) (at : ℕ) (h : at ≤ length s) (here : drop at s ≡ b ∷ t) where
   by_name : (n m : ℕ) (u : Bool) → Placed s (line_of at (b ∷ t) n m).value
-      → (first_named asked (lines_from (n + m + 2) (at + 1) t) ≡ some f → Placed s f.value)
-      → cond u (some (line_of at (b ∷ t) n m)) (first_named asked (lines_from (n + m + 2) (at + 1) t)) ≡ some f → Placed s f.value
+      → (first_named asked (lines_from (n + m + 2) (at + 1) t) ≡ Some f → Placed s f.value)
+      → cond u (Some (line_of at (b ∷ t) n m)) (first_named asked (lines_from (n + m + 2) (at + 1) t)) ≡ Some f → Placed s f.value
   by_name n m true p more e = let q : line_of at (b ∷ t) n m ≡ f = cc in subst (λ (g : HeaderLine). Placed s g.value) q p
   by_name n m false p more e = more e
 
-  by_line : (l : Line) → line_at (b ∷ t) ≡ l → ((k : ℕ) → first_named asked (lines_from k (at + 1) t) ≡ some f → Placed s f.value)
-      → first_named asked (with_line l at (b ∷ t) (lines_from (tail_of l) (at + 1) t)) ≡ some f → Placed s f.value
+  by_line : (l : Option (ℕ × ℕ)) → line_at (b ∷ t) ≡ l → ((k : ℕ) → first_named asked (lines_from k (at + 1) t) ≡ Some f → Placed s f.value)
+      → first_named asked (with_line l at (b ∷ t) (lines_from (tail_of l) (at + 1) t)) ≡ Some f → Placed s f.value
   unfolding first_named
-  by_line (Of n m) q more e =
+  by_line (Some (n, m)) q more e =
       by_name n m (same (take n (b ∷ t)) asked) (subst (λ (l : List ℕ). Placed s (line_of at l n m).value) here (placed_line s at n m h (ap line_at here ∙ q))) (more (n + m + 2)) e
-  by_line Malformed q more e = absurd (let z : ◌≡◌ {A = ℕ} 0 1 = cc in omega arith)
+  by_line None q more e = absurd (let z : ◌≡◌ {A = ℕ} 0 1 = cc in omega arith)
 
-first_placed : (asked s : List ℕ) (f : HeaderLine) (t : List ℕ) (skip at : ℕ) → at ≤ length s → drop at s ≡ t → first_named asked (lines_from skip at t) ≡ some f → Placed s f.value
+first_placed : (asked s : List ℕ) (f : HeaderLine) (t : List ℕ) (skip at : ℕ) → at ≤ length s → drop at s ≡ t → first_named asked (lines_from skip at t) ≡ Some f → Placed s f.value
 unfolding lines_from first_named
 first_placed asked s f [] skip at h q e = absurd (let z : ◌≡◌ {A = ℕ} 0 1 = cc in omega arith)
 first_placed asked s f (b ∷ t) zero at h q e =
@@ -177,14 +172,14 @@ first_placed asked s f (b ∷ t) (suc skip) at h q e =
 -- what a look-up's answer says: the value's piece is the span, and it stands in the block
 pub record Says (s : List ℕ) (o : Option HeaderLine) (v : Span) (next : ℕ) : Type 0 where
   pub line : HeaderLine
-  pub is : o ≡ some line
+  pub is : o ≡ Some line
   pub span_is : span_of line.value ≡ v
   pub next_is : line.next ≡ next
   pub placed : Placed s line.value
 
-says : (s : List ℕ) (o : Option HeaderLine) (v : Span) (next : ℕ) → ((f : HeaderLine) → o ≡ some f → Placed s f.value) → found_of o ≡ At v next → Says s o v next
-says s none v next p e = absurd (let z : ◌≡◌ {A = ℕ} 0 1 = cc in omega arith)
-says s (some f) v next p e = record { line = f; is = refl; span_is = (cc); next_is = (cc); placed = p f refl }
+says : (s : List ℕ) (o : Option HeaderLine) (v : Span) (next : ℕ) → ((f : HeaderLine) → o ≡ Some f → Placed s f.value) → found_of o ≡ Some (v, next) → Says s o v next
+says s None v next p e = absurd (let z : ◌≡◌ {A = ℕ} 0 1 = cc in omega arith)
+says s (Some f) v next p e = let q = some_pair e in record { line = f; is = refl; span_is = q.0; next_is = q.1; placed = p f refl }
 
 -- the span lies within the block, the bytes there are the value, and it starts where the value stands
 module _ (s : List ℕ) (o : Option HeaderLine) (v : Span) (next : ℕ) (r : Says s o v next) where
@@ -200,17 +195,17 @@ module _ (s : List ℕ) (o : Option HeaderLine) (v : Span) (next : ℕ) (r : Say
   pub said_text : take (v.start + v.length - v.start) (drop v.start s) ≡ text_of o
   said_text = said_part ∙ rw r.is r.placed.there
 
-pub found_at : (s asked : List ℕ) (at : ℕ) (v : Span) (next : ℕ) → at ≤ length s → found_of (first_named asked (lines_left s at)) ≡ At v next → Says s (first_named asked (lines_left s at)) v next
+pub found_at : (s asked : List ℕ) (at : ℕ) (v : Span) (next : ℕ) → at ≤ length s → found_of (first_named asked (lines_left s at)) ≡ Some (v, next) → Says s (first_named asked (lines_left s at)) v next
 found_at s asked at v next h e = says s (first_named asked (lines_left s at)) v next (λ f. first_placed asked s f (drop at s) 0 at h refl) e
 
-pub found_none : (o : Option HeaderLine) → found_of o ≡ Nothing → o ≡ none
-found_none none e = refl
-found_none (some f) e = absurd (let z : ◌≡◌ {A = ℕ} 0 1 = cc in omega arith)
+pub found_none : (o : Option HeaderLine) → found_of o ≡ None → o ≡ None
+found_none None e = refl
+found_none (Some f) e = absurd (let z : ◌≡◌ {A = ℕ} 0 1 = cc in omega arith)
 
 -- ---- the refusals of a look-up, in their order
 
 module _ (L : LimitSet) (block asked : List ℕ) where
-  pub long_name : too_long L asked ≡ true → lookup_cause L block asked ≡ some TextTooLong
+  pub long_name : too_long L asked ≡ true → lookup_cause L block asked ≡ Some TextTooLong
   unfolding lookup_cause
   long_name e = rw e
 
@@ -219,19 +214,16 @@ module _ (L : LimitSet) (block asked : List ℕ) where
   short_name e = rw e
 
 -- the answer by the first line: nothing, or the value's place
-pub no_line : (o : Option HeaderLine) → found_of o ≡ Nothing → value_of o ≡ none
+pub no_line : (o : Option HeaderLine) → found_of o ≡ None → value_of o ≡ None
 no_line o e = ap value_of (found_none o e)
 
-pub no_stop : (o : Option HeaderLine) → found_of o ≡ Nothing → stop_of o ≡ none
+pub no_stop : (o : Option HeaderLine) → found_of o ≡ None → stop_of o ≡ None
 no_stop o e = ap stop_of (found_none o e)
 
-pub line_value : (o : Option HeaderLine) (v : Span) (next : ℕ) → found_of o ≡ At v next → look.At v ≡ lookup_of (given (value_of o))
-line_value none v next e = absurd (let z : ◌≡◌ {A = ℕ} 0 1 = cc in omega arith)
-line_value (some l) v next e = let q : span_of l.value ≡ v = cc in ap look.At (sym q)
+pub line_value : (o : Option HeaderLine) (v : Span) (next : ℕ) → found_of o ≡ Some (v, next) → Ok (Some v) ≡ lookup_of (Ok (value_of o))
+line_value None v next e = absurd (let z : ◌≡◌ {A = ℕ} 0 1 = cc in omega arith)
+line_value (Some l) v next e = ap (λ x. Ok (Some x)) (sym (some_pair e).0)
 
-pub line_stop : (o : Option HeaderLine) (v : Span) (next : ℕ) → found_of o ≡ At v next → step.At v next ≡ next_of (given (stop_of o))
-line_stop none v next e = absurd (let z : ◌≡◌ {A = ℕ} 0 1 = cc in omega arith)
-line_stop (some l) v next e =
-    let q : span_of l.value ≡ v = cc in
-    let r : l.next ≡ next = cc in
-    ap₂ step.At (sym q) (sym r)
+pub line_stop : (o : Option HeaderLine) (v : Span) (next : ℕ) → found_of o ≡ Some (v, next) → Ok (Some (v, next)) ≡ next_of (Ok (stop_of o))
+line_stop None v next e = absurd (let z : ◌≡◌ {A = ℕ} 0 1 = cc in omega arith)
+line_stop (Some l) v next e = ap Ok (sym e)

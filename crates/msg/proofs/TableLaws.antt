@@ -6,13 +6,12 @@ use native.Mathlib.Omega.{arith}
 use mathlib.Core.Path.{◌≡◌, refl, sym, ap, subst, ◌∙◌}
 use mathlib.Core.Bool.{Bool, true, false, cond, not, ◌&&◌, false≢true}
 use mathlib.Core.List.{List, [], ◌∷◌}
-use mathlib.Core.Option.{Option, none, some}
 use lib.ListN.{length, take, drop}
 use lib.Dec.{eqb, eqb-zero-suc, eqb-suc-zero, eqb-suc-suc}
 use borrow.Author.Tests.{eq-eqb, ne_eqb, eqb-true}
+use Rattle.std.specs.Prelude.{Err, None, Ok, Option, Some}
 use Rattle.limits.specs.Outcome.{check_of}
 use Rattle.limits.specs.declared.Refusal.{Refusal}
-use Rattle.limits.specs.declared.Check.TheVariants as check
 use Rattle.text.specs.Text.{alike, lower, same, trimmed_span}
 use Rattle.text.specs.Answers.{span_of}
 use Rattle.text.specs.declared.Span.{Span}
@@ -20,11 +19,7 @@ use Rattle.text.proofs.Alike.{alike_length}
 use Rattle.text.proofs.Runs.{drop_part}
 use Rattle.msg.specs.Block.{HeaderLine, named, first_named, found_of, line_at, line_of, lines_of, value_of, text_of, value_named}
 use Rattle.msg.specs.Table.{names, name_in, name_at, slot_in, slot_of, tabled, table_of, headers_of, looked_up, or_found, kept, noted, here_of, text_at, value_at, end_of}
-use Rattle.msg.specs.declared.Found.{Found}
-use Rattle.msg.specs.declared.Found.TheVariants.{At, Nothing}
-use Rattle.msg.specs.declared.Line.TheVariants.{Of}
 use Rattle.msg.specs.declared.table.HeaderTable.{HeaderTable}
-use Rattle.msg.specs.declared.table.Headers.TheVariants as headers
 use Rattle.msg.proofs.LookupLaws.{lines_left, left_line, Says, found_at}
 
 -- ---- a line has at most one of the names
@@ -120,10 +115,10 @@ slot_only name k l h = by (named (name_at k) name) refl
 -- ---- the table
 
 -- two tables with the same look-up of each name
-tabled_same : (f g : ℕ → Found) → ((k : ℕ) → k < 8 → f k ≡ g k) → tabled f ≡ tabled g
+tabled_same : (f g : ℕ → Option (Span × ℕ)) → ((k : ℕ) → k < 8 → f k ≡ g k) → tabled f ≡ tabled g
 tabled_same f g h = rw (h 0 (omega arith), h 1 (omega arith), h 2 (omega arith), h 3 (omega arith), h 4 (omega arith), h 5 (omega arith), h 6 (omega arith), h 7 (omega arith))
 
-looked_up_lem : (f : ℕ → Found) (k : ℕ) → k < 8 → looked_up (tabled f) k ≡ f k
+looked_up_lem : (f : ℕ → Option (Span × ℕ)) (k : ℕ) → k < 8 → looked_up (tabled f) k ≡ f k
 looked_up_lem f zero l = refl
 looked_up_lem f (suc zero) l = refl
 looked_up_lem f (suc (suc zero)) l = refl
@@ -139,15 +134,15 @@ abbrev pub table_after : HeaderTable → List HeaderLine → HeaderTable
 table_after t ls = tabled (λ k. or_found (looked_up t k) (found_of (first_named (name_at k) ls)))
 
 -- one line, for one name: the law of all names
-by_turn : (asked : List ℕ) (l : HeaderLine) (ls : List HeaderLine) (have : Found) (u : Bool)
-    → or_found have (found_of (cond u (some l) (first_named asked ls))) ≡ or_found (kept u have (found_of (some l))) (found_of (first_named asked ls))
-by_turn asked l ls (At v next) true = refl
-by_turn asked l ls (At v next) false = refl
-by_turn asked l ls Nothing true = refl
-by_turn asked l ls Nothing false = refl
+by_turn : (asked : List ℕ) (l : HeaderLine) (ls : List HeaderLine) (have : Option (Span × ℕ)) (u : Bool)
+    → or_found have (found_of (cond u (Some l) (first_named asked ls))) ≡ or_found (kept u have (found_of (Some l))) (found_of (first_named asked ls))
+by_turn asked l ls (Some (v, next)) true = refl
+by_turn asked l ls (Some (v, next)) false = refl
+by_turn asked l ls None true = refl
+by_turn asked l ls None false = refl
 
-turn : (asked : List ℕ) (l : HeaderLine) (ls : List HeaderLine) (have : Found)
-    → or_found have (found_of (first_named asked (l ∷ ls))) ≡ or_found (kept (named asked l.name) have (found_of (some l))) (found_of (first_named asked ls))
+turn : (asked : List ℕ) (l : HeaderLine) (ls : List HeaderLine) (have : Option (Span × ℕ))
+    → or_found have (found_of (first_named asked (l ∷ ls))) ≡ or_found (kept (named asked l.name) have (found_of (Some l))) (found_of (first_named asked ls))
 unfolding first_named
 turn asked l ls have = by_turn asked l ls have (named asked l.name)
 
@@ -156,29 +151,29 @@ module _ (t : HeaderTable) where
   unfolding first_named
   table_start ls = refl
 
-  nothing_more : (f : Found) → or_found f Nothing ≡ f
-  nothing_more (At v next) = refl
-  nothing_more Nothing = refl
+  nothing_more : (f : Option (Span × ℕ)) → or_found f None ≡ f
+  nothing_more (Some (v, next)) = refl
+  nothing_more None = refl
 
   pub table_end : table_after t [] ≡ t
   unfolding first_named
   table_end = tabled_same _ (looked_up t) (λ k h. nothing_more (looked_up t k))
 
-  pub table_next : (l : HeaderLine) (ls : List HeaderLine) → table_after t (l ∷ ls) ≡ table_after (noted (slot_of l.name) (found_of (some l)) t) ls
-  table_next l ls = tabled_same _ _ (λ k h. turn (name_at k) l ls (looked_up t k) ∙ ap (λ (x : Found). or_found x (found_of (first_named (name_at k) ls))) (ap (λ (u : Bool). kept u (looked_up t k) (found_of (some l))) (sym (slot_is l.name k h)) ∙ sym (looked_up_lem (λ j. kept (eqb (slot_of l.name) j) (looked_up t j) (found_of (some l))) k h)))
+  pub table_next : (l : HeaderLine) (ls : List HeaderLine) → table_after t (l ∷ ls) ≡ table_after (noted (slot_of l.name) (found_of (Some l)) t) ls
+  table_next l ls = tabled_same _ _ (λ k h. turn (name_at k) l ls (looked_up t k) ∙ ap (λ (x : Option (Span × ℕ)). or_found x (found_of (first_named (name_at k) ls))) (ap (λ (u : Bool). kept u (looked_up t k) (found_of (Some l))) (sym (slot_is l.name k h)) ∙ sym (looked_up_lem (λ j. kept (eqb (slot_of l.name) j) (looked_up t j) (found_of (Some l))) k h)))
 
   pub table_skip : (l : HeaderLine) (ls : List HeaderLine) → 8 ≤ slot_of l.name → table_after t (l ∷ ls) ≡ table_after t ls
-  table_skip l ls q = tabled_same _ _ (λ k h. turn (name_at k) l ls (looked_up t k) ∙ ap (λ (u : Bool). or_found (kept u (looked_up t k) (found_of (some l))) (found_of (first_named (name_at k) ls))) (sym (slot_is l.name k h) ∙ ne_eqb _ _ (λ (e : slot_of l.name ≡ k). omega arith)))
+  table_skip l ls q = tabled_same _ _ (λ k h. turn (name_at k) l ls (looked_up t k) ∙ ap (λ (u : Bool). or_found (kept u (looked_up t k) (found_of (Some l))) (found_of (first_named (name_at k) ls))) (sym (slot_is l.name k h) ∙ ne_eqb _ _ (λ (e : slot_of l.name ≡ k). omega arith)))
 
 -- ---- the reading
 
 -- the line that stands first, as the code makes it of the trimmed value
 pub line_here : (s : List ℕ) (at n m : ℕ) (v : Span) → v ≡ trimmed_span (take (n + 1 + m - (n + 1)) (drop (n + 1) s))
-    → At (record { start = at + (n + 1) + v.start; length = v.length }) (at + (n + m + 3)) ≡ here_of at s n m
+    → Some (record { start = at + (n + 1) + v.start; length = v.length }, at + (n + m + 3)) ≡ here_of at s n m
 line_here s at n m v p = rw (p, add-sub_cancel_left)
 
-module _ (s : List ℕ) (at : ℕ) (t : HeaderTable) (n m : ℕ) (e : line_at (take (length s - at) (drop at s)) ≡ Of n m) where
-  pub left_noted : (k : ℕ) (here : Found) (u : HeaderTable) → k ≡ slot_of (take n (take (length s - at) (drop at s))) → here ≡ here_of at (take (length s - at) (drop at s)) n m → u ≡ noted k here t
+module _ (s : List ℕ) (at : ℕ) (t : HeaderTable) (n m : ℕ) (e : line_at (take (length s - at) (drop at s)) ≡ Some (n, m)) where
+  pub left_noted : (k : ℕ) (here : Option (Span × ℕ)) (u : HeaderTable) → k ≡ slot_of (take n (take (length s - at) (drop at s))) → here ≡ here_of at (take (length s - at) (drop at s)) n m → u ≡ noted k here t
       → table_after t (lines_left s at) ≡ table_after u (lines_left s (at + (n + m + 3)))
   left_noted k here u p q r = ap (table_after t) (left_line s at n m e) ∙ table_next t (line_of at (drop at s) n m) _ ∙ rw (r, rw drop_part at p, rw drop_part at q)
 
@@ -189,7 +184,7 @@ module _ (s : List ℕ) (at : ℕ) (t : HeaderTable) (n m : ℕ) (e : line_at (t
 -- ---- a line that was looked up stands in the block
 
 module _ (name block : List ℕ) where
-  looked : (l : HeaderLine) → first_named name (lines_of block) ≡ some l → (l.value.place + length l.value.text ≤ length block) × (take (length l.value.text) (drop l.value.place block) ≡ l.value.text)
+  looked : (l : HeaderLine) → first_named name (lines_of block) ≡ Some l → (l.value.place + length l.value.text ≤ length block) × (take (length l.value.text) (drop l.value.place block) ≡ l.value.text)
   looked l e =
       let r : Says block (first_named name (lines_of block)) (span_of l.value) l.next = found_at block name 0 (span_of l.value) l.next (omega arith) (ap found_of e) in
       let q : r.line ≡ l = cc r.is in
@@ -199,30 +194,30 @@ module _ (name block : List ℕ) where
   text_at_lem = by (first_named name (lines_of block)) refl
     where
       by : (o : Option HeaderLine) → first_named name (lines_of block) ≡ o → text_at (found_of o) block ≡ text_of o
-      by none e = refl
-      by (some l) e = (looked l e).1
+      by None e = refl
+      by (Some l) e = (looked l e).1
 
   pub value_at_lem : value_at (found_of (first_named name (lines_of block))) block ≡ value_named name block
   value_at_lem = by (first_named name (lines_of block)) refl
     where
       by : (o : Option HeaderLine) → first_named name (lines_of block) ≡ o → value_at (found_of o) block ≡ value_of o
-      by none e = refl
-      by (some l) e = ap (λ (s : List ℕ). some (record { place = l.value.place; text = s })) (looked l e).1
+      by None e = refl
+      by (Some l) e = ap (λ (s : List ℕ). Some (record { place = l.value.place; text = s })) (looked l e).1
 
   pub end_of_lem : end_of (found_of (first_named name (lines_of block))) ≤ length block
   end_of_lem = by (first_named name (lines_of block)) refl
     where
       by : (o : Option HeaderLine) → first_named name (lines_of block) ≡ o → end_of (found_of o) ≤ length block
-      by none e = omega arith
-      by (some l) e = (looked l e).0
+      by None e = omega arith
+      by (Some l) e = (looked l e).0
 
 -- the same of a line that is at hand
-pub found_end : (name block : List ℕ) (f : Found) → f ≡ found_of (first_named name (lines_of block)) → end_of f ≤ length block
+pub found_end : (name block : List ℕ) (f : Option (Span × ℕ)) → f ≡ found_of (first_named name (lines_of block)) → end_of f ≤ length block
 found_end name block f e = rw e (end_of_lem name block)
 
-module _ (f : Found) (v : Span) (next : ℕ) (e : f ≡ At v next) where
+module _ (f : Option (Span × ℕ)) (v : Span) (next : ℕ) (e : f ≡ Some (v, next)) where
   pub at_fits : (n : ℕ) → end_of f ≤ n → v.start + v.length ≤ n
-  at_fits n h = subst (λ (x : Found). end_of x ≤ n) e h
+  at_fits n h = subst (λ (x : Option (Span × ℕ)). end_of x ≤ n) e h
 
   pub at_text : (s : List ℕ) → take (v.start + v.length - v.start) (drop v.start s) ≡ text_at f s
   at_text s = rw (e, add-sub_cancel_left)
@@ -230,10 +225,10 @@ module _ (f : Found) (v : Span) (next : ℕ) (e : f ≡ At v next) where
 -- ---- what a reading answers
 
 -- a block with a table, and one without
-pub headers_read : (o : Option Refusal) (u t : HeaderTable) → headers_of o u ≡ headers.Of t → (o ≡ none) × (t ≡ u)
-headers_read none u t e = (refl, (cc))
-headers_read (some x) u t e = absurd (let z : ◌≡◌ {A = ℕ} 0 1 = cc in omega arith)
+pub headers_read : (o : Option Refusal) (u t : HeaderTable) → headers_of o u ≡ Ok t → (o ≡ None) × (t ≡ u)
+headers_read None u t e = (refl, (cc))
+headers_read (Some x) u t e = absurd (let z : ◌≡◌ {A = ℕ} 0 1 = cc in omega arith)
 
-pub headers_bad : (o : Option Refusal) (u : HeaderTable) (x : Refusal) → headers_of o u ≡ headers.Refused x → check_of o ≡ check.Refused x
-headers_bad none u x e = absurd (let z : ◌≡◌ {A = ℕ} 0 1 = cc in omega arith)
-headers_bad (some y) u x e = let q : y ≡ x = cc in ap check.Refused q
+pub headers_bad : (o : Option Refusal) (u : HeaderTable) (x : Refusal) → headers_of o u ≡ Err x → check_of o ≡ Err x
+headers_bad None u x e = absurd (let z : ◌≡◌ {A = ℕ} 0 1 = cc in omega arith)
+headers_bad (Some y) u x e = let q : y ≡ x = cc in ap Err q

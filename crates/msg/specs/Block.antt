@@ -1,18 +1,14 @@
 -- The header block of document 01, "Block": lines `name:value` CRLF; names of letters, digits, `-`, at least one; values of
 -- bytes 9 and 32 to 126, space and tab trimmed at both ends. An empty block is valid. RFC 3261 section 7.3.1 also has folded
 -- lines and other bytes, and section 7.3.3 short names; here they are refused or not known.
-use Rattle.std.specs.Prelude.{ℕ, zero, suc, ◌+◌, Bool, true, false, cond, not, ◌&&◌, ◌||◌, List, [], ◌∷◌, length, take, drop, get_or, ltb, eqb}
-use Rattle.std.proofs.Math.Option.{Option, none, some}
+use Rattle.text.specs.declared.Span.{Span}
+use Rattle.std.specs.Prelude.{ℕ, zero, suc, ◌+◌, Bool, true, false, cond, not, ◌&&◌, ◌||◌, List, [], ◌∷◌, length, take, drop, get_or, ltb, eqb, None, Ok, Option, Result, Some}
 use Rattle.limits.specs.Limits.{LimitSet}
-use Rattle.limits.specs.Outcome.{Outcome, given, refuse_by, cause_if, or_else}
+use Rattle.limits.specs.Outcome.{refuse_by, cause_if, or_else}
 use Rattle.limits.specs.declared.Refusal.{Refusal}
 use Rattle.limits.specs.declared.Refusal.TheVariants.{Malformed}
 use Rattle.text.specs.Text.{is_letter, is_digit, is_value, span, blanks, trimmed, same, Piece}
 use Rattle.text.specs.Answers.{length_cause, Stop, span_of}
-use Rattle.msg.specs.declared.Line.{Line}
-use Rattle.msg.specs.declared.Line.TheVariants as line
-use Rattle.msg.specs.declared.Found.{Found}
-use Rattle.msg.specs.declared.Found.TheVariants as found
 
 -- ---- one line
 
@@ -27,23 +23,23 @@ abbrev pub value_length : List ℕ → ℕ
 value_length s = span is_value (drop (name_length s + 1) s)
 
 -- the line that stands first: a name of at least one byte, a colon, a value, CR and LF
-unfoldable pub line_at : List ℕ → Line
+unfoldable pub line_at : List ℕ → Option (ℕ × ℕ)
 line_at s =
     cond (ltb 0 (name_length s)
     && (eqb (get_or s (name_length s) 0) 58
     && (eqb (get_or s (name_length s + 1 + value_length s) 0) 13
     && eqb (get_or s (name_length s + 1 + value_length s + 1) 0) 10)))
-    (line.Of (name_length s) (value_length s))
-    line.Malformed
+    (Some (name_length s, value_length s))
+    None
 
 -- a line's length, less one
-abbrev pub tail_of : Line → ℕ
-tail_of (line.Of n m) = n + m + 2
-tail_of line.Malformed = 0
+abbrev pub tail_of : Option (ℕ × ℕ) → ℕ
+tail_of (Some (n, m)) = n + m + 2
+tail_of None = 0
 
-abbrev pub is_line : Line → Bool
-is_line (line.Of n m) = true
-is_line line.Malformed = false
+abbrev pub is_line : Option (ℕ × ℕ) → Bool
+is_line (Some (n, m)) = true
+is_line None = false
 
 -- ---- all lines
 
@@ -76,9 +72,9 @@ line_of at s n m = record {
   next = at + (n + m + 3);
 }
 
-abbrev pub with_line : Line → ℕ → List ℕ → List HeaderLine → List HeaderLine
-with_line line.Malformed at s more = []
-with_line (line.Of n m) at s more = line_of at s n m ∷ more
+abbrev pub with_line : Option (ℕ × ℕ) → ℕ → List ℕ → List HeaderLine → List HeaderLine
+with_line None at s more = []
+with_line (Some (n, m)) at s more = line_of at s n m ∷ more
 
 -- the lines, up to the first bytes that are none; s stands at `at`, and `skip` bytes of it belong to a line before
 unfoldable pub lines_from : ℕ → ℕ → List ℕ → List HeaderLine
@@ -98,8 +94,8 @@ named asked name = same name asked
 
 -- `header` and `Headers::get`: the first line of that name
 unfoldable pub first_named : List ℕ → List HeaderLine → Option HeaderLine
-first_named asked [] = none
-first_named asked (l ∷ ls) = cond (named asked l.name) (some l) (first_named asked ls)
+first_named asked [] = None
+first_named asked (l ∷ ls) = cond (named asked l.name) (Some l) (first_named asked ls)
 
 -- `get_all_smol`: all of them, in order
 unfoldable pub all_named : List ℕ → List HeaderLine → List HeaderLine
@@ -112,13 +108,13 @@ lines_since from [] = []
 lines_since from (l ∷ ls) = cond (ltb l.start from) (lines_since from ls) (l ∷ ls)
 
 abbrev pub value_of : Option HeaderLine → Option Piece
-value_of none = none
-value_of (some l) = some l.value
+value_of None = None
+value_of (Some l) = Some l.value
 
 -- the value's bytes, none where there is no line
 abbrev pub text_of : Option HeaderLine → List ℕ
-text_of none = []
-text_of (some l) = l.value.text
+text_of None = []
+text_of (Some l) = l.value.text
 
 -- the value of a name in a block, if a line has it
 abbrev pub value_named : List ℕ → List ℕ → Option Piece
@@ -126,21 +122,21 @@ value_named asked block = value_of (first_named asked (lines_of block))
 
 -- the value as the block's own bytes: so many, from a place on
 abbrev pub part_of : Option Piece → List ℕ → List ℕ
-part_of none block = []
-part_of (some p) block = take (length p.text) (drop p.place block)
+part_of None block = []
+part_of (Some p) block = take (length p.text) (drop p.place block)
 
 -- the place of that part in the block; the empty part, where there is no line, stands at the front
 abbrev pub part_place : Option Piece → ℕ
-part_place none = 0
-part_place (some p) = p.place
+part_place None = 0
+part_place (Some p) = p.place
 
 -- the pointer to a place of lent bytes, by the pointer to their start. A pointer is the memory that it points into, and an offset there
 abbrev pub pointer_at : ℕ × ℕ → ℕ → ℕ × ℕ
 pointer_at start place = (start.0, place + start.1)
 
 abbrev pub stop_of : Option HeaderLine → Option Stop
-stop_of none = none
-stop_of (some l) = some (record { piece = l.value; next = l.next })
+stop_of None = None
+stop_of (Some l) = Some (record { piece = l.value; next = l.next })
 
 -- ---- the operations
 
@@ -153,15 +149,15 @@ unfoldable pub lookup_cause : LimitSet → List ℕ → List ℕ → Option Refu
 lookup_cause L block asked = or_else (length_cause L asked) (block_cause L block)
 
 -- the first value of a name, or nothing
-unfoldable pub lookup : LimitSet → List ℕ → List ℕ → Outcome (Option Piece)
-lookup L block asked = refuse_by (lookup_cause L block asked) (given (value_named asked block))
+unfoldable pub lookup : LimitSet → List ℕ → List ℕ → Result (Option Piece) Refusal
+lookup L block asked = refuse_by (lookup_cause L block asked) (Ok (value_named asked block))
 
 -- the first value of a name in the lines that start at `from` or after it
-unfoldable pub lookup_from : LimitSet → List ℕ → List ℕ → ℕ → Outcome (Option Stop)
-lookup_from L block asked from = refuse_by (lookup_cause L block asked) (given (stop_of (first_named asked (lines_since from (lines_of block)))))
+unfoldable pub lookup_from : LimitSet → List ℕ → List ℕ → ℕ → Result (Option Stop) Refusal
+lookup_from L block asked from = refuse_by (lookup_cause L block asked) (Ok (stop_of (first_named asked (lines_since from (lines_of block)))))
 
 -- ---- the answers of readings without refusals
 
-abbrev pub found_of : Option HeaderLine → Found
-found_of none = found.Nothing
-found_of (some l) = found.At (span_of l.value) l.next
+abbrev pub found_of : Option HeaderLine → Option (Span × ℕ)
+found_of None = None
+found_of (Some l) = Some (span_of l.value, l.next)

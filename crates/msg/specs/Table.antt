@@ -1,15 +1,11 @@
 -- One reading of a block of document 01, "Block": the first line of each name that a request, a response or a creation looks up
 -- ("Identifier", "CSeq", "Contact", "Routes" and "Intervals, PRACK, RSeq" say of which). Each is the look-up of Block.antt.
-use Rattle.std.specs.Prelude.{ℕ, zero, suc, ◌+◌, Bool, cond, List, [], ◌∷◌, take, drop, eqb}
-use Rattle.std.proofs.Math.Option.{Option, none, some}
+use Rattle.text.specs.declared.Span.{Span}
+use Rattle.std.specs.Prelude.{ℕ, zero, suc, ◌+◌, Bool, cond, List, [], ◌∷◌, take, drop, eqb, Err, None, Ok, Option, Result, Some}
 use Rattle.limits.specs.declared.Refusal.{Refusal}
 use Rattle.text.specs.Text.{Piece}
 use Rattle.msg.specs.Block.{HeaderLine, named, first_named, found_of, line_of}
-use Rattle.msg.specs.declared.Found.{Found}
-use Rattle.msg.specs.declared.Found.TheVariants as found
 use Rattle.msg.specs.declared.table.HeaderTable.{HeaderTable}
-use Rattle.msg.specs.declared.table.Headers.{Headers}
-use Rattle.msg.specs.declared.table.Headers.TheVariants as headers
 
 -- ---- the names
 
@@ -46,7 +42,7 @@ slot_of name = slot_in names name
 -- ---- the table
 
 -- what was looked up for each name
-abbrev pub tabled : (ℕ → Found) → HeaderTable
+abbrev pub tabled : (ℕ → Option (Span × ℕ)) → HeaderTable
 tabled f = record {
   call_id = f 0;
   from = f 1;
@@ -63,27 +59,27 @@ abbrev pub table_of : List HeaderLine → HeaderTable
 table_of ls = tabled (λ k. found_of (first_named (name_at k) ls))
 
 -- what the reading of a block answers
-abbrev pub headers_of : Option Refusal → HeaderTable → Headers
-headers_of none t = headers.Of t
-headers_of (some cause) t = headers.Refused cause
+abbrev pub headers_of : Option Refusal → HeaderTable → Result HeaderTable Refusal
+headers_of None t = Ok t
+headers_of (Some cause) t = Err cause
 
 -- ---- its steps
 
 -- a line with a name of n bytes and a value of m, that stands first in s, as a look-up answers it
-abbrev pub here_of : ℕ → List ℕ → ℕ → ℕ → Found
-here_of at s n m = found_of (some (line_of at s n m))
+abbrev pub here_of : ℕ → List ℕ → ℕ → ℕ → Option (Span × ℕ)
+here_of at s n m = found_of (Some (line_of at s n m))
 
 -- what was found before, or else this
-abbrev pub or_found : Found → Found → Found
-or_found (found.At v next) here = found.At v next
-or_found found.Nothing here = here
+abbrev pub or_found : Option (Span × ℕ) → Option (Span × ℕ) → Option (Span × ℕ)
+or_found (Some (v, next)) here = Some (v, next)
+or_found None here = here
 
 -- a line of the name, where the test says that it is one
-abbrev pub kept : Bool → Found → Found → Found
+abbrev pub kept : Bool → Option (Span × ℕ) → Option (Span × ℕ) → Option (Span × ℕ)
 kept hit have here = cond hit (or_found have here) have
 
 -- the k-th look-up of a table
-abbrev pub looked_up : HeaderTable → ℕ → Found
+abbrev pub looked_up : HeaderTable → ℕ → Option (Span × ℕ)
 looked_up t zero = t.call_id
 looked_up t (suc zero) = t.from
 looked_up t (suc (suc zero)) = t.to
@@ -94,21 +90,21 @@ looked_up t (suc (suc (suc (suc (suc (suc zero)))))) = t.rseq
 looked_up t (suc (suc (suc (suc (suc (suc (suc k))))))) = t.record_route
 
 -- the table with one more line, of the k-th name
-abbrev pub noted : ℕ → Found → HeaderTable → HeaderTable
+abbrev pub noted : ℕ → Option (Span × ℕ) → HeaderTable → HeaderTable
 noted k here t = tabled (λ j. kept (eqb k j) (looked_up t j) here)
 
 -- ---- readings at a line that was looked up
 
 -- the bytes of its value, none where there is no line
-abbrev pub text_at : Found → List ℕ → List ℕ
-text_at found.Nothing block = []
-text_at (found.At v next) block = take v.length (drop v.start block)
+abbrev pub text_at : Option (Span × ℕ) → List ℕ → List ℕ
+text_at None block = []
+text_at (Some (v, next)) block = take v.length (drop v.start block)
 
-abbrev pub value_at : Found → List ℕ → Option Piece
-value_at found.Nothing block = none
-value_at (found.At v next) block = some (record { place = v.start; text = take v.length (drop v.start block) })
+abbrev pub value_at : Option (Span × ℕ) → List ℕ → Option Piece
+value_at None block = None
+value_at (Some (v, next)) block = Some (record { place = v.start; text = take v.length (drop v.start block) })
 
 -- where its value ends
-abbrev pub end_of : Found → ℕ
-end_of found.Nothing = 0
-end_of (found.At v next) = v.start + v.length
+abbrev pub end_of : Option (Span × ℕ) → ℕ
+end_of None = 0
+end_of (Some (v, next)) = v.start + v.length

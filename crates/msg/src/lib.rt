@@ -8,8 +8,8 @@ ghost use Rattle.text.specs.Text.{span};
 ghost use Rattle.text.specs.Answers.{lookup_of, next_of};
 ghost use Rattle.msg.specs.Block.{is_name, line_at, is_block, lines_from, lines_of, lines_since, named, first_named, found_of, part_of, part_place, pointer_at, value_named, block_cause, lookup, lookup_from};
 
-use limits::{Check, Refusal};
-use text::{Lookup, Next, Span};
+use limits::Refusal;
+use text::Span;
 
 mod status;
 mod table;
@@ -18,67 +18,49 @@ pub use status::{
     is_client_error, is_error, is_global_failure, is_informational, is_redirection,
     is_server_error, is_success,
 };
-pub use table::{HeaderTable, Headers, line_value, read_headers};
-
-// A line at the front of some bytes: how long its name and its value are.
-#[derive(Clone, Copy)]
-pub enum Line {
-    Of(usize, usize),
-    Malformed,
-}
-
-// Where the value of a line stands, and where the next line starts.
-#[derive(Clone, Copy)]
-pub enum Found {
-    At(Span, usize),
-    Nothing,
-}
+pub use table::{HeaderTable, line_value, read_headers};
 
 // The check of a header block: 1, 2.
-pub fn check_block(block: &[u8]) -> Check
+pub fn check_block(block: &[u8]) -> Result<(), Refusal>
     ensures { result ≡ check_of (block_cause rust_limits block.now) }
 {
     if text::too_long(block) {
-        return Check::Refused(Refusal::TextTooLong);
+        return Err(Refusal::TextTooLong);
     }
     if !is_block(block) {
-        return Check::Refused(Refusal::Malformed);
+        return Err(Refusal::Malformed);
     }
-    Check::Passed
+    Ok(())
 }
 
 // The value of the first line of a name, letter case ignored: 1, 2.
-pub fn header(block: &[u8], name: &[u8]) -> Lookup
+pub fn header(block: &[u8], name: &[u8]) -> Result<Option<Span>, Refusal>
     ensures { result ≡ lookup_of (lookup rust_limits block.now name.now) }
 {
     if text::too_long(name) {
-        return Lookup::Refused(Refusal::TextTooLong);
+        return Err(Refusal::TextTooLong);
     }
-    if let Check::Refused(x) = check_block(block) {
-        return Lookup::Refused(x);
-    }
-    let Found::At(v, _) = find(block, name) else {
-        return Lookup::Nothing;
+    check_block(block)?;
+    let Some((v, _)) = find(block, name) else {
+        return Ok(None);
     };
-    Lookup::At(v)
+    Ok(Some(v))
 }
 
 // The value of the first line of a name that starts at `from` or after it: 1, 2. All lines of a name are had by asking
 // from 0 on, and then from each answered next place on.
-pub fn next_header(block: &[u8], name: &[u8], from: usize) -> Next
+pub fn next_header(block: &[u8], name: &[u8], from: usize) -> Result<Option<(Span, usize)>, Refusal>
     ensures { result ≡ next_of (lookup_from rust_limits block.now name.now from) }
 {
     if text::too_long(name) {
-        return Next::Refused(Refusal::TextTooLong);
+        return Err(Refusal::TextTooLong);
     }
-    if let Check::Refused(x) = check_block(block) {
-        return Next::Refused(x);
-    }
+    check_block(block)?;
     let at = line_since(block, from);
-    let Found::At(v, next) = find_from(block, at, name) else {
-        return Next::Nothing;
+    let Some((v, next)) = find_from(block, at, name) else {
+        return Ok(None);
     };
-    Next::At(v, next)
+    Ok(Some((v, next)))
 }
 
 // The value of the first line of a name as a part of the block; the empty part at its front where there is no such line. The first promise is
@@ -87,7 +69,7 @@ pub fn header_value<'a>(block: &'a [u8], name: &[u8]) -> &'a [u8]
     ensures ref_ptr_value { result.ref_ptr ≡ pointer_at block.entry.ref_ptr (part_place (value_named name.now block.now)) }
     ensures result_value { result.now ≡ part_of (value_named name.now block.now) block.now }
 {
-    let Found::At(v, _) = find(block, name) else {
+    let Some((v, _)) = find(block, name) else {
         return &block[0..0];
     };
     let a = v.start;
@@ -96,36 +78,34 @@ pub fn header_value<'a>(block: &'a [u8], name: &[u8]) -> &'a [u8]
 }
 
 // The first line of a name, in bytes that need not be a block: up to the first line that is none.
-pub fn find(block: &[u8], name: &[u8]) -> Found
+pub fn find(block: &[u8], name: &[u8]) -> Option<(Span, usize)>
     ensures { result ≡ found_of (first_named name.now (lines_of block.now)) }
 {
     find_from(block, 0, name)
 }
 
 // The same from a place on where a line starts.
-pub fn find_from(block: &[u8], from: usize, name: &[u8]) -> Found
+pub fn find_from(block: &[u8], from: usize, name: &[u8]) -> Option<(Span, usize)>
     requires { from ≤ length block.now }
     ensures { result ≡ found_of (first_named name.now (lines_from 0 from (drop from block.now))) }
 {
     let mut at = from;
     while at < block.len() {
         let rest = &block[at..];
-        let Line::Of(n, m) = read_line(rest) else {
-            return Found::Nothing;
-        };
+        let (n, m) = read_line(rest)?;
         if is_named(&rest[..n], name) {
             let v = text::trim_span(&rest[n + 1..n + 1 + m]);
-            return Found::At(
+            return Some((
                 Span {
                     start: at + (n + 1) + v.start,
                     length: v.length,
                 },
                 at + (n + m + 3),
-            );
+            ));
         }
         at = at + (n + m + 3);
     }
-    Found::Nothing
+    None
 }
 
 // Whether a line of this name is one that is asked for: the full name, letter case ignored.
@@ -145,7 +125,7 @@ fn line_since(block: &[u8], from: usize) -> usize
         if at == block.len() {
             return at;
         }
-        let Line::Of(n, m) = read_line(&block[at..]) else {
+        let Some((n, m)) = read_line(&block[at..]) else {
             return at;
         };
         at = at + (n + m + 3);
@@ -159,7 +139,7 @@ fn is_block(block: &[u8]) -> bool
 {
     let mut at = 0;
     while at < block.len() {
-        let Line::Of(n, m) = read_line(&block[at..]) else {
+        let Some((n, m)) = read_line(&block[at..]) else {
             return false;
         };
         at = at + (n + m + 3);
@@ -168,31 +148,31 @@ fn is_block(block: &[u8]) -> bool
 }
 
 // The line at the front.
-fn read_line(s: &[u8]) -> Line
+fn read_line(s: &[u8]) -> Option<(usize, usize)>
     ensures { result ≡ line_at s.now }
 {
     let n = name_length(s);
     if n == 0 {
-        return Line::Malformed;
+        return None;
     }
     if n == s.len() {
-        return Line::Malformed;
+        return None;
     }
     if s[n] != 58 {
-        return Line::Malformed;
+        return None;
     }
     let v = &s[n + 1..];
     let m = text::value_length(v);
     if v.len() - m < 2 {
-        return Line::Malformed;
+        return None;
     }
     if v[m] != 13 {
-        return Line::Malformed;
+        return None;
     }
     if v[m + 1] != 10 {
-        return Line::Malformed;
+        return None;
     }
-    Line::Of(n, m)
+    Some((n, m))
 }
 
 // How many bytes of a name stand first.

@@ -4,43 +4,36 @@ ghost use Rattle.limits.specs.Limits.{rust_limits};
 ghost use Rattle.msg.specs.Block.{lines_of, block_cause, named};
 ghost use Rattle.msg.specs.Table.{slot_of, kept, noted, table_of, headers_of, here_of, text_at, end_of};
 
-use super::{Found, Line, is_named, read_line};
+use super::{is_named, read_line};
 use limits::Refusal;
 use text::Span;
 
 // The first line of each name.
 #[derive(Clone, Copy)]
 pub struct HeaderTable {
-    pub call_id: Found,
-    pub from: Found,
-    pub to: Found,
-    pub cseq: Found,
-    pub contact: Found,
-    pub session_expires: Found,
-    pub rseq: Found,
-    pub record_route: Found,
-}
-
-// What the reading of a block answers.
-#[derive(Clone, Copy)]
-pub enum Headers {
-    Of(HeaderTable),
-    Refused(Refusal),
+    pub call_id: Option<(Span, usize)>,
+    pub from: Option<(Span, usize)>,
+    pub to: Option<(Span, usize)>,
+    pub cseq: Option<(Span, usize)>,
+    pub contact: Option<(Span, usize)>,
+    pub session_expires: Option<(Span, usize)>,
+    pub rseq: Option<(Span, usize)>,
+    pub record_route: Option<(Span, usize)>,
 }
 
 // The check of a header block, 1, 2, and the first line of each name of the table, in one pass.
-pub fn read_headers(block: &[u8]) -> Headers
+pub fn read_headers(block: &[u8]) -> Result<HeaderTable, Refusal>
     ensures { result ≡ headers_of (block_cause rust_limits block.now) (table_of (lines_of block.now)) }
 {
     if text::too_long(block) {
-        return Headers::Refused(Refusal::TextTooLong);
+        return Err(Refusal::TextTooLong);
     }
     let mut t = empty_table();
     let mut at = 0;
     while at < block.len() {
         let rest = &block[at..];
-        let Line::Of(n, m) = read_line(rest) else {
-            return Headers::Refused(Refusal::Malformed);
+        let Some((n, m)) = read_line(rest) else {
+            return Err(Refusal::Malformed);
         };
         let k = slot_of(&rest[..n]);
         if k < 8 {
@@ -48,15 +41,15 @@ pub fn read_headers(block: &[u8]) -> Headers
         }
         at = at + (n + m + 3);
     }
-    Headers::Of(t)
+    Ok(t)
 }
 
 // The value of a line that was looked up, as the block's own bytes, none where there is no line.
-pub fn line_value<'a>(block: &'a [u8], line: Found) -> &'a [u8]
+pub fn line_value<'a>(block: &'a [u8], line: Option<(Span, usize)>) -> &'a [u8]
     requires { end_of line ≤ length block.now }
     ensures { result.now ≡ text_at line block.now }
 {
-    let Found::At(v, _) = line else {
+    let Some((v, _)) = line else {
         return &block[..0];
     };
     let a = v.start;
@@ -68,34 +61,34 @@ fn empty_table() -> HeaderTable
     ensures { result ≡ table_of [] }
 {
     HeaderTable {
-        call_id: Found::Nothing,
-        from: Found::Nothing,
-        to: Found::Nothing,
-        cseq: Found::Nothing,
-        contact: Found::Nothing,
-        session_expires: Found::Nothing,
-        rseq: Found::Nothing,
-        record_route: Found::Nothing,
+        call_id: None,
+        from: None,
+        to: None,
+        cseq: None,
+        contact: None,
+        session_expires: None,
+        rseq: None,
+        record_route: None,
     }
 }
 
 // The line with a name of n bytes and a value of m that stands first, as a look-up answers it.
-fn line_found(rest: &[u8], at: usize, n: usize, m: usize) -> Found
+fn line_found(rest: &[u8], at: usize, n: usize, m: usize) -> Option<(Span, usize)>
     requires { (n + m + 3 ≤ length rest.now) × (at + length rest.now ≤ 8192) }
     ensures { result ≡ here_of at rest.now n m }
 {
     let v = text::trim_span(&rest[n + 1..n + 1 + m]);
-    Found::At(
+    Some((
         Span {
             start: at + (n + 1) + v.start,
             length: v.length,
         },
         at + (n + m + 3),
-    )
+    ))
 }
 
 // The table with a line of the k-th name: the first line of a name stays.
-fn note(t: HeaderTable, k: usize, here: Found) -> HeaderTable
+fn note(t: HeaderTable, k: usize, here: Option<(Span, usize)>) -> HeaderTable
     ensures { result ≡ noted k here t }
 {
     let call_id = t.call_id;
@@ -119,14 +112,19 @@ fn note(t: HeaderTable, k: usize, here: Found) -> HeaderTable
 }
 
 // The look-up of the j-th name with a line of the k-th: another name's, or a line that was found before, stays.
-fn keep(k: usize, j: usize, have: Found, here: Found) -> Found
+fn keep(
+    k: usize,
+    j: usize,
+    have: Option<(Span, usize)>,
+    here: Option<(Span, usize)>,
+) -> Option<(Span, usize)>
     ensures { result ≡ kept (eqb k j) have here }
 {
     if k != j {
         return have;
     }
-    if let Found::At(v, next) = have {
-        return Found::At(v, next);
+    if let Some((v, next)) = have {
+        return Some((v, next));
     }
     here
 }

@@ -4,8 +4,8 @@ use native.Mathlib.Omega.{arith}
 use mathlib.Core.Path.{◌≡◌, refl, sym, ap, subst, ◌∙◌}
 use mathlib.Core.Bool.{Bool, true, false}
 use mathlib.Core.List.{List, [], ◌∷◌, ◌++◌}
-use mathlib.Core.Option.{Option, none, some}
 use lib.ListN.{length, length-append}
+use Rattle.std.specs.Prelude.{None, Option, Some}
 use Rattle.codec.specs.Codec.{Reading, Codec, write_all}
 use Rattle.codec.proofs.CodecLaws.{Bytes, bytes_after, Exact, GoodAll}
 use Rattle.ordered_store.specs.Entries.{Key, entry_before, entries_on, unless_ended, encode_entries, entries_in, ascending, only_ascending, decode_entries}
@@ -20,7 +20,7 @@ module _ {A : Type 0} (form : Codec A) (key_of : A → Key) (Good : A → Type 0
 
   module _ (filled : (a : A) → 0 < length (form.write a)) where
     -- the first entry, then the others
-    first_read : (fuel : ℕ) (a : A) (es : List A) → Good a → entries_in form fuel (encode_entries form es) ≡ some es → entries_in form (suc fuel) (encode_entries form (a ∷ es)) ≡ some (a ∷ es)
+    first_read : (fuel : ℕ) (a : A) (es : List A) → Good a → entries_in form fuel (encode_entries form es) ≡ Some es → entries_in form (suc fuel) (encode_entries form (a ∷ es)) ≡ Some (a ∷ es)
     unfolding entries_in write_all
     first_read fuel a es g e =
         not_ended (form.write a ++ write_all form es) (entries_on (form.read (form.write a ++ write_all form es)) (λ t. entries_in form fuel t))
@@ -28,7 +28,7 @@ module _ {A : Type 0} (form : Codec A) (key_of : A → Key) (Good : A → Type 0
         ∙ ap (λ o. entries_on o (λ t. entries_in form fuel t)) (x.round a g (write_all form es))
         ∙ ap (entry_before a) e
 
-    entries_round : (fuel : ℕ) (es : List A) → GoodAll Good es → length (encode_entries form es) ≤ fuel → entries_in form fuel (encode_entries form es) ≡ some es
+    entries_round : (fuel : ℕ) (es : List A) → GoodAll Good es → length (encode_entries form es) ≤ fuel → entries_in form fuel (encode_entries form es) ≡ Some es
     unfolding entries_in write_all
     entries_round zero [] g h = refl
     entries_round (suc fuel) [] g h = refl
@@ -36,7 +36,7 @@ module _ {A : Type 0} (form : Codec A) (key_of : A → Key) (Good : A → Type 0
     entries_round (suc fuel) (a ∷ es) g h =
         first_read fuel a es g.0 (entries_round fuel es g.1 (omega (arith, filled a, length-append (form.write a) (write_all form es))))
 
-    pub decode_encode : (es : List A) → GoodAll Good es → ascending key_of es ≡ true → decode_entries form key_of (encode_entries form es) ≡ some es
+    pub decode_encode : (es : List A) → GoodAll Good es → ascending key_of es ≡ true → decode_entries form key_of (encode_entries form es) ≡ Some es
     unfolding decode_entries
     decode_encode es g d = rw (entries_round (length (encode_entries form es)) es g (omega arith), d)
 
@@ -47,22 +47,22 @@ module _ {A : Type 0} (form : Codec A) (key_of : A → Key) (Good : A → Type 0
   Were s es = (s ≡ encode_entries form es) × GoodAll Good es
 
   by_more : (s : List ℕ) (r : Reading A) (o : Option (List A)) (es : List A) → (s ≡ form.write r.value ++ r.rest) × Good r.value
-      → ((ts : List A) → o ≡ some ts → Were r.rest ts) → entry_before r.value o ≡ some es → Were s es
+      → ((ts : List A) → o ≡ Some ts → Were r.rest ts) → entry_before r.value o ≡ Some es → Were s es
   unfolding write_all
-  by_more s r none es k more q = absurd (let z : ◌≡◌ {A = ℕ} 0 1 = cc in omega arith)
-  by_more s r (some ts) es k more q =
+  by_more s r None es k more q = absurd (let z : ◌≡◌ {A = ℕ} 0 1 = cc in omega arith)
+  by_more s r (Some ts) es k more q =
       let m : r.value ∷ ts ≡ es = cc in
       let l = more ts refl in
       subst (Were s) m (k.0 ∙ ap (λ (t : List ℕ). form.write r.value ++ t) l.0, (k.1, l.1))
 
   by_read : (s : List ℕ) (fuel : ℕ) (o : Option (Reading A)) (es : List A) → Bytes s → form.read s ≡ o
-      → ((t : List ℕ) (ts : List A) → Bytes t → entries_in form fuel t ≡ some ts → Were t ts) → entries_on o (λ t. entries_in form fuel t) ≡ some es → Were s es
-  by_read s fuel none es h e more q = absurd (let z : ◌≡◌ {A = ℕ} 0 1 = cc in omega arith)
-  by_read s fuel (some r) es h e more q =
+      → ((t : List ℕ) (ts : List A) → Bytes t → entries_in form fuel t ≡ Some ts → Were t ts) → entries_on o (λ t. entries_in form fuel t) ≡ Some es → Were s es
+  by_read s fuel None es h e more q = absurd (let z : ◌≡◌ {A = ℕ} 0 1 = cc in omega arith)
+  by_read s fuel (Some r) es h e more q =
       let k = x.back s r h e in
       by_more s r (entries_in form fuel r.rest) es k (λ ts. more r.rest ts (bytes_after (form.write r.value) r.rest (subst Bytes k.0 h))) q
 
-  entries_back : (fuel : ℕ) (s : List ℕ) (es : List A) → Bytes s → entries_in form fuel s ≡ some es → Were s es
+  entries_back : (fuel : ℕ) (s : List ℕ) (es : List A) → Bytes s → entries_in form fuel s ≡ Some es → Were s es
   unfolding entries_in write_all
   entries_back zero [] es h e = let q : [] ≡ es = cc in subst (Were []) q (refl, tt)
   entries_back zero (b ∷ s) es h e = absurd (let z : ◌≡◌ {A = ℕ} 0 1 = cc in omega arith)
@@ -70,21 +70,21 @@ module _ {A : Type 0} (form : Codec A) (key_of : A → Key) (Good : A → Type 0
   entries_back (suc fuel) (b ∷ s) es h e = by_read (b ∷ s) fuel (form.read (b ∷ s)) es h refl (entries_back fuel) e
 
   -- what a store's bytes are read as are good entries in ascending order, and the bytes were theirs
-  pub decoded : (s : List ℕ) (es : List A) → Bytes s → decode_entries form key_of s ≡ some es → (s ≡ encode_entries form es) × GoodAll Good es × (ascending key_of es ≡ true)
+  pub decoded : (s : List ℕ) (es : List A) → Bytes s → decode_entries form key_of s ≡ Some es → (s ≡ encode_entries form es) × GoodAll Good es × (ascending key_of es ≡ true)
   unfolding decode_entries
   decoded s es h e = by (entries_in form (length s) s) refl e
     where
-      by : (o : Option (List A)) → entries_in form (length s) s ≡ o → only_ascending key_of o ≡ some es → (s ≡ encode_entries form es) × GoodAll Good es × (ascending key_of es ≡ true)
-      by none q e = absurd (let z : ◌≡◌ {A = ℕ} 0 1 = cc in omega arith)
-      by (some ts) q e = is (ascending key_of ts) refl
+      by : (o : Option (List A)) → entries_in form (length s) s ≡ o → only_ascending key_of o ≡ Some es → (s ≡ encode_entries form es) × GoodAll Good es × (ascending key_of es ≡ true)
+      by None q e = absurd (let z : ◌≡◌ {A = ℕ} 0 1 = cc in omega arith)
+      by (Some ts) q e = is (ascending key_of ts) refl
         where
           is : (t : Bool) → ascending key_of ts ≡ t → (s ≡ encode_entries form es) × GoodAll Good es × (ascending key_of es ≡ true)
           is true t =
-              let u : some ts ≡ some es = (rw t at e) in
+              let u : Some ts ≡ Some es = (rw t at e) in
               let v : ts ≡ es = cc in
               let k = entries_back (length s) s ts h q in
               subst (λ (l : List A). (s ≡ encode_entries form l) × GoodAll Good l × (ascending key_of l ≡ true)) v (k.0, k.1, t)
-          is false t = absurd (let u : none ≡ some es = (rw t at e) in let z : ◌≡◌ {A = ℕ} 0 1 = cc in omega arith)
+          is false t = absurd (let u : None ≡ Some es = (rw t at e) in let z : ◌≡◌ {A = ℕ} 0 1 = cc in omega arith)
 
 -- ---- entries one at a time
 
@@ -98,7 +98,7 @@ module _ {A : Type 0} (form : Codec A) where
       not_ended t (entries_on (form.read t) (λ u. entries_in form fuel u)) h ∙ ap (λ n. entries_on (form.read t) (λ u. entries_in form n u)) (sym k)
 
   -- where there are none: no entries
-  pub entries_ended : (fuel : ℕ) → entries_in form fuel [] ≡ some []
+  pub entries_ended : (fuel : ℕ) → entries_in form fuel [] ≡ Some []
   unfolding entries_in
   entries_ended zero = refl
   entries_ended (suc fuel) = refl

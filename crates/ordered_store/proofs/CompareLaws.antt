@@ -1,46 +1,36 @@
--- One step of a comparison of two texts at a place that both reach. Assumes nothing.
-use Prim.Native.Nat.{ℕ, ◌+◌, ◌≤◌, ◌<◌}
+-- The order of two texts is that of `cmp` on slices of bytes. Assumes nothing.
+use Prim.Native.Nat.{ℕ}
+use mathlib.Core.Path.{◌≡◌, refl, ap₂, ◌∙◌}
+use mathlib.Core.Bool.{Bool, true, false, cond}
+use mathlib.Core.List.{List, [], ◌∷◌}
 use native.Mathlib.Omega.{arith}
-use native.Mathlib.Numerals.{add-one}
-use mathlib.Core.Path.{◌≡◌}
-use mathlib.Core.List.{List}
-use lib.ListN.{length, drop, get_or, drop_of_length-le}
-use lib.Seq.{drop-cons}
-use borrow.Author.Tests.{lt-ltb, le-ltb}
-use Rattle.ordered_store.specs.Order.{order}
-use Rattle.ordered_store.specs.declared.Order.{Order}
-use Rattle.ordered_store.specs.declared.Order.TheVariants.{Before, Same, After}
+use lib.Dec.{ltb, eqb}
+use borrow.Author.Tests.{eqb-true, eqb-false, ltb-true, ltb-false}
+use Rattle.std.specs.Ordering.{nat_cmp, ordering_then}
+use Rattle.std.specs.Cmp.Lexicographic.{slice_cmp}
+use Rattle.std.specs.declared.cmp.Ordering.{Ordering}
+use Rattle.std.specs.declared.cmp.Ordering.TheVariants.{Less, Equal, Greater}
+use Rattle.ordered_store.specs.Order.{order, byte_order, or_next}
 
-module _ (a b : List ℕ) (i : ℕ) where
-  abbrev rests : Order
-  rests = order (drop i a) (drop i b)
+then_next : (o p : Ordering) → ordering_then o p ≡ or_next o p
+then_next Less p = refl
+then_next Equal p = refl
+then_next Greater p = refl
 
-  -- the second ends first
-  pub ended_after : i < length a → length b ≤ i → rests ≡ After
-  unfolding order
-  ended_after h k = rw (drop-cons a i 0 h, drop_of_length-le b k)
+-- two bytes are the same exactly where neither is below the other
+byte_cmp : (x y : ℕ) → nat_cmp x y ≡ byte_order x y
+byte_cmp x y = by (ltb x y) refl (eqb x y) refl (ltb y x) refl
+  where
+    by : (a : Bool) → ltb x y ≡ a → (b : Bool) → eqb x y ≡ b → (c : Bool) → ltb y x ≡ c → cond a Less (cond b Equal Greater) ≡ cond a Less (cond c Greater Equal)
+    by true p b q c r = refl
+    by false p true q true r = absurd (omega (arith, eqb-true x y q, ltb-true y x r))
+    by false p true q false r = refl
+    by false p false q true r = refl
+    by false p false q false r = absurd (eqb-false x y q (omega (arith, ltb-false x y p, ltb-false y x r)))
 
-  -- the first ends first
-  pub ended_before : length a ≤ i → i < length b → rests ≡ Before
-  unfolding order
-  ended_before h k = rw (drop_of_length-le a h, drop-cons b i 0 k)
-
-  -- both end
-  pub ended_same : length a ≤ i → length b ≤ i → rests ≡ Same
-  unfolding order
-  ended_same h k = rw (drop_of_length-le a h, drop_of_length-le b k)
-
-  module _ (h : i < length a) (k : i < length b) where
-    -- the first byte is the smaller, or the larger
-    pub less : get_or a i 0 < get_or b i 0 → rests ≡ Before
-    unfolding order
-    less l = rw (drop-cons a i 0 h, drop-cons b i 0 k, lt-ltb (get_or a i 0) (get_or b i 0) l)
-
-    pub more : get_or b i 0 < get_or a i 0 → rests ≡ After
-    unfolding order
-    more l = rw (drop-cons a i 0 h, drop-cons b i 0 k, le-ltb (get_or a i 0) (get_or b i 0) (omega arith), lt-ltb (get_or b i 0) (get_or a i 0) l)
-
-    -- equal bytes: the rest decides
-    pub go_on : get_or b i 0 ≤ get_or a i 0 → get_or a i 0 ≤ get_or b i 0 → rests ≡ order (drop (i + 1) a) (drop (i + 1) b)
-    unfolding order
-    go_on l m = rw (drop-cons a i 0 h, drop-cons b i 0 k, le-ltb (get_or a i 0) (get_or b i 0) l, le-ltb (get_or b i 0) (get_or a i 0) m, add-one i)
+pub text_cmp : (s t : List ℕ) → slice_cmp nat_cmp s t ≡ order s t
+unfolding order
+text_cmp [] [] = refl
+text_cmp [] (y ∷ t) = refl
+text_cmp (x ∷ s) [] = refl
+text_cmp (x ∷ s) (y ∷ t) = then_next (nat_cmp x y) (slice_cmp nat_cmp s t) ∙ ap₂ or_next (byte_cmp x y) (text_cmp s t)

@@ -4,53 +4,51 @@ use native.Mathlib.Omega.{arith}
 use mathlib.Core.Path.{◌≡◌, refl, sym, ap, ap₂, ◌∙◌}
 use mathlib.Core.Bool.{Bool, true, false, cond, ◌&&◌}
 use mathlib.Core.List.{List, [], ◌∷◌}
-use mathlib.Core.Option.{Option, none, some}
 use lib.ListN.{length, drop, length-drop, drop_of_length-le}
+use Rattle.std.specs.Prelude.{None, Option, Some}
 use Rattle.ordered_store.specs.Entries.{entry_before, entries_on, entries_in, ascending_from, only_ascending, decode_entries}
 use Rattle.ordered_store.specs.Order.{key_order, is_before}
 use Rattle.ordered_store.specs.Places.{count_of}
-use Rattle.ordered_store.specs.declared.Count.{Count}
-use Rattle.ordered_store.specs.declared.Count.TheVariants as counts
 use Rattle.ordered_store.proofs.BytesLaws.{entries_step, entries_ended}
 use Rattle.ordered_store.proofs.PlaceLaws.{Layout, Here, Got}
 
 module _ {A : Type 0} (F : Layout A) where
   -- what is asked, once n entries are counted and the last of them is v: whether the rest are entries in order after it
-  abbrev onward : A → ℕ → Option (List A) → Count
-  onward v n none = counts.Broken
-  onward v n (some es) = cond (ascending_from F.key_of v es) (counts.Entries (n + length es)) counts.Broken
+  abbrev onward : A → ℕ → Option (List A) → Option ℕ
+  onward v n None = None
+  onward v n (Some es) = cond (ascending_from F.key_of v es) (Some (n + length es)) None
 
   -- one entry counted
   from_first : (v : A) (o : Option (List A)) → count_of (only_ascending F.key_of (entry_before v o)) ≡ onward v 1 o
-  from_first v none = refl
-  from_first v (some es) = by (ascending_from F.key_of v es)
+  from_first v None = refl
+  from_first v (Some es) = by (ascending_from F.key_of v es)
     where
-      by : (t : Bool) → count_of (cond t (some (v ∷ es)) none) ≡ cond t (counts.Entries (1 + length es)) counts.Broken
-      by true = ap counts.Entries (omega arith)
+      by : (t : Bool) → count_of (cond t (Some (v ∷ es)) None) ≡ cond t (Some (1 + length es)) None
+      by true = ap Some (omega arith)
       by false = refl
 
   -- an entry in order, and one that isn't
   onward_next : (v w : A) (n : ℕ) (o : Option (List A)) → is_before (key_order (F.key_of v) (F.key_of w)) ≡ true → onward v n (entry_before w o) ≡ onward w (n + 1) o
   unfolding ascending_from
-  onward_next v w n none h = refl
-  onward_next v w n (some es) h =
-      ap (λ t. cond (t && ascending_from F.key_of w es) (counts.Entries (n + suc (length es))) counts.Broken) h
-      ∙ ap (λ k. cond (ascending_from F.key_of w es) (counts.Entries k) counts.Broken) (omega arith)
+  onward_next v w n None h = refl
+  onward_next v w n (Some es) h =
+      ap (λ t. cond (t && ascending_from F.key_of w es) (Some (n + suc (length es))) None) h
+      ∙ ap (λ k. cond (ascending_from F.key_of w es) (Some k) None) (omega arith)
 
-  onward_stop : (v w : A) (n : ℕ) (o : Option (List A)) → is_before (key_order (F.key_of v) (F.key_of w)) ≡ false → onward v n (entry_before w o) ≡ counts.Broken
+  onward_stop : (v w : A) (n : ℕ) (o : Option (List A)) → is_before (key_order (F.key_of v) (F.key_of w)) ≡ false → onward v n (entry_before w o) ≡ None
   unfolding ascending_from
-  onward_stop v w n none h = refl
-  onward_stop v w n (some es) h = ap (λ t. cond (t && ascending_from F.key_of w es) (counts.Entries (n + suc (length es))) counts.Broken) h
+  onward_stop v w n None h = refl
+  onward_stop v w n (Some es) h = ap (λ t. cond (t && ascending_from F.key_of w es) (Some (n + suc (length es))) None) h
 
   -- no bytes: no entries
-  pub nothing : (s : List ℕ) → length s ≡ 0 → counts.Entries 0 ≡ count_of (decode_entries F.form F.key_of s)
+  pub nothing : (s : List ℕ) → length s ≡ 0 → Some 0 ≡ count_of (decode_entries F.form F.key_of s)
   unfolding decode_entries entries_in
   nothing [] h = refl
   nothing (b ∷ s) h = absurd (omega arith)
 
   module _ (s : List ℕ) where
     -- what is asked of the store
-    abbrev asked : Count
+    abbrev asked : Option ℕ
     asked = count_of (decode_entries F.form F.key_of s)
 
     -- the state of the loop: the last entry read, at a place before
@@ -70,7 +68,7 @@ module _ {A : Type 0} (F : Layout A) where
       unfolding decode_entries
       opened = ap (only_ascending F.key_of) (entries_step F.form (length s) s h (omega arith))
 
-      pub first_broken : F.answer_of 0 (F.form.read (drop 0 s)) ≡ F.broken → counts.Broken ≡ asked
+      pub first_broken : F.answer_of 0 (F.form.read (drop 0 s)) ≡ F.broken → None ≡ asked
       first_broken e =
           sym (ap count_of opened ∙ ap (λ o. count_of (only_ascending F.key_of (entries_on o (λ u. entries_in F.form (length s - 1) u)))) (F.broken_says 0 (F.form.read (drop 0 s)) e))
 
@@ -90,10 +88,10 @@ module _ {A : Type 0} (F : Layout A) where
 
     module _ (last : F.Places) (n : ℕ) (g : Counting last n) where
       -- the bytes are passed: all are counted
-      pub all_counted : length s ≤ F.end_of last → counts.Entries n ≡ asked
+      pub all_counted : length s ≤ F.end_of last → Some n ≡ asked
       unfolding ascending_from
       all_counted h =
-          sym (g.same ∙ ap (onward g.value n) (ap (entries_in F.form g.fuel) (drop_of_length-le s h) ∙ entries_ended F.form g.fuel) ∙ ap counts.Entries (omega arith))
+          sym (g.same ∙ ap (onward g.value n) (ap (entries_in F.form g.fuel) (drop_of_length-le s h) ∙ entries_ended F.form g.fuel) ∙ ap Some (omega arith))
 
       module _ (h : F.end_of last < length s) where
         next_is : asked ≡ onward g.value n (entries_on (F.form.read (drop (F.end_of last) s)) (λ u. entries_in F.form (g.fuel - 1) u))
@@ -101,7 +99,7 @@ module _ {A : Type 0} (F : Layout A) where
             g.same
             ∙ ap (onward g.value n) (entries_step F.form g.fuel (drop (F.end_of last) s) (omega (arith, length-drop (F.end_of last) s)) (omega (arith, length-drop (F.end_of last) s, g.enough)))
 
-        pub next_broken : F.answer_of (F.end_of last) (F.form.read (drop (F.end_of last) s)) ≡ F.broken → counts.Broken ≡ asked
+        pub next_broken : F.answer_of (F.end_of last) (F.form.read (drop (F.end_of last) s)) ≡ F.broken → None ≡ asked
         next_broken e =
             sym (next_is ∙ ap (λ o. onward g.value n (entries_on o (λ u. entries_in F.form (g.fuel - 1) u))) (F.broken_says (F.end_of last) (F.form.read (drop (F.end_of last) s)) e))
 
@@ -114,7 +112,7 @@ module _ {A : Type 0} (F : Layout A) where
             compared : is_before (key_order (F.key_of g.value) (F.key_of q.value)) ≡ r
             compared = ap₂ (λ k l. is_before (key_order k l)) (sym g.is.key) (sym q.is.key) ∙ sym e
 
-            pub out_of_order : r ≡ false → counts.Broken ≡ asked
+            pub out_of_order : r ≡ false → None ≡ asked
             out_of_order f = sym (read_is ∙ onward_stop g.value q.value n (entries_in F.form (g.fuel - 1) (drop (F.end_of p) s)) (compared ∙ f))
 
             pub counted : r ≡ true → Counting p (n + 1)

@@ -4,17 +4,17 @@ use native.Mathlib.Omega.{arith}
 use mathlib.Core.Path.{◌≡◌, refl, sym, ap, ap₂, subst, ◌∙◌}
 use mathlib.Core.Bool.{Bool, true, false, cond, ◌&&◌}
 use mathlib.Core.List.{List, [], ◌∷◌, ◌++◌, append_assoc}
-use mathlib.Core.Option.{none, some}
 use lib.ListN.{length, length-append}
 use lib.Seq.{take-append_seam, drop-append_seam, drop-append-add}
+use Rattle.std.specs.Prelude.{None, Some}
 use Rattle.edit.specs.Edit.{spliced}
 use Rattle.codec.specs.Codec.{Codec, write_all}
 use Rattle.codec.proofs.CodecLaws.{GoodAll}
 use Rattle.ordered_store.specs.Entries.{Key, set_by, encode_entries, ascending_from, ascending, entry_of, set_entry, without_entry}
 use Rattle.ordered_store.specs.Order.{key_order, is_before, is_same}
 use Rattle.ordered_store.specs.Slot.{Slot, held, free, slot_by, slot_in}
-use Rattle.ordered_store.specs.declared.Order.{Order}
-use Rattle.ordered_store.specs.declared.Order.TheVariants.{Before, Same, After}
+use Rattle.std.specs.declared.cmp.Ordering.{Ordering}
+use Rattle.std.specs.declared.cmp.Ordering.TheVariants.{Less, Equal, Greater}
 use Rattle.ordered_store.proofs.OrderLaws.{flip, key_itself, key_equal, key_mirror, key_transitive}
 
 -- ---- two tests
@@ -31,41 +31,41 @@ second_of : (a b : Bool) → (a && b) ≡ true → b ≡ true
 second_of true b e = e
 second_of false b e = absurd (let z : ◌≡◌ {A = ℕ} 0 1 = cc in omega arith)
 
-is_before_lem : (o : Order) → is_before o ≡ true → o ≡ Before
-is_before_lem Before e = refl
-is_before_lem Same e = absurd (let z : ◌≡◌ {A = ℕ} 0 1 = cc in omega arith)
-is_before_lem After e = absurd (let z : ◌≡◌ {A = ℕ} 0 1 = cc in omega arith)
+is_before_lem : (o : Ordering) → is_before o ≡ true → o ≡ Less
+is_before_lem Less e = refl
+is_before_lem Equal e = absurd (let z : ◌≡◌ {A = ℕ} 0 1 = cc in omega arith)
+is_before_lem Greater e = absurd (let z : ◌≡◌ {A = ℕ} 0 1 = cc in omega arith)
 
 -- the order taken the other way round
-pub turned : (k l : Key) (o : Order) → key_order k l ≡ o → key_order l k ≡ flip o
+pub turned : (k l : Key) (o : Ordering) → key_order k l ≡ o → key_order l k ≡ flip o
 turned k l o e = key_mirror k l ∙ ap flip e
 
 module _ {A : Type 0} (key_of : A → Key) where
   -- ---- one entry in front
 
   module _ (a e : A) (es : List A) where
-    pub set_past : key_order (key_of e) (key_of a) ≡ Before → set_entry key_of a (e ∷ es) ≡ e ∷ set_entry key_of a es
+    pub set_past : key_order (key_of e) (key_of a) ≡ Less → set_entry key_of a (e ∷ es) ≡ e ∷ set_entry key_of a es
     unfolding set_entry
     set_past h = ap (λ o. set_by o a e es (set_entry key_of a es)) h
 
-    pub set_here : key_order (key_of e) (key_of a) ≡ Same → set_entry key_of a (e ∷ es) ≡ a ∷ es
+    pub set_here : key_order (key_of e) (key_of a) ≡ Equal → set_entry key_of a (e ∷ es) ≡ a ∷ es
     unfolding set_entry
     set_here h = ap (λ o. set_by o a e es (set_entry key_of a es)) h
 
-    pub set_ahead : key_order (key_of e) (key_of a) ≡ After → set_entry key_of a (e ∷ es) ≡ a ∷ e ∷ es
+    pub set_ahead : key_order (key_of e) (key_of a) ≡ Greater → set_entry key_of a (e ∷ es) ≡ a ∷ e ∷ es
     unfolding set_entry
     set_ahead h = ap (λ o. set_by o a e es (set_entry key_of a es)) h
 
   module _ (k : Key) (e : A) (es : List A) where
-    pub of_here : key_order (key_of e) k ≡ Same → entry_of key_of k (e ∷ es) ≡ some e
+    pub of_here : key_order (key_of e) k ≡ Equal → entry_of key_of k (e ∷ es) ≡ Some e
     unfolding entry_of
-    of_here h = ap (λ o. cond (is_same o) (some e) (entry_of key_of k es)) h
+    of_here h = ap (λ o. cond (is_same o) (Some e) (entry_of key_of k es)) h
 
     pub of_past : is_same (key_order (key_of e) k) ≡ false → entry_of key_of k (e ∷ es) ≡ entry_of key_of k es
     unfolding entry_of
-    of_past h = ap (λ t. cond t (some e) (entry_of key_of k es)) h
+    of_past h = ap (λ t. cond t (Some e) (entry_of key_of k es)) h
 
-    pub without_here : key_order (key_of e) k ≡ Same → without_entry key_of k (e ∷ es) ≡ es
+    pub without_here : key_order (key_of e) k ≡ Equal → without_entry key_of k (e ∷ es) ≡ es
     unfolding without_entry
     without_here h = ap (λ o. cond (is_same o) es (e ∷ without_entry key_of k es)) h
 
@@ -76,11 +76,11 @@ module _ {A : Type 0} (key_of : A → Key) where
   -- ---- ascending
 
   module _ (e f : A) (es : List A) where
-    pub ascends : key_order (key_of e) (key_of f) ≡ Before → ascending_from key_of f es ≡ true → ascending_from key_of e (f ∷ es) ≡ true
+    pub ascends : key_order (key_of e) (key_of f) ≡ Less → ascending_from key_of f es ≡ true → ascending_from key_of e (f ∷ es) ≡ true
     unfolding ascending_from
     ascends h k = both (is_before (key_order (key_of e) (key_of f))) (ascending_from key_of f es) (ap is_before h) k
 
-    pub next_later : ascending_from key_of e (f ∷ es) ≡ true → key_order (key_of e) (key_of f) ≡ Before
+    pub next_later : ascending_from key_of e (f ∷ es) ≡ true → key_order (key_of e) (key_of f) ≡ Less
     unfolding ascending_from
     next_later h = is_before_lem (key_order (key_of e) (key_of f)) (first_of_lem (is_before (key_order (key_of e) (key_of f))) (ascending_from key_of f es) h)
 
@@ -95,31 +95,31 @@ module _ {A : Type 0} (key_of : A → Key) where
   key_alone e f (g ∷ es) h = ap (λ k. is_before (key_order k (key_of g)) && ascending_from key_of g es) h
 
   -- one before the first is before the others
-  earlier : (e f : A) (es : List A) → key_order (key_of e) (key_of f) ≡ Before → ascending_from key_of f es ≡ true → ascending_from key_of e es ≡ true
+  earlier : (e f : A) (es : List A) → key_order (key_of e) (key_of f) ≡ Less → ascending_from key_of f es ≡ true → ascending_from key_of e es ≡ true
   unfolding ascending_from
   earlier e f [] h k = refl
   earlier e f (g ∷ es) h k = ascends e g es (key_transitive (key_of e) (key_of f) (key_of g) h (next_later f g es k)) (next_ascends f g es k)
 
-  set_alone : (a e : A) → key_order (key_of e) (key_of a) ≡ Before → ascending_from key_of e (set_entry key_of a []) ≡ true
+  set_alone : (a e : A) → key_order (key_of e) (key_of a) ≡ Less → ascending_from key_of e (set_entry key_of a []) ≡ true
   unfolding set_entry ascending_from
   set_alone a e h = both (is_before (key_order (key_of e) (key_of a))) true (ap is_before h) refl
 
-  set_from : (a e : A) (es : List A) → key_order (key_of e) (key_of a) ≡ Before → ascending_from key_of e es ≡ true → ascending_from key_of e (set_entry key_of a es) ≡ true
+  set_from : (a e : A) (es : List A) → key_order (key_of e) (key_of a) ≡ Less → ascending_from key_of e es ≡ true → ascending_from key_of e (set_entry key_of a es) ≡ true
   set_from a e [] h k = set_alone a e h
   set_from a e (f ∷ es) h k = by (key_order (key_of f) (key_of a)) refl (λ p. set_from a f es p (next_ascends e f es k))
     where
-      later : key_order (key_of e) (key_of f) ≡ Before
+      later : key_order (key_of e) (key_of f) ≡ Less
       later = next_later e f es k
 
-      by : (o : Order) → key_order (key_of f) (key_of a) ≡ o → (key_order (key_of f) (key_of a) ≡ Before → ascending_from key_of f (set_entry key_of a es) ≡ true)
+      by : (o : Ordering) → key_order (key_of f) (key_of a) ≡ o → (key_order (key_of f) (key_of a) ≡ Less → ascending_from key_of f (set_entry key_of a es) ≡ true)
           → ascending_from key_of e (set_entry key_of a (f ∷ es)) ≡ true
-      by Before p more = subst (λ l. ascending_from key_of e l ≡ true) (sym (set_past a f es p)) (ascends e f (set_entry key_of a es) later (more p))
-      by Same p more =
+      by Less p more = subst (λ l. ascending_from key_of e l ≡ true) (sym (set_past a f es p)) (ascends e f (set_entry key_of a es) later (more p))
+      by Equal p more =
           subst (λ l. ascending_from key_of e l ≡ true) (sym (set_here a f es p))
           (ascends e a es h (sym (key_alone f a es (key_equal (key_of f) (key_of a) p)) ∙ next_ascends e f es k))
-      by After p more =
+      by Greater p more =
           subst (λ l. ascending_from key_of e l ≡ true) (sym (set_ahead a f es p))
-          (ascends e a (f ∷ es) h (ascends a f es (turned (key_of f) (key_of a) After p) (next_ascends e f es k)))
+          (ascends e a (f ∷ es) h (ascends a f es (turned (key_of f) (key_of a) Greater p) (next_ascends e f es k)))
 
   -- a set keeps the order
   pub set_ascends : (a : A) (es : List A) → ascending key_of es ≡ true → ascending key_of (set_entry key_of a es) ≡ true
@@ -127,10 +127,10 @@ module _ {A : Type 0} (key_of : A → Key) where
   set_ascends a [] k = refl
   set_ascends a (e ∷ es) k = by (key_order (key_of e) (key_of a)) refl
     where
-      by : (o : Order) → key_order (key_of e) (key_of a) ≡ o → ascending key_of (set_by o a e es (set_entry key_of a es)) ≡ true
-      by Before p = set_from a e es p k
-      by Same p = sym (key_alone e a es (key_equal (key_of e) (key_of a) p)) ∙ k
-      by After p = ascends a e es (turned (key_of e) (key_of a) After p) k
+      by : (o : Ordering) → key_order (key_of e) (key_of a) ≡ o → ascending key_of (set_by o a e es (set_entry key_of a es)) ≡ true
+      by Less p = set_from a e es p k
+      by Equal p = sym (key_alone e a es (key_equal (key_of e) (key_of a) p)) ∙ k
+      by Greater p = ascends a e es (turned (key_of e) (key_of a) Greater p) k
 
   without_from : (k : Key) (e : A) (es : List A) → ascending_from key_of e es ≡ true → ascending_from key_of e (without_entry key_of k es) ≡ true
   unfolding without_entry
@@ -169,10 +169,10 @@ module _ {A : Type 0} (key_of : A → Key) where
     set_good a [] g h = (g, tt)
     set_good a (e ∷ es) g h = by (key_order (key_of e) (key_of a)) (set_good a es g h.1)
       where
-        by : (o : Order) → GoodAll Good (set_entry key_of a es) → GoodAll Good (set_by o a e es (set_entry key_of a es))
-        by Before more = (h.0, more)
-        by Same more = (g, h.1)
-        by After more = (g, (h.0, h.1))
+        by : (o : Ordering) → GoodAll Good (set_entry key_of a es) → GoodAll Good (set_by o a e es (set_entry key_of a es))
+        by Less more = (h.0, more)
+        by Equal more = (g, h.1)
+        by Greater more = (g, (h.0, h.1))
 
     pub without_good : (k : Key) (es : List A) → GoodAll Good es → GoodAll Good (without_entry key_of k es)
     unfolding without_entry
@@ -184,36 +184,36 @@ module _ {A : Type 0} (key_of : A → Key) where
         by false more = (h.0, more)
 
     -- an entry that is found is good
-    pub found_good : (k : Key) (es : List A) (a : A) → GoodAll Good es → entry_of key_of k es ≡ some a → Good a
+    pub found_good : (k : Key) (es : List A) (a : A) → GoodAll Good es → entry_of key_of k es ≡ Some a → Good a
     unfolding entry_of
     found_good k [] a h e = absurd (let z : ◌≡◌ {A = ℕ} 0 1 = cc in omega arith)
     found_good k (f ∷ es) a h e = by (is_same (key_order (key_of f) k)) e (found_good k es a h.1)
       where
-        by : (t : Bool) → cond t (some f) (entry_of key_of k es) ≡ some a → (entry_of key_of k es ≡ some a → Good a) → Good a
+        by : (t : Bool) → cond t (Some f) (entry_of key_of k es) ≡ Some a → (entry_of key_of k es ≡ Some a → Good a) → Good a
         by true e more = let z : f ≡ a = cc in subst Good z h.0
         by false e more = more e
 
   -- the entry found is the one set
-  pub set_found : (a : A) (es : List A) → entry_of key_of (key_of a) (set_entry key_of a es) ≡ some a
+  pub set_found : (a : A) (es : List A) → entry_of key_of (key_of a) (set_entry key_of a es) ≡ Some a
   unfolding set_entry
   set_found a [] = of_here (key_of a) a [] (key_itself (key_of a))
   set_found a (e ∷ es) = by (key_order (key_of e) (key_of a)) refl (set_found a es)
     where
-      by : (o : Order) → key_order (key_of e) (key_of a) ≡ o → entry_of key_of (key_of a) (set_entry key_of a es) ≡ some a → entry_of key_of (key_of a) (set_by o a e es (set_entry key_of a es)) ≡ some a
-      by Before p more = of_past (key_of a) e (set_entry key_of a es) (ap is_same p) ∙ more
-      by Same p more = of_here (key_of a) a es (key_itself (key_of a))
-      by After p more = of_here (key_of a) a (e ∷ es) (key_itself (key_of a))
+      by : (o : Ordering) → key_order (key_of e) (key_of a) ≡ o → entry_of key_of (key_of a) (set_entry key_of a es) ≡ Some a → entry_of key_of (key_of a) (set_by o a e es (set_entry key_of a es)) ≡ Some a
+      by Less p more = of_past (key_of a) e (set_entry key_of a es) (ap is_same p) ∙ more
+      by Equal p more = of_here (key_of a) a es (key_itself (key_of a))
+      by Greater p more = of_here (key_of a) a (e ∷ es) (key_itself (key_of a))
 
   -- ---- entries before a key, and after it
 
   abbrev pub AllBefore : Key → List A → Type 0
   AllBefore k [] = Unit {0}
-  AllBefore k (e ∷ es) = (key_order (key_of e) k ≡ Before) × AllBefore k es
+  AllBefore k (e ∷ es) = (key_order (key_of e) k ≡ Less) × AllBefore k es
 
   -- the first isn't before the key, nor is it the key's
   abbrev pub Later : Key → List A → Type 0
   Later k [] = Unit {0}
-  Later k (e ∷ es) = key_order (key_of e) k ≡ After
+  Later k (e ∷ es) = key_order (key_of e) k ≡ Greater
 
   front_set : (a : A) (front back : List A) → AllBefore (key_of a) front → set_entry key_of a (front ++ back) ≡ front ++ set_entry key_of a back
   front_set a [] back h = refl
@@ -228,13 +228,13 @@ module _ {A : Type 0} (key_of : A → Key) where
   front_without k (e ∷ front) back h = without_past k e (front ++ back) (ap is_same h.0) ∙ ap (λ l. e ∷ l) (front_without k front back h.1)
 
   -- the next of later ones is later
-  later_next : (k : Key) (e f : A) (es : List A) → key_order (key_of e) k ≡ After → ascending_from key_of e (f ∷ es) ≡ true → key_order (key_of f) k ≡ After
-  later_next k e f es h d = turned k (key_of f) Before (key_transitive k (key_of e) (key_of f) (turned (key_of e) k After h) (next_later e f es d))
+  later_next : (k : Key) (e f : A) (es : List A) → key_order (key_of e) k ≡ Greater → ascending_from key_of e (f ∷ es) ≡ true → key_order (key_of f) k ≡ Greater
+  later_next k e f es h d = turned k (key_of f) Less (key_transitive k (key_of e) (key_of f) (turned (key_of e) k Greater h) (next_later e f es d))
 
-  later_of : (k : Key) (back : List A) → Later k back → ascending key_of back ≡ true → entry_of key_of k back ≡ none
+  later_of : (k : Key) (back : List A) → Later k back → ascending key_of back ≡ true → entry_of key_of k back ≡ None
   unfolding entry_of
   later_of k [] h d = refl
-  later_of k (e ∷ []) h d = ap (λ o. cond (is_same o) (some e) none) h
+  later_of k (e ∷ []) h d = ap (λ o. cond (is_same o) (Some e) None) h
   later_of k (e ∷ f ∷ es) h d = of_past k e (f ∷ es) (ap is_same h) ∙ later_of k (f ∷ es) (later_next k e f es h d) (next_ascends e f es d)
 
   later_without : (k : Key) (back : List A) → Later k back → ascending key_of back ≡ true → without_entry key_of k back ≡ back
@@ -250,33 +250,33 @@ module _ {A : Type 0} (key_of : A → Key) where
   later_set a (e ∷ es) h = set_ahead a e es h
 
   -- the entry that is found has the key
-  pub found_key : (k : Key) (es : List A) (a : A) → entry_of key_of k es ≡ some a → key_of a ≡ k
+  pub found_key : (k : Key) (es : List A) (a : A) → entry_of key_of k es ≡ Some a → key_of a ≡ k
   unfolding entry_of
   found_key k [] a e = absurd (let z : ◌≡◌ {A = ℕ} 0 1 = cc in omega arith)
   found_key k (f ∷ es) a e = by (key_order (key_of f) k) refl e (found_key k es a)
     where
-      by : (o : Order) → key_order (key_of f) k ≡ o → cond (is_same o) (some f) (entry_of key_of k es) ≡ some a → (entry_of key_of k es ≡ some a → key_of a ≡ k) → key_of a ≡ k
-      by Before p e more = more e
-      by Same p e more = let z : f ≡ a = cc in subst (λ x. key_of x ≡ k) z (key_equal (key_of f) k p)
-      by After p e more = more e
+      by : (o : Ordering) → key_order (key_of f) k ≡ o → cond (is_same o) (Some f) (entry_of key_of k es) ≡ Some a → (entry_of key_of k es ≡ Some a → key_of a ≡ k) → key_of a ≡ k
+      by Less p e more = more e
+      by Equal p e more = let z : f ≡ a = cc in subst (λ x. key_of x ≡ k) z (key_equal (key_of f) k p)
+      by Greater p e more = more e
 
-  nothing_found : (k : Key) (a : A) → entry_of key_of k [] ≡ some a → ⊥
+  nothing_found : (k : Key) (a : A) → entry_of key_of k [] ≡ Some a → ⊥
   unfolding entry_of
   nothing_found k a e = let z : ◌≡◌ {A = ℕ} 0 1 = cc in omega arith
 
   -- an entry that is held, set again: nothing changes
-  pub set_again : (a : A) (es : List A) → ascending key_of es ≡ true → entry_of key_of (key_of a) es ≡ some a → set_entry key_of a es ≡ es
+  pub set_again : (a : A) (es : List A) → ascending key_of es ≡ true → entry_of key_of (key_of a) es ≡ Some a → set_entry key_of a es ≡ es
   set_again a [] d e = absurd (nothing_found (key_of a) a e)
   set_again a (f ∷ es) d e = by (key_order (key_of f) (key_of a)) refl (set_again a es (rest_ascends f es d))
     where
-      by : (o : Order) → key_order (key_of f) (key_of a) ≡ o → (entry_of key_of (key_of a) es ≡ some a → set_entry key_of a es ≡ es) → set_entry key_of a (f ∷ es) ≡ f ∷ es
-      by Before p more = set_past a f es p ∙ ap (λ l. f ∷ l) (more (sym (of_past (key_of a) f es (ap is_same p)) ∙ e))
-      by Same p more =
-          let q : some f ≡ some a = sym (of_here (key_of a) f es p) ∙ e in
+      by : (o : Ordering) → key_order (key_of f) (key_of a) ≡ o → (entry_of key_of (key_of a) es ≡ Some a → set_entry key_of a es ≡ es) → set_entry key_of a (f ∷ es) ≡ f ∷ es
+      by Less p more = set_past a f es p ∙ ap (λ l. f ∷ l) (more (sym (of_past (key_of a) f es (ap is_same p)) ∙ e))
+      by Equal p more =
+          let q : Some f ≡ Some a = sym (of_here (key_of a) f es p) ∙ e in
           let z : f ≡ a = cc in
           set_here a f es p ∙ ap (λ x. x ∷ es) (sym z)
-      by After p more =
-          absurd (let q : none ≡ some a = sym (later_of (key_of a) (f ∷ es) p d) ∙ e in let z : ◌≡◌ {A = ℕ} 0 1 = cc in omega arith)
+      by Greater p more =
+          absurd (let q : None ≡ Some a = sym (later_of (key_of a) (f ∷ es) p d) ∙ e in let z : ◌≡◌ {A = ℕ} 0 1 = cc in omega arith)
 
 -- ---- bytes with others in place of some
 
@@ -304,7 +304,7 @@ module _ {A : Type 0} (form : Codec A) (key_of : A → Key) where
     pub back : List A
     pub split : es ≡ front ++ (e ∷ back)
     pub before : AllBefore key_of k front
-    pub same : key_order (key_of e) k ≡ Same
+    pub same : key_order (key_of e) k ≡ Equal
     pub place_is : place ≡ at + length (encode_entries form front)
 
   -- it isn't: the entries before its place, and those after
@@ -320,7 +320,7 @@ module _ {A : Type 0} (form : Codec A) (key_of : A → Key) where
   Sits k at es (held place e) = Held k at place e es
   Sits k at es (free place) = Free k at place es
 
-  sits_past : (k : Key) (at : ℕ) (e : A) (es : List A) → key_order (key_of e) k ≡ Before → (s : Slot A) → Sits k (at + length (form.write e)) es s → Sits k at (e ∷ es) s
+  sits_past : (k : Key) (at : ℕ) (e : A) (es : List A) → key_order (key_of e) k ≡ Less → (s : Slot A) → Sits k (at + length (form.write e)) es s → Sits k at (e ∷ es) s
   unfolding write_all
   sits_past k at e es p (held place f) s = record {
     front = e ∷ s.front;
@@ -344,11 +344,11 @@ module _ {A : Type 0} (form : Codec A) (key_of : A → Key) where
   sits k at [] = record { front = []; back = []; split = refl; before = tt; later = tt; place_is = omega arith }
   sits k at (e ∷ es) = by (key_order (key_of e) k) refl (sits k (at + length (form.write e)) es)
     where
-      by : (o : Order) → key_order (key_of e) k ≡ o → Sits k (at + length (form.write e)) es (slot_in form key_of k (at + length (form.write e)) es)
+      by : (o : Ordering) → key_order (key_of e) k ≡ o → Sits k (at + length (form.write e)) es (slot_in form key_of k (at + length (form.write e)) es)
           → Sits k at (e ∷ es) (slot_by o at e (slot_in form key_of k (at + length (form.write e)) es))
-      by Before p more = sits_past k at e es p (slot_in form key_of k (at + length (form.write e)) es) more
-      by Same p more = record { front = []; back = es; split = refl; before = tt; same = p; place_is = omega arith }
-      by After p more = record { front = []; back = e ∷ es; split = refl; before = tt; later = p; place_is = omega arith }
+      by Less p more = sits_past k at e es p (slot_in form key_of k (at + length (form.write e)) es) more
+      by Equal p more = record { front = []; back = es; split = refl; before = tt; same = p; place_is = omega arith }
+      by Greater p more = record { front = []; back = e ∷ es; split = refl; before = tt; later = p; place_is = omega arith }
 
   -- a forward search that stops at the first later key says where the entry stands
   pub held_at : (k : Key) (es : List A) {place : ℕ} {e : A} → slot_in form key_of k 0 es ≡ held place e → Held k 0 place e es
@@ -358,7 +358,7 @@ module _ {A : Type 0} (form : Codec A) (key_of : A → Key) where
   free_at k es q = subst (Sits k 0 es) q (sits k 0 es)
 
   module _ (k : Key) (es : List A) (place : ℕ) (e : A) (h : Held k 0 place e es) where
-    pub held_entry : entry_of key_of k es ≡ some e
+    pub held_entry : entry_of key_of k es ≡ Some e
     held_entry = ap (entry_of key_of k) h.split ∙ front_of key_of k h.front (e ∷ h.back) h.before ∙ of_here key_of k e h.back h.same
 
     pub held_key : key_of e ≡ k
@@ -381,7 +381,7 @@ module _ {A : Type 0} (form : Codec A) (key_of : A → Key) where
     pub held_parts : (a : A) → key_of a ≡ k → encode_entries form (set_entry key_of a es) ≡ encode_entries form h.front ++ (form.write a ++ encode_entries form h.back)
     held_parts a q =
         let b : AllBefore key_of (key_of a) h.front = subst (λ l. AllBefore key_of l h.front) (sym q) h.before in
-        let s : key_order (key_of e) (key_of a) ≡ Same = ap (key_order (key_of e)) q ∙ h.same in
+        let s : key_order (key_of e) (key_of a) ≡ Equal = ap (key_order (key_of e)) q ∙ h.same in
         ap (encode_entries form) (ap (set_entry key_of a) h.split ∙ front_set key_of a h.front (e ∷ h.back) b ∙ ap (λ l. h.front ++ l) (set_here key_of a e h.back s))
         ∙ encode_append h.front (a ∷ h.back) ∙ ap (λ l. encode_entries form h.front ++ l) (encode_cons a h.back)
 
@@ -398,7 +398,7 @@ module _ {A : Type 0} (form : Codec A) (key_of : A → Key) where
     rest_up : ascending key_of h.back ≡ true
     rest_up = back_ascends key_of h.front h.back (sym (ap (ascending key_of) h.split) ∙ d)
 
-    pub free_entry : entry_of key_of k es ≡ none
+    pub free_entry : entry_of key_of k es ≡ None
     free_entry = ap (entry_of key_of k) h.split ∙ front_of key_of k h.front h.back h.before ∙ later_of key_of k h.back h.later rest_up
 
     pub free_without : without_entry key_of k es ≡ es

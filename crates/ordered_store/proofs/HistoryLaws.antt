@@ -6,12 +6,12 @@ use native.Mathlib.Nat.{le_trans}
 use mathlib.Core.Path.{◌≡◌, refl, sym, ap, ap₂, subst, ◌∙◌}
 use mathlib.Core.Bool.{Bool, true, false}
 use mathlib.Core.List.{List, [], ◌∷◌, ◌++◌, append_assoc}
-use mathlib.Core.Option.{Option, none, some}
 use lib.ListN.{length, take, drop, length-append, length-take, length-drop, take-append-drop}
 use lib.Seq.{take-append_seam, take-take, length-take-le}
 use lib.Dec.{ltb}
 use borrow.Author.Tests.{ltb-false, le-ltb}
-use Rattle.limits.specs.Outcome.{Outcome, refused, given, refuse_by, refuse_if, and_then, or_refuse, number_in}
+use Rattle.std.specs.Prelude.{Err, None, Ok, Option, Result, Some}
+use Rattle.limits.specs.Outcome.{refuse_by, refuse_if, and_then, or_refuse, number_in}
 use Rattle.limits.specs.declared.Refusal.{Refusal}
 use Rattle.limits.specs.declared.Refusal.TheVariants.{BadStore, NoRoom}
 use Rattle.edit.specs.Edit.{over}
@@ -32,35 +32,35 @@ Sound key_of Good es = GoodAll Good es × (ascending key_of es ≡ true)
 
 -- what a store owes: an action whose numbers are of their types and whose arguments are taken keeps good, ascending entries so
 abbrev pub Keeps : {A B : Type 0} → (A → Key) → (A → Type 0) → Calls A B → Type 0
-Keeps {A} {B} key_of Good C = (a : C.Action) (es : List A) (d : Decided A B) → C.Typed a → C.cause a ≡ none → C.judge a es ≡ given d → Sound key_of Good es → Sound key_of Good d.entries
+Keeps {A} {B} key_of Good C = (a : C.Action) (es : List A) (d : Decided A B) → C.Typed a → C.cause a ≡ None → C.judge a es ≡ Ok d → Sound key_of Good es → Sound key_of Good d.entries
 
 module _ {A B : Type 0} (form : Codec A) (key_of : A → Key) (C : Calls A B) where
   -- what an accepted call decided
   pub record Accepted (c : Call C.Action) (es : List A) (d : Decided A B) : Type 0 where
-    pub clear : C.cause c.action ≡ none
-    pub judged : C.judge c.action es ≡ given d
+    pub clear : C.cause c.action ≡ None
+    pub judged : C.judge c.action es ≡ Ok d
     pub fits : length (encode_entries form d.entries) ≤ c.lent
 
-  pub accepted : (c : Call C.Action) (es : List A) (d : Decided A B) → decide form key_of C c es ≡ given d → Accepted c es d
+  pub accepted : (c : Call C.Action) (es : List A) (d : Decided A B) → decide form key_of C c es ≡ Ok d → Accepted c es d
   unfolding decide
   accepted c es d e = by (C.cause c.action) refl (ltb c.lent (length (encode_entries form es))) (C.judge c.action es) refl e
     where
-      last : C.cause c.action ≡ none → (y : Decided A B) → C.judge c.action es ≡ given y → (t : Bool) → ltb c.lent (length (encode_entries form y.entries)) ≡ t
-          → refuse_if t NoRoom (given y) ≡ given d → Accepted c es d
+      last : C.cause c.action ≡ None → (y : Decided A B) → C.judge c.action es ≡ Ok y → (t : Bool) → ltb c.lent (length (encode_entries form y.entries)) ≡ t
+          → refuse_if t NoRoom (Ok y) ≡ Ok d → Accepted c es d
       last q y j true t e = absurd (let z : ◌≡◌ {A = ℕ} 0 1 = cc in omega arith)
       last q y j false t e =
           let k : y ≡ d = cc in
           subst (Accepted c es) k (record { clear = q; judged = j; fits = ltb-false c.lent (length (encode_entries form y.entries)) t })
 
-      by : (o : Option Refusal) → C.cause c.action ≡ o → (t : Bool) (j : Outcome (Decided A B)) → C.judge c.action es ≡ j
-          → refuse_by o (refuse_if t BadStore (and_then j (λ y. fitting form c.lent y))) ≡ given d → Accepted c es d
-      by (some cause) q t j p e = absurd (let z : ◌≡◌ {A = ℕ} 0 1 = cc in omega arith)
-      by none q true j p e = absurd (let z : ◌≡◌ {A = ℕ} 0 1 = cc in omega arith)
-      by none q false (refused cause) p e = absurd (let z : ◌≡◌ {A = ℕ} 0 1 = cc in omega arith)
-      by none q false (given y) p e = last q y p (ltb c.lent (length (encode_entries form y.entries))) refl e
+      by : (o : Option Refusal) → C.cause c.action ≡ o → (t : Bool) (j : Result (Decided A B) Refusal) → C.judge c.action es ≡ j
+          → refuse_by o (refuse_if t BadStore (and_then j (λ y. fitting form c.lent y))) ≡ Ok d → Accepted c es d
+      by (Some cause) q t j p e = absurd (let z : ◌≡◌ {A = ℕ} 0 1 = cc in omega arith)
+      by None q true j p e = absurd (let z : ◌≡◌ {A = ℕ} 0 1 = cc in omega arith)
+      by None q false (Err cause) p e = absurd (let z : ◌≡◌ {A = ℕ} 0 1 = cc in omega arith)
+      by None q false (Ok y) p e = last q y p (ltb c.lent (length (encode_entries form y.entries))) refl e
 
   -- a call whose arguments are taken, with room for the entries before and after it, answers what it decided
-  pub settled : (c : Call C.Action) (es : List A) (d : Decided A B) → C.cause c.action ≡ none → length (encode_entries form es) ≤ c.lent → C.judge c.action es ≡ given d → length (encode_entries form d.entries) ≤ c.lent
+  pub settled : (c : Call C.Action) (es : List A) (d : Decided A B) → C.cause c.action ≡ None → length (encode_entries form es) ≤ c.lent → C.judge c.action es ≡ Ok d → length (encode_entries form d.entries) ≤ c.lent
       → answer_of form key_of C (decide form key_of C c es) ≡ d.answer
   unfolding decide
   settled c es d q h j f =
@@ -68,13 +68,13 @@ module _ {A B : Type 0} (form : Codec A) (key_of : A → Key) (C : Calls A B) wh
       (ap (λ o. refuse_by o (refuse_if (ltb c.lent (length (encode_entries form es))) BadStore (and_then (C.judge c.action es) (λ y. fitting form c.lent y)))) q
       ∙ ap (λ t. refuse_if t BadStore (and_then (C.judge c.action es) (λ y. fitting form c.lent y))) (le-ltb c.lent (length (encode_entries form es)) h)
       ∙ ap (λ v. and_then v (λ y. fitting form c.lent y)) j
-      ∙ ap (λ t. refuse_if t NoRoom (given d)) (le-ltb c.lent (length (encode_entries form d.entries)) f))
+      ∙ ap (λ t. refuse_if t NoRoom (Ok d)) (le-ltb c.lent (length (encode_entries form d.entries)) f))
 
   -- ---- one call
 
   module _ (c : Call C.Action) (es : List A) (bytes : List ℕ) (used : ℕ) (len : length bytes ≡ c.lent) (is : used ≡ length (encode_entries form es))
-      (reads : length (encode_entries form es) ≤ c.lent → decode_entries form key_of (take used bytes) ≡ some es) where
-    abbrev on_entries : List A → Outcome (Decided A B)
+      (reads : length (encode_entries form es) ≤ c.lent → decode_entries form key_of (take used bytes) ≡ Some es) where
+    abbrev on_entries : List A → Result (Decided A B) Refusal
     on_entries l = and_then (C.judge c.action l) (λ d. fitting form (length bytes) d)
 
     body : refuse_if (ltb (length bytes) used) BadStore (and_then (or_refuse BadStore (decode_entries form key_of (take used bytes))) on_entries)
@@ -111,7 +111,7 @@ module _ {A B : Type 0} (form : Codec A) (key_of : A → Key) (C : Calls A B) wh
       lent_length : length lent_bytes ≡ c.lent
       lent_length = length-take-le c.lent w.memory (omega (arith, f.room, fits))
 
-      reads_back : length (encode_entries form es) ≤ c.lent → decode_entries form key_of (take w.used lent_bytes) ≡ some es
+      reads_back : length (encode_entries form es) ≤ c.lent → decode_entries form key_of (take w.used lent_bytes) ≡ Some es
       reads_back h =
           ap (decode_entries form key_of) (take-take w.used c.lent w.memory (omega (arith, f.used_is, h)) ∙ f.front)
           ∙ decode_encode form key_of Good x filled es g.0 g.1
@@ -124,9 +124,9 @@ module _ {A B : Type 0} (form : Codec A) (key_of : A → Key) (C : Calls A B) wh
       pub same_answer : (lending form key_of C c w).answer ≡ answer_of form key_of C (decide form key_of C c es)
       same_answer = ap (λ (l : Left B). l.answer) run_is ∙ by (decide form key_of C c es)
         where
-          by : (v : Outcome (Decided A B)) → (leave form lent_bytes w.used v).answer ≡ answer_of form key_of C v
-          by (refused cause) = refl
-          by (given d) = refl
+          by : (v : Result (Decided A B) Refusal) → (leave form lent_bytes w.used v).answer ≡ answer_of form key_of C v
+          by (Err cause) = refl
+          by (Ok d) = refl
 
       abbrev next_by : Left B → World
       next_by l = record { memory = l.bytes ++ drop c.lent w.memory; used = l.used }
@@ -134,11 +134,11 @@ module _ {A B : Type 0} (form : Codec A) (key_of : A → Key) (C : Calls A B) wh
       pub stands_next : Stands m (next_by (lending form key_of C c w)) (after form key_of C (decide form key_of C c es) es)
       stands_next = subst (λ (l : Left B). Stands m (next_by l) (after form key_of C (decide form key_of C c es) es)) (sym run_is) (by (decide form key_of C c es) refl)
         where
-          by : (v : Outcome (Decided A B)) → decide form key_of C c es ≡ v → Stands m (next_by (leave form lent_bytes w.used v)) (after form key_of C v es)
-          by (refused cause) e =
+          by : (v : Result (Decided A B) Refusal) → decide form key_of C c es ≡ v → Stands m (next_by (leave form lent_bytes w.used v)) (after form key_of C v es)
+          by (Err cause) e =
               let same : lent_bytes ++ drop c.lent w.memory ≡ w.memory = take-append-drop c.lent w.memory in
               record { room = ap length same ∙ f.room; used_is = f.used_is; within = f.within; front = ap (take w.used) same ∙ f.front }
-          by (given d) e =
+          by (Ok d) e =
               let new : List ℕ = encode_entries form d.entries in
               let small : length new ≤ c.lent = (accepted c es d e).fits in
               let split : over new lent_bytes ++ drop c.lent w.memory ≡ new ++ (drop (length new) lent_bytes ++ drop c.lent w.memory) = append_assoc new (drop (length new) lent_bytes) (drop c.lent w.memory) in
@@ -158,9 +158,9 @@ module _ {A B : Type 0} (form : Codec A) (key_of : A → Key) (C : Calls A B) wh
       sound [] s = (tt, refl)
       sound (c ∷ cs) s = by (decide form key_of C c (content form key_of C cs)) refl (sound cs s.1)
         where
-          by : (v : Outcome (Decided A B)) → decide form key_of C c (content form key_of C cs) ≡ v → Sound key_of Good (content form key_of C cs) → Sound key_of Good (after form key_of C v (content form key_of C cs))
-          by (refused cause) e g = g
-          by (given d) e g = let k = accepted c (content form key_of C cs) d e in keeps c.action (content form key_of C cs) d s.0 k.clear k.judged g
+          by : (v : Result (Decided A B) Refusal) → decide form key_of C c (content form key_of C cs) ≡ v → Sound key_of Good (content form key_of C cs) → Sound key_of Good (after form key_of C v (content form key_of C cs))
+          by (Err cause) e g = g
+          by (Ok d) e g = let k = accepted c (content form key_of C cs) d e in keeps c.action (content form key_of C cs) d s.0 k.clear k.judged g
 
       module _ (m : List ℕ) where
         pub stands : (cs : List (Call C.Action)) → EachSent C m cs → Stands m (world form key_of C m cs) (content form key_of C cs)
@@ -172,7 +172,7 @@ module _ {A B : Type 0} (form : Codec A) (key_of : A → Key) (C : Calls A B) wh
         unfolding store_answers content_answers
         same_answers [] s = refl
         same_answers (c ∷ cs) s =
-            ap₂ (λ (a : Outcome B) (l : List (Outcome B)). a ∷ l)
+            ap₂ (λ (a : Result B Refusal) (l : List (Result B Refusal)). a ∷ l)
             (same_answer m c (world form key_of C m cs) (content form key_of C cs) (sound cs (each_typed C m cs s.1)) (stands cs s.1) s.0.lends) (same_answers cs s.1)
 
         -- the store follows the content, after every list of calls
@@ -188,7 +188,7 @@ module _ {A B : Type 0} (form : Codec A) (key_of : A → Key) (C : Calls A B) wh
 
 -- ---- the contracts alone fix the memory, the used length, the numbers returned and the values beside them
 
-module _ {A B D : Type 0} (form : Codec A) (key_of : A → Key) (C : Calls A B) (kept : Outcome B → D → D) where
+module _ {A B D : Type 0} (form : Codec A) (key_of : A → Key) (C : Calls A B) (kept : Result B Refusal → D → D) where
   pub ran_is : (m : List ℕ) {cs : List (Call C.Action)} {w : World} {ss : List (Seen D)} → Ran form key_of C kept m cs w ss
       → (w ≡ world form key_of C m cs) × EachShows kept (store_answers form key_of C m cs) ss
   unfolding world store_answers

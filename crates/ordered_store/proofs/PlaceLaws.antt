@@ -3,9 +3,9 @@ use Prim.Native.Nat.{ℕ, ◌+◌, ◌≤◌, ◌<◌}
 use native.Mathlib.Omega.{arith}
 use mathlib.Core.Path.{◌≡◌, refl, sym, ap, subst, ◌∙◌}
 use mathlib.Core.List.{List, ◌++◌}
-use mathlib.Core.Option.{Option, none, some}
 use lib.ListN.{length, drop, length-append, length-drop}
 use lib.Seq.{drop-drop, drop-append_seam}
+use Rattle.std.specs.Prelude.{None, Option, Some}
 use Rattle.codec.specs.Codec.{Reading, Codec}
 use Rattle.codec.proofs.CodecLaws.{Bytes, bytes_drop, Exact}
 use Rattle.ordered_store.specs.Entries.{Key}
@@ -30,8 +30,8 @@ pub record Layout (A : Type 0) : Type 1 where
   pub answer_of : ℕ → Option (Reading A) → Answer
   pub whole : Places → Answer
   pub broken : Answer
-  pub whole_says : (at : ℕ) (o : Option (Reading A)) (p : Places) → answer_of at o ≡ whole p → (x : Reading A) × ((o ≡ some x) × (places_of at x.value ≡ p))
-  pub broken_says : (at : ℕ) (o : Option (Reading A)) → answer_of at o ≡ broken → o ≡ none
+  pub whole_says : (at : ℕ) (o : Option (Reading A)) (p : Places) → answer_of at o ≡ whole p → (x : Reading A) × ((o ≡ Some x) × (places_of at x.value ≡ p))
+  pub broken_says : (at : ℕ) (o : Option (Reading A)) → answer_of at o ≡ broken → o ≡ None
 
 module _ {A : Type 0} (F : Layout A) where
   -- the places of an entry, and the bytes there
@@ -66,17 +66,17 @@ module _ {A : Type 0} (F : Layout A) where
 
   pub record Got (s : List ℕ) (at : ℕ) (p : F.Places) : Type 0 where
     pub value : A
-    pub reads : F.form.read (drop at s) ≡ some (record { value = value; rest = drop (F.end_of p) s })
+    pub reads : F.form.read (drop at s) ≡ Some (record { value = value; rest = drop (F.end_of p) s })
     pub is : Here s at p value
 
   pub got : (s : List ℕ) (at : ℕ) {p : F.Places} → Bytes s → F.answer_of at (F.form.read (drop at s)) ≡ F.whole p → Got s at p
   got s at {p} b e = by (F.whole_says at (F.form.read (drop at s)) p e)
     where
-      by : (x : Reading A) × ((F.form.read (drop at s) ≡ some x) × (F.places_of at x.value ≡ p)) → Got s at p
+      by : (x : Reading A) × ((F.form.read (drop at s) ≡ Some x) × (F.places_of at x.value ≡ p)) → Got s at p
       by (x, (q, w)) =
           let k : drop at s ≡ F.form.write x.value ++ x.rest = (F.exact.back (drop at s) x (bytes_drop at s b) q).0 in
           subst (λ (z : F.Places). Got s at z) w (record {
             value = x.value;
-            reads = q ∙ ap (λ (t : List ℕ). some (record { value = x.value; rest = t })) (sym (past s at x.value x.rest k));
+            reads = q ∙ ap (λ (t : List ℕ). Some (record { value = x.value; rest = t })) (sym (past s at x.value x.rest k));
             is = here s at x.value x.rest k;
           })

@@ -3,16 +3,16 @@ use Prim.Native.Nat.{ℕ, ◌+◌, ◌≤◌, ◌<◌}
 use native.Mathlib.Omega.{arith}
 use mathlib.Core.Path.{◌≡◌, refl, sym, ap, subst, ◌∙◌}
 use mathlib.Core.List.{List, [], ◌∷◌, ◌++◌}
-use mathlib.Core.Option.{Option, some}
 use lib.ListN.{length, drop, length-append, length-drop}
+use Rattle.std.specs.Prelude.{Option, Some}
 use Rattle.codec.specs.Codec.{Reading, write_all}
 use Rattle.codec.proofs.CodecLaws.{Bytes, GoodAll}
 use Rattle.ordered_store.specs.Entries.{Key, encode_entries, decode_entries}
 use Rattle.ordered_store.specs.Order.{key_order}
 use Rattle.ordered_store.specs.Places.{Stored}
 use Rattle.ordered_store.specs.Slot.{Slot, held, free, slot_by, slot_in, slot_read}
-use Rattle.ordered_store.specs.declared.Order.{Order}
-use Rattle.ordered_store.specs.declared.Order.TheVariants.{Before, Same, After}
+use Rattle.std.specs.declared.cmp.Ordering.{Ordering}
+use Rattle.std.specs.declared.cmp.Ordering.TheVariants.{Less, Equal, Greater}
 use Rattle.ordered_store.proofs.BytesLaws.{decoded}
 use Rattle.ordered_store.proofs.PlaceLaws.{Layout, Here, past, here}
 
@@ -30,7 +30,7 @@ module _ {A : Type 0} (F : Layout A) (k : Key) (s : List ℕ) where
     pub good : GoodAll F.Good rest
     pub are : drop at s ≡ encode_entries F.form rest
     pub inside : at ≤ length s
-    pub same : some (among at rest) ≡ asked
+    pub same : Some (among at rest) ≡ asked
 
   pub start : Bytes s → Stored F.form F.key_of s → Left 0
   start b g =
@@ -44,14 +44,14 @@ module _ {A : Type 0} (F : Layout A) (k : Key) (s : List ℕ) where
       pub more : List A
       pub good : GoodAll F.Good more
       pub starts : drop at s ≡ F.form.write value ++ encode_entries F.form more
-      pub reads : F.form.read (drop at s) ≡ some (record { value = value; rest = encode_entries F.form more })
-      pub same : some (slot_by (key_order (F.key_of value) k) at value (among (at + length (F.form.write value)) more)) ≡ asked
+      pub reads : F.form.read (drop at s) ≡ Some (record { value = value; rest = encode_entries F.form more })
+      pub same : Some (slot_by (key_order (F.key_of value) k) at value (among (at + length (F.form.write value)) more)) ≡ asked
 
     empty_left : at < length s → drop at s ≡ encode_entries F.form [] → ⊥
     unfolding write_all
     empty_left h e = omega (arith, ap length e, length-drop at s)
 
-    first_left : (v : A) (more : List A) → GoodAll F.Good (v ∷ more) → drop at s ≡ encode_entries F.form (v ∷ more) → some (among at (v ∷ more)) ≡ asked → Turn
+    first_left : (v : A) (more : List A) → GoodAll F.Good (v ∷ more) → drop at s ≡ encode_entries F.form (v ∷ more) → Some (among at (v ∷ more)) ≡ asked → Turn
     unfolding write_all slot_in
     first_left v more w e q = record {
       value = v;
@@ -65,7 +65,7 @@ module _ {A : Type 0} (F : Layout A) (k : Key) (s : List ℕ) where
     pub turn : Left at → at < length s → Turn
     turn g h = by g.rest g.good g.are g.same
       where
-        by : (rest : List A) → GoodAll F.Good rest → drop at s ≡ encode_entries F.form rest → some (among at rest) ≡ asked → Turn
+        by : (rest : List A) → GoodAll F.Good rest → drop at s ≡ encode_entries F.form rest → Some (among at rest) ≡ asked → Turn
         by [] w e q = absurd (empty_left h e)
         by (v ∷ more) w e q = first_left v more w e q
 
@@ -78,11 +78,11 @@ module _ {A : Type 0} (F : Layout A) (k : Key) (s : List ℕ) where
     some_left v more h e = omega (arith, ap length e, length-drop at s, length-append (F.form.write v) (write_all F.form more), F.filled v)
 
     -- no entries left
-    pub ended : Left at → length s ≤ at → some (free at) ≡ asked
+    pub ended : Left at → length s ≤ at → Some (free at) ≡ asked
     ended g h = by g.rest g.are g.same
       where
-        by : (rest : List A) → drop at s ≡ encode_entries F.form rest → some (among at rest) ≡ asked → some (free at) ≡ asked
-        by [] e q = ap some nowhere ∙ q
+        by : (rest : List A) → drop at s ≡ encode_entries F.form rest → Some (among at rest) ≡ asked → Some (free at) ≡ asked
+        by [] e q = ap Some nowhere ∙ q
         by (v ∷ more) e q = absurd (some_left v more h e)
 
     module _ (t : Turn) where
@@ -94,9 +94,9 @@ module _ {A : Type 0} (F : Layout A) (k : Key) (s : List ℕ) where
         places : F.places_of at t.value ≡ p
         places = by (F.whole_says at (F.form.read (drop at s)) p e)
           where
-            by : (x : Reading A) × ((F.form.read (drop at s) ≡ some x) × (F.places_of at x.value ≡ p)) → F.places_of at t.value ≡ p
+            by : (x : Reading A) × ((F.form.read (drop at s) ≡ Some x) × (F.places_of at x.value ≡ p)) → F.places_of at t.value ≡ p
             by (x, (q, w)) =
-                let same : some (record { value = t.value; rest = encode_entries F.form t.more }) ≡ some x = sym t.reads ∙ q in
+                let same : Some (record { value = t.value; rest = encode_entries F.form t.more }) ≡ Some x = sym t.reads ∙ q in
                 let v : t.value ≡ x.value = cc in
                 ap (F.places_of at) v ∙ w
 
@@ -104,27 +104,27 @@ module _ {A : Type 0} (F : Layout A) (k : Key) (s : List ℕ) where
         met = subst (λ (z : F.Places). Here F s at z t.value) places (here F s at t.value (encode_entries F.form t.more) t.starts)
 
         -- the answer of the comparison with its key
-        module _ {r : Order} (c : r ≡ key_order (F.key_at s p) k) where
-          compared : {o : Order} → r ≡ o → o ≡ key_order (F.key_of t.value) k
+        module _ {r : Ordering} (c : r ≡ key_order (F.key_at s p) k) where
+          compared : {o : Ordering} → r ≡ o → o ≡ key_order (F.key_of t.value) k
           compared q = sym q ∙ c ∙ ap (λ (m : Key). key_order m k) met.key
 
-          decided : {o : Order} → r ≡ o → some (slot_by o at t.value (among (at + length (F.form.write t.value)) t.more)) ≡ asked
-          decided q = ap (λ o. some (slot_by o at t.value (among (at + length (F.form.write t.value)) t.more))) (compared q) ∙ t.same
+          decided : {o : Ordering} → r ≡ o → Some (slot_by o at t.value (among (at + length (F.form.write t.value)) t.more)) ≡ asked
+          decided q = ap (λ o. Some (slot_by o at t.value (among (at + length (F.form.write t.value)) t.more))) (compared q) ∙ t.same
 
           -- it is the one of the key
-          pub found : r ≡ Same → some (held at t.value) ≡ asked
+          pub found : r ≡ Equal → Some (held at t.value) ≡ asked
           found q = decided q
 
           -- it is later
-          pub passed : r ≡ After → some (free at) ≡ asked
+          pub passed : r ≡ Greater → Some (free at) ≡ asked
           passed q = decided q
 
           -- it is earlier: those after it are left
-          pub gone_by : r ≡ Before → Left (F.end_of p)
+          pub gone_by : r ≡ Less → Left (F.end_of p)
           gone_by q = record {
             rest = t.more;
             good = t.good;
             are = ap (λ (z : F.Places). drop (F.end_of z) s) met.placed ∙ past F s at t.value (encode_entries F.form t.more) t.starts;
             inside = met.within;
-            same = ap (λ (n : ℕ). some (among n t.more)) met.ends ∙ decided q;
+            same = ap (λ (n : ℕ). Some (among n t.more)) met.ends ∙ decided q;
           }

@@ -5,44 +5,43 @@ use mathlib.Core.Path.{◌≡◌, refl, sym, ap, ◌∙◌}
 use mathlib.Core.Logic.{◌⊎◌, inl, inr}
 use mathlib.Core.Bool.{Bool, true, false, cond}
 use mathlib.Core.List.{List}
-use mathlib.Core.Option.{Option, none, some}
 use lib.ListN.{length, take}
 use lib.Dec.{ltb}
 use borrow.Author.Tests.{lt-ltb, le-ltb, ltb-true, ltb-false}
+use Rattle.std.specs.Prelude.{None, Option, Some}
 use Rattle.codec.specs.Codec.{Codec}
 use Rattle.ordered_store.specs.Entries.{Key, decode_entries}
 use Rattle.ordered_store.specs.Places.{Stored, count_of}
 use Rattle.ordered_store.specs.Slot.{Slot, slot_in, slot_read, slot_used}
-use Rattle.ordered_store.specs.declared.Count.TheVariants as counts
 
 module _ {A : Type 0} (form : Codec A) (key_of : A → Key) where
   -- ---- what a count says
 
   module _ (s : List ℕ) where
-    pub was_read : {n : ℕ} → count_of (decode_entries form key_of s) ≡ counts.Entries n → Stored form key_of s
+    pub was_read : {n : ℕ} → count_of (decode_entries form key_of s) ≡ Some n → Stored form key_of s
     was_read {n} e = by (decode_entries form key_of s) refl e
       where
-        by : (o : Option (List A)) → decode_entries form key_of s ≡ o → count_of o ≡ counts.Entries n → Stored form key_of s
-        by none q e = absurd (let z : ◌≡◌ {A = ℕ} 0 1 = cc in omega arith)
-        by (some es) q e = record { list = es; are = q }
+        by : (o : Option (List A)) → decode_entries form key_of s ≡ o → count_of o ≡ Some n → Stored form key_of s
+        by None q e = absurd (let z : ◌≡◌ {A = ℕ} 0 1 = cc in omega arith)
+        by (Some es) q e = record { list = es; are = q }
 
-    pub not_read : count_of (decode_entries form key_of s) ≡ counts.Broken → decode_entries form key_of s ≡ none
+    pub not_read : count_of (decode_entries form key_of s) ≡ None → decode_entries form key_of s ≡ None
     not_read e = by (decode_entries form key_of s) e
       where
-        by : (o : Option (List A)) → count_of o ≡ counts.Broken → o ≡ none
-        by none e = refl
-        by (some es) e = absurd (let z : ◌≡◌ {A = ℕ} 0 1 = cc in omega arith)
+        by : (o : Option (List A)) → count_of o ≡ None → o ≡ None
+        by None e = refl
+        by (Some es) e = absurd (let z : ◌≡◌ {A = ℕ} 0 1 = cc in omega arith)
 
   module _ (k : Key) (bytes : List ℕ) (used : ℕ) where
     -- ---- the answer
 
-    pub over_lent : length bytes < used → none ≡ slot_used form key_of k bytes used
+    pub over_lent : length bytes < used → None ≡ slot_used form key_of k bytes used
     over_lent h = rw (lt-ltb (length bytes) used h)
 
     pub in_used : used ≤ length bytes → slot_read form key_of k (decode_entries form key_of (take used bytes)) ≡ slot_used form key_of k bytes used
     in_used h = rw (le-ltb (length bytes) used h)
 
-    pub unread : used ≤ length bytes → count_of (decode_entries form key_of (take used bytes)) ≡ counts.Broken → none ≡ slot_used form key_of k bytes used
+    pub unread : used ≤ length bytes → count_of (decode_entries form key_of (take used bytes)) ≡ None → None ≡ slot_used form key_of k bytes used
     unread h e = ap (slot_read form key_of k) (sym (not_read (take used bytes) e)) ∙ in_used h
 
     -- ---- what it says
@@ -51,21 +50,21 @@ module _ {A : Type 0} (form : Codec A) (key_of : A → Key) where
     pub record Among (slot : Slot A) : Type 0 where
       pub within : used ≤ length bytes
       pub list : List A
-      pub are : decode_entries form key_of (take used bytes) ≡ some list
+      pub are : decode_entries form key_of (take used bytes) ≡ Some list
       pub slot_is : slot_in form key_of k 0 list ≡ slot
 
     -- the bytes aren't a store
     abbrev pub Unreadable : Type 0
-    Unreadable = (length bytes < used) ⊎ ((used ≤ length bytes) × (decode_entries form key_of (take used bytes) ≡ none))
+    Unreadable = (length bytes < used) ⊎ ((used ≤ length bytes) × (decode_entries form key_of (take used bytes) ≡ None))
 
     abbrev pub Says : Option (Slot A) → Type 0
-    Says none = Unreadable
-    Says (some slot) = Among slot
+    Says None = Unreadable
+    Says (Some slot) = Among slot
 
     pub says : Says (slot_used form key_of k bytes used)
     says = by (ltb (length bytes) used) refl (decode_entries form key_of (take used bytes)) refl
       where
-        by : (t : Bool) → ltb (length bytes) used ≡ t → (o : Option (List A)) → decode_entries form key_of (take used bytes) ≡ o → Says (cond t none (slot_read form key_of k o))
+        by : (t : Bool) → ltb (length bytes) used ≡ t → (o : Option (List A)) → decode_entries form key_of (take used bytes) ≡ o → Says (cond t None (slot_read form key_of k o))
         by true p o r = inl (ltb-true (length bytes) used p)
-        by false p none r = inr (ltb-false (length bytes) used p, r)
-        by false p (some es) r = record { within = ltb-false (length bytes) used p; list = es; are = r; slot_is = refl }
+        by false p None r = inr (ltb-false (length bytes) used p, r)
+        by false p (Some es) r = record { within = ltb-false (length bytes) used p; list = es; are = r; slot_is = refl }

@@ -1,34 +1,33 @@
 -- A store whose entries lie one after another in strictly ascending order of their keys: equal contents have equal bytes, whatever calls led to them.
 -- Document 01, "Intervals, PRACK, RSeq": "one image for each content". Said once, for any form of an entry and any key; each entry has at least one byte.
-use Rattle.std.specs.Prelude.{ℕ, zero, suc, Bool, true, cond, ◌&&◌, List, [], ◌∷◌, length}
-use Rattle.std.proofs.Math.Option.{Option, none, some}
+use Rattle.std.specs.Prelude.{ℕ, zero, suc, Bool, true, cond, ◌&&◌, List, [], ◌∷◌, length, None, Option, Some}
 use Rattle.codec.specs.Codec.{Reading, Codec, write_all}
 use Rattle.ordered_store.specs.Order.{key_order, is_before, is_same}
-use Rattle.ordered_store.specs.declared.Order.{Order}
-use Rattle.ordered_store.specs.declared.Order.TheVariants.{Before, Same, After}
+use Rattle.std.specs.declared.cmp.Ordering.{Ordering}
+use Rattle.std.specs.declared.cmp.Ordering.TheVariants.{Less, Equal, Greater}
 
 -- a key: its texts
 abbrev pub Key : Type 0
 Key = List (List ℕ)
 
 abbrev pub entry_before : {A : Type 0} → A → Option (List A) → Option (List A)
-entry_before a none = none
-entry_before a (some more) = some (a ∷ more)
+entry_before a None = None
+entry_before a (Some more) = Some (a ∷ more)
 
 abbrev pub entries_on : {A : Type 0} → Option (Reading A) → (List ℕ → Option (List A)) → Option (List A)
-entries_on none more = none
-entries_on (some x) more = entry_before x.value (more x.rest)
+entries_on None more = None
+entries_on (Some x) more = entry_before x.value (more x.rest)
 
 -- no entries where there are no bytes left
 abbrev pub unless_ended : {A : Type 0} → List ℕ → Option (List A) → Option (List A)
-unless_ended [] more = some []
+unless_ended [] more = Some []
 unless_ended (b ∷ s) more = more
 
 -- an entry set among those before it, in its place, or after it
-abbrev pub set_by : {A : Type 0} → Order → A → A → List A → List A → List A
-set_by Before a e rest later = e ∷ later
-set_by Same a e rest later = a ∷ rest
-set_by After a e rest later = a ∷ e ∷ rest
+abbrev pub set_by : {A : Type 0} → Ordering → A → A → List A → List A → List A
+set_by Less a e rest later = e ∷ later
+set_by Equal a e rest later = a ∷ rest
+set_by Greater a e rest later = a ∷ e ∷ rest
 
 module _ {A : Type 0} (form : Codec A) where
   abbrev pub encode_entries : List A → List ℕ
@@ -36,7 +35,7 @@ module _ {A : Type 0} (form : Codec A) where
 
   -- entries up to the end, at most `fuel` of them
   unfoldable pub entries_in : ℕ → List ℕ → Option (List A)
-  entries_in zero s = unless_ended s none
+  entries_in zero s = unless_ended s None
   entries_in (suc fuel) s = unless_ended s (entries_on (form.read s) (λ t. entries_in fuel t))
 
 module _ {A : Type 0} (key_of : A → Key) where
@@ -53,8 +52,8 @@ module _ {A : Type 0} (key_of : A → Key) where
 
   -- the entry of a key
   unfoldable pub entry_of : Key → List A → Option A
-  entry_of k [] = none
-  entry_of k (e ∷ es) = cond (is_same (key_order (key_of e) k)) (some e) (entry_of k es)
+  entry_of k [] = None
+  entry_of k (e ∷ es) = cond (is_same (key_order (key_of e) k)) (Some e) (entry_of k es)
 
   -- an entry set: in the place of the one of its key, or before the first whose key comes after its own
   unfoldable pub set_entry : A → List A → List A
@@ -67,8 +66,8 @@ module _ {A : Type 0} (key_of : A → Key) where
   without_entry k (e ∷ es) = cond (is_same (key_order (key_of e) k)) es (e ∷ without_entry k es)
 
 abbrev pub only_ascending : {A : Type 0} → (A → Key) → Option (List A) → Option (List A)
-only_ascending key_of none = none
-only_ascending key_of (some es) = cond (ascending key_of es) (some es) none
+only_ascending key_of None = None
+only_ascending key_of (Some es) = cond (ascending key_of es) (Some es) None
 
 -- the entries of a store's used bytes; every entry has a byte, so there are no more entries than bytes
 unfoldable pub decode_entries : {A : Type 0} → Codec A → (A → Key) → List ℕ → Option (List A)

@@ -1,22 +1,21 @@
 -- A step of the code: where the entry of a key stands in the bytes of a store, or where it would go. Entries ascend, so the first whose key isn't before it
 -- decides.
-use Rattle.std.specs.Prelude.{ℕ, ◌+◌, cond, List, [], ◌∷◌, length, take, ltb}
-use Rattle.std.proofs.Math.Option.{Option, none, some}
+use Rattle.std.specs.Prelude.{ℕ, ◌+◌, cond, List, [], ◌∷◌, length, take, ltb, None, Option, Some}
 use Rattle.codec.specs.Codec.{Codec}
 use Rattle.ordered_store.specs.Entries.{Key, decode_entries}
 use Rattle.ordered_store.specs.Order.{key_order}
-use Rattle.ordered_store.specs.declared.Order.{Order}
-use Rattle.ordered_store.specs.declared.Order.TheVariants.{Before, Same, After}
+use Rattle.std.specs.declared.cmp.Ordering.{Ordering}
+use Rattle.std.specs.declared.cmp.Ordering.TheVariants.{Less, Equal, Greater}
 
 -- the entry and the place of its first byte, or the place of the first entry after it
 pub data Slot (A : Type 0) : Type 0 where
   held : (place : ℕ) (entry : A) → Slot A
   free : (place : ℕ) → Slot A
 
-abbrev pub slot_by : {A : Type 0} → Order → ℕ → A → Slot A → Slot A
-slot_by Before at e later = later
-slot_by Same at e later = held at e
-slot_by After at e later = free at
+abbrev pub slot_by : {A : Type 0} → Ordering → ℕ → A → Slot A → Slot A
+slot_by Less at e later = later
+slot_by Equal at e later = held at e
+slot_by Greater at e later = free at
 
 module _ {A : Type 0} (form : Codec A) (key_of : A → Key) (k : Key) where
   -- among entries of which the first begins at a place
@@ -26,9 +25,9 @@ module _ {A : Type 0} (form : Codec A) (key_of : A → Key) (k : Key) where
 
   -- in bytes that were read as these entries; none where they aren't a store
   abbrev pub slot_read : Option (List A) → Option (Slot A)
-  slot_read none = none
-  slot_read (some es) = some (slot_in 0 es)
+  slot_read None = None
+  slot_read (Some es) = Some (slot_in 0 es)
 
   -- in lent bytes of which so many are used
   abbrev pub slot_used : List ℕ → ℕ → Option (Slot A)
-  slot_used bytes used = cond (ltb (length bytes) used) none (slot_read (decode_entries form key_of (take used bytes)))
+  slot_used bytes used = cond (ltb (length bytes) used) None (slot_read (decode_entries form key_of (take used bytes)))

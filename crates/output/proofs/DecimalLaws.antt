@@ -6,10 +6,10 @@ use native.Mathlib.Omega.{arith}
 use mathlib.Core.Path.{◌≡◌, refl, ap, ◌∙◌}
 use mathlib.Core.Bool.{Bool, true, false, cond}
 use mathlib.Core.List.{List, [], ◌∷◌, ◌++◌}
-use mathlib.Core.Option.{some}
 use lib.ListN.{length, take, length-append}
 use lib.Dec.{ltb, lit<}
 use borrow.Author.Tests.{lt-ltb, ltb-true, ltb-false, le-leb, ne_eqb}
+use Rattle.std.specs.Prelude.{Some}
 use Rattle.io.specs.Counts.{IsPrefixLen}
 use Rattle.io.specs.Digits.{hex_digit_ascii, last_digits, IsDigitCount}
 use Rattle.text.specs.Text.{is_digit, all}
@@ -106,7 +106,7 @@ no_sign (b ∷ s) e =
     rw (ne_eqb b 43 (λ z. omega arith))
 
 -- the decimal text of a number of a width reads as it
-pub reads : (width n : ℕ) → n < 2 ^ width → read_number width (decimal_of n) ≡ some n
+pub reads : (width n : ℕ) → n < 2 ^ width → read_number width (decimal_of n) ≡ Some n
 unfolding digits_below
 reads width n h = rw (no_sign (decimal_of n) (decimal n).are_digits, (decimal n).some_digit, (decimal n).are_digits, (decimal n).says, lt-ltb n (2 ^ width) h)
 

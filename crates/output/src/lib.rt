@@ -2,10 +2,3 @@
 #![tactic(auto)]
 
 use limits::Refusal;
-
-// What a call with lent bytes answers: how many of them it wrote.
-#[derive(Clone, Copy)]
-pub enum Written {
-    Length(usize),
-    Refused(Refusal),
-}

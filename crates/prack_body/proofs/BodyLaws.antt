@@ -4,11 +4,11 @@ use native.Mathlib.Omega.{arith}
 use mathlib.Core.Path.{◌≡◌, refl, sym, ap, ap₂, subst, ◌∙◌}
 use mathlib.Core.Bool.{Bool, true, false, cond}
 use mathlib.Core.List.{List, [], ◌∷◌, ◌++◌, append_assoc}
-use mathlib.Core.Option.{Option, none, some}
 use lib.ListN.{length, take, drop, get_or, set, length-drop, length-append, take-append-drop}
 use lib.Seq.{drop-drop, get_or-drop, take_at, drop_at, take_all}
 use lib.Dec.{leb}
 use borrow.Author.Tests.{leb-true, leb-false}
+use Rattle.std.specs.Prelude.{None, Option, Some}
 use Rattle.limits.specs.Limits.{rust_limits}
 use Rattle.edit.specs.Edit.{put_at}
 use Rattle.codec.specs.Codec.{Reading, four, text, write_all, eight}
@@ -20,7 +20,7 @@ use Rattle.prack_body.specs.Body.{body_room, body_of, Holds, Stands}
 use Rattle.prack_body.specs.declared.TrackedAt.{TrackedAt}
 use Rattle.prack_body.proofs.LayoutLaws.{tracked_exact, entries_size}
 
-read_value : {A : Type 0} {a b : Reading A} → some a ≡ some b → a.value ≡ b.value
+read_value : {A : Type 0} {a b : Reading A} → Some a ≡ Some b → a.value ≡ b.value
 read_value {A} {a} {b} e = let q : a ≡ b = cc in ap (λ (x : Reading A). x.value) q
 
 -- ---- the fields of an entry at a place
@@ -36,21 +36,21 @@ module _ (s : List ℕ) (at : ℕ) (p : Pending) (rest : List ℕ) (e : drop at 
 
   module _ (f : PendingFormed p) {n : ℕ} {more : List ℕ} where
     -- the number that is read as RSeq, as CSeq and as time
-    pub rseq_at : four.read (drop at s) ≡ some (record { value = n; rest = more }) → n ≡ p.rseq
+    pub rseq_at : four.read (drop at s) ≡ Some (record { value = n; rest = more }) → n ≡ p.rseq
     rseq_at r =
-        let k : four.read (drop at s) ≡ some (record { value = p.rseq; rest = drop 4 (pending_form.write p ++ rest) }) = ap four.read e ∙ four_exact.round p.rseq f.rseq_fits (drop 4 (pending_form.write p ++ rest)) in
+        let k : four.read (drop at s) ≡ Some (record { value = p.rseq; rest = drop 4 (pending_form.write p ++ rest) }) = ap four.read e ∙ four_exact.round p.rseq f.rseq_fits (drop 4 (pending_form.write p ++ rest)) in
         read_value (sym r ∙ k)
 
-    pub cseq_at : four.read (drop (at + 4) s) ≡ some (record { value = n; rest = more }) → n ≡ p.cseq
+    pub cseq_at : four.read (drop (at + 4) s) ≡ Some (record { value = n; rest = more }) → n ≡ p.cseq
     cseq_at r =
         let d : drop (at + 4) s ≡ four.write p.cseq ++ drop 8 (pending_form.write p ++ rest) = sym (drop-drop 4 at s) ∙ ap (drop 4) e in
-        let k : four.read (drop (at + 4) s) ≡ some (record { value = p.cseq; rest = drop 8 (pending_form.write p ++ rest) }) = ap four.read d ∙ four_exact.round p.cseq f.cseq_fits (drop 8 (pending_form.write p ++ rest)) in
+        let k : four.read (drop (at + 4) s) ≡ Some (record { value = p.cseq; rest = drop 8 (pending_form.write p ++ rest) }) = ap four.read d ∙ four_exact.round p.cseq f.cseq_fits (drop 8 (pending_form.write p ++ rest)) in
         read_value (sym r ∙ k)
 
-    pub time_at_lem : eight.read (drop (at + 12) s) ≡ some (record { value = n; rest = more }) → n ≡ p.registered_at
+    pub time_at_lem : eight.read (drop (at + 12) s) ≡ Some (record { value = n; rest = more }) → n ≡ p.registered_at
     time_at_lem r =
         let d : drop (at + 12) s ≡ eight.write p.registered_at ++ rest = sym (drop-drop 12 at s) ∙ ap (drop 12) e in
-        let k : eight.read (drop (at + 12) s) ≡ some (record { value = p.registered_at; rest = rest }) = ap eight.read d ∙ eight_exact.round p.registered_at f.time_fits rest in
+        let k : eight.read (drop (at + 12) s) ≡ Some (record { value = p.registered_at; rest = rest }) = ap eight.read d ∙ eight_exact.round p.registered_at f.time_fits rest in
         read_value (sym r ∙ k)
 
 -- ---- a body and its parts
@@ -61,46 +61,46 @@ whole {bytes} {n} {t} h o e = sym (take-append-drop n bytes) ∙ ap (λ (l : Lis
 
 -- sizes: 9 without a list, and with it 10 and 20 for each entry
 body_size : (o : Option (List Pending)) → ℕ
-body_size none = 9
-body_size (some ps) = 10 + length ps * 20
+body_size None = 9
+body_size (Some ps) = 10 + length ps * 20
 
 size_is : (time : ℕ) (o : Option (List Pending)) → length (eight.write time ++ (list_form rust_limits).write o) ≡ body_size o
 unfolding body_size
-size_is time none = refl
-size_is time (some ps) = omega (arith, entries_size ps)
+size_is time None = refl
+size_is time (Some ps) = omega (arith, entries_size ps)
 
 module _ {bytes : List ℕ} {n : ℕ} {t : Tracked} (h : Holds bytes n t) where
   size_by : (o : Option (List Pending)) → t.list ≡ o → n ≡ body_size o
   size_by o e = h.long ∙ ap (λ (x : Option (List Pending)). length (eight.write t.cleaned_at ++ (list_form rust_limits).write x)) e ∙ size_is t.cleaned_at o
 
   -- 9 bytes without a list
-  pub none_size : t.list ≡ none → n ≡ 9
+  pub none_size : t.list ≡ None → n ≡ 9
   unfolding body_size
-  none_size e = size_by none e
+  none_size e = size_by None e
 
   -- 10 and 20 for each entry with one
-  pub list_size : (ps : List Pending) → t.list ≡ some ps → n ≡ 10 + length ps * 20
+  pub list_size : (ps : List Pending) → t.list ≡ Some ps → n ≡ 10 + length ps * 20
   unfolding body_size
-  list_size ps e = size_by (some ps) e
+  list_size ps e = size_by (Some ps) e
 
   formed_by : (o : Option (List Pending)) → t.list ≡ o → ListFormed rust_limits o
   formed_by o e = subst (ListFormed rust_limits) e h.formed.list_formed
 
   -- ten entries at most
-  pub list_few : (ps : List Pending) → t.list ≡ some ps → length ps ≤ 10
-  list_few ps e = leb-true _ _ (formed_by (some ps) e).1
+  pub list_few : (ps : List Pending) → t.list ≡ Some ps → length ps ≤ 10
+  list_few ps e = leb-true _ _ (formed_by (Some ps) e).1
 
   -- each of them formed
-  pub list_good : (ps : List Pending) → t.list ≡ some ps → AllFormed ps
-  list_good ps e = (formed_by (some ps) e).0
+  pub list_good : (ps : List Pending) → t.list ≡ Some ps → AllFormed ps
+  list_good ps e = (formed_by (Some ps) e).0
 
   -- a body has 9 bytes at least, and its room at most
   pub holds_size : (9 ≤ n) × (n ≤ body_room)
   holds_size = by t.list refl
     where
       by : (o : Option (List Pending)) → t.list ≡ o → (9 ≤ n) × (n ≤ body_room)
-      by none e = (omega (arith, none_size e), omega (arith, none_size e))
-      by (some ps) e = (omega (arith, list_size ps e), omega (arith, list_size ps e, list_few ps e))
+      by None e = (omega (arith, none_size e), omega (arith, none_size e))
+      by (Some ps) e = (omega (arith, list_size ps e), omega (arith, list_size ps e, list_few ps e))
 
   -- and the array has it
   pub holds_within : n ≤ length bytes
@@ -113,17 +113,17 @@ module _ {bytes : List ℕ} {n : ℕ} {t : Tracked} (h : Holds bytes n t) where
           absurd (omega (arith, ap length (take_all n bytes (omega arith)), ap length h.are, h.long))
 
   -- the entries lie behind the first ten bytes
-  pub entries_lie : (ps : List Pending) → t.list ≡ some ps → drop 10 bytes ≡ write_all pending_form ps ++ drop n bytes
-  entries_lie ps e = ap (drop 10) (whole h (some ps) e)
+  pub entries_lie : (ps : List Pending) → t.list ≡ Some ps → drop 10 bytes ≡ write_all pending_form ps ++ drop n bytes
+  entries_lie ps e = ap (drop 10) (whole h (Some ps) e)
 
   -- the count by the length
-  pub count_is : (ps : List Pending) → t.list ≡ some ps → (n - 10) / 20 ≡ length ps
+  pub count_is : (ps : List Pending) → t.list ≡ Some ps → (n - 10) / 20 ≡ length ps
   count_is ps e = omega (arith, list_size ps e)
 
   -- the time stands first
-  pub cleaned_at_lem : {k : ℕ} {more : List ℕ} → eight.read bytes ≡ some (record { value = k; rest = more }) → k ≡ t.cleaned_at
+  pub cleaned_at_lem : {k : ℕ} {more : List ℕ} → eight.read bytes ≡ Some (record { value = k; rest = more }) → k ≡ t.cleaned_at
   cleaned_at_lem r =
-      let k : eight.read bytes ≡ some (record { value = t.cleaned_at; rest = (list_form rust_limits).write t.list ++ drop n bytes }) = ap eight.read (whole h t.list refl) ∙ eight_exact.round t.cleaned_at h.formed.time_fits ((list_form rust_limits).write t.list ++ drop n bytes) in
+      let k : eight.read bytes ≡ Some (record { value = t.cleaned_at; rest = (list_form rust_limits).write t.list ++ drop n bytes }) = ap eight.read (whole h t.list refl) ∙ eight_exact.round t.cleaned_at h.formed.time_fits ((list_form rust_limits).write t.list ++ drop n bytes) in
       read_value (sym r ∙ k)
 
 -- an array of a body and other bytes holds what the body says
@@ -167,11 +167,11 @@ staying_short test (p ∷ ps) = by (test p) (staying_short test ps)
     by false k = omega arith
 
 -- nothing held before: a time without a list
-pub begun : (time : ℕ) → time < 18446744073709551616 → (s : List ℕ) → 9 ≤ length s → {k : ℕ} {o : List ℕ} → k ≡ 8 → o ≡ put_at 0 (eight.write time) s → (id : List ℕ) → length id < 65536 → Holds (set o k 0) (k + 1) (cleaned rust_limits time id none)
+pub begun : (time : ℕ) → time < 18446744073709551616 → (s : List ℕ) → 9 ≤ length s → {k : ℕ} {o : List ℕ} → k ≡ 8 → o ≡ put_at 0 (eight.write time) s → (id : List ℕ) → length id < 65536 → Holds (set o k 0) (k + 1) (cleaned rust_limits time id None)
 unfolding cleaned
 begun time f s h {k} {o} p q id l = by (drop 8 s) refl
   where
-    by : (d : List ℕ) → drop 8 s ≡ d → Holds (set o k 0) (k + 1) (record { id = id; cleaned_at = time; list = none })
+    by : (d : List ℕ) → drop 8 s ≡ d → Holds (set o k 0) (k + 1) (record { id = id; cleaned_at = time; list = None })
     by [] e = absurd (omega (arith, ap length e, length-drop 8 s))
     by (x ∷ d) e = hold d (record { id_short = l; time_fits = f; list_formed = tt }) (ap₂ (λ (z : List ℕ) (i : ℕ). set z i 0) (q ∙ ap (λ (z : List ℕ). eight.write time ++ z) e) p) (omega arith)
 
@@ -179,13 +179,13 @@ begun time f s h {k} {o} p q id l = by (drop 8 s) refl
 
 end_is : (k : ℕ) (o : Option (List Pending)) → (list_places (k + 8) o).end ≡ k + body_size o
 unfolding body_size
-end_is k none = omega arith
-end_is k (some ps) = omega arith
+end_is k None = omega arith
+end_is k (Some ps) = omega arith
 
 -- a body has a byte for the list at least, and its room at most
 body_few : (time : ℕ) (o : Option (List Pending)) → ListFormed rust_limits o → (1 ≤ length (eight.write time ++ (list_form rust_limits).write o)) × (length (eight.write time ++ (list_form rust_limits).write o) ≤ body_room)
-body_few time none f = (omega arith, omega arith)
-body_few time (some ps) f = let k : length ps ≤ 10 = leb-true _ _ f.1 in (omega (arith, entries_size ps), omega (arith, entries_size ps))
+body_few time None f = (omega arith, omega arith)
+body_few time (Some ps) f = let k : length ps ≤ 10 = leb-true _ _ f.1 in (omega (arith, entries_size ps), omega (arith, entries_size ps))
 
 -- the places of what is held end where its bytes do
 pub places_end : (at : ℕ) (t : Tracked) → (tracked_places at t).end ≡ at + length ((tracked_form rust_limits).write t)

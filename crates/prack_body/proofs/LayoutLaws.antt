@@ -4,10 +4,10 @@ use native.Mathlib.Omega.{arith}
 use mathlib.Core.Path.{◌≡◌, refl, sym, ap, subst, ◌∙◌}
 use mathlib.Core.Bool.{Bool, true, false, ◌&&◌, and-false, false≢true}
 use mathlib.Core.List.{List, [], ◌∷◌, ◌++◌}
-use mathlib.Core.Option.{Option, none, some}
 use lib.ListN.{length}
 use lib.Dec.{leb}
 use borrow.Author.Tests.{leb-true}
+use Rattle.std.specs.Prelude.{None, Option, Some}
 use Rattle.limits.specs.Limits.{LimitSet}
 use Rattle.codec.specs.Codec.{Reading, Codec, Pair, renamed, write_all}
 use Rattle.codec.proofs.CodecLaws.{Bytes, bytes_after, no_reading, Exact, byte_exact, two_exact, four_exact, eight_exact, text_exact, then_exact, such_exact, mapped_exact, counted_exact, GoodAll}
@@ -33,31 +33,31 @@ bit_exact = mapped_exact (such_exact byte_exact is_bit) (λ b. Unit {0}) from_bi
 -- ---- a value that may be absent
 
 abbrev pub GoodOption : {A : Type 0} → (A → Type 0) → Option A → Type 0
-GoodOption G none = Unit {0}
-GoodOption G (some a) = G a
+GoodOption G None = Unit {0}
+GoodOption G (Some a) = G a
 
 module _ {A : Type 0} {c : Codec A} {G : A → Type 0} (x : Exact c G) where
-  option_round : (o : Option A) → GoodOption G o → (rest : List ℕ) → (optional c).read ((optional c).write o ++ rest) ≡ some (record { value = o; rest = rest })
-  option_round none g rest = refl
-  option_round (some a) g rest = rw (x.round a g rest)
+  option_round : (o : Option A) → GoodOption G o → (rest : List ℕ) → (optional c).read ((optional c).write o ++ rest) ≡ Some (record { value = o; rest = rest })
+  option_round None g rest = refl
+  option_round (Some a) g rest = rw (x.round a g rest)
 
-  by_value : (s : List ℕ) (t : List ℕ) (o : Option (Reading A)) (r : Reading (Option A)) → Bytes t → s ≡ 1 ∷ t → c.read t ≡ o → renamed some o ≡ some r
+  by_value : (s : List ℕ) (t : List ℕ) (o : Option (Reading A)) (r : Reading (Option A)) → Bytes t → s ≡ 1 ∷ t → c.read t ≡ o → renamed Some o ≡ Some r
       → (s ≡ (optional c).write r.value ++ r.rest) × GoodOption G r.value
-  by_value s t none r h e k q = absurd (no_reading q)
-  by_value s t (some a) r h e k q =
-      let m : record { value = some a.value; rest = a.rest } ≡ r = cc in
+  by_value s t None r h e k q = absurd (no_reading q)
+  by_value s t (Some a) r h e k q =
+      let m : record { value = Some a.value; rest = a.rest } ≡ r = cc in
       let l = x.back t a h k in
       subst (λ (z : Reading (Option A)). (s ≡ (optional c).write z.value ++ z.rest) × GoodOption G z.value) m (e ∙ ap (λ (u : List ℕ). 1 ∷ u) l.0, l.1)
 
-  by_flag : (s : List ℕ) (b : Bool) (t : List ℕ) (r : Reading (Option A)) → Bytes t → s ≡ to_bit b ∷ t → option_after c b t ≡ some r → (s ≡ (optional c).write r.value ++ r.rest) × GoodOption G r.value
+  by_flag : (s : List ℕ) (b : Bool) (t : List ℕ) (r : Reading (Option A)) → Bytes t → s ≡ to_bit b ∷ t → option_after c b t ≡ Some r → (s ≡ (optional c).write r.value ++ r.rest) × GoodOption G r.value
   by_flag s true t r h e q = by_value s t (c.read t) r h e refl q
   by_flag s false t r h e q =
-      let m : record { value = none; rest = t } ≡ r = cc in
+      let m : record { value = None; rest = t } ≡ r = cc in
       subst (λ (z : Reading (Option A)). (s ≡ (optional c).write z.value ++ z.rest) × GoodOption G z.value) m (e, tt)
 
-  by_bit : (s : List ℕ) (o : Option (Reading Bool)) (r : Reading (Option A)) → Bytes s → bit.read s ≡ o → read_option c o ≡ some r → (s ≡ (optional c).write r.value ++ r.rest) × GoodOption G r.value
-  by_bit s none r h e q = absurd (no_reading q)
-  by_bit s (some b) r h e q =
+  by_bit : (s : List ℕ) (o : Option (Reading Bool)) (r : Reading (Option A)) → Bytes s → bit.read s ≡ o → read_option c o ≡ Some r → (s ≡ (optional c).write r.value ++ r.rest) × GoodOption G r.value
+  by_bit s None r h e q = absurd (no_reading q)
+  by_bit s (Some b) r h e q =
       let k = bit_exact.back s b h e in
       by_flag s b.value b.rest r (bytes_after (to_bit b.value ∷ []) b.rest (subst Bytes k.0 h)) k.0 q
 
@@ -115,12 +115,12 @@ module _ (L : LimitSet) (few : L.pending < 256) where
   GoodList ps = (GoodAll PendingFormed ps × (length ps < 256)) × (is_short L ps ≡ true)
 
   list_there : (o : Option (List Pending)) → ListFormed L o → GoodOption GoodList o
-  list_there none g = tt
-  list_there (some ps) g = let l : length ps ≤ L.pending = leb-true _ _ g.1 in ((formed_all ps g.0, omega arith), g.1)
+  list_there None g = tt
+  list_there (Some ps) g = let l : length ps ≤ L.pending = leb-true _ _ g.1 in ((formed_all ps g.0, omega arith), g.1)
 
   list_again : (o : Option (List Pending)) → GoodOption GoodList o → ListFormed L o
-  list_again none g = tt
-  list_again (some ps) g = (all_formed ps g.0.0, g.1)
+  list_again None g = tt
+  list_again (Some ps) g = (all_formed ps g.0.0, g.1)
 
   tracked_there : (t : Tracked) → TrackedFormed L t → (tracked_from (tracked_parts t) ≡ t) × ((length t.id < 65536) × ((t.cleaned_at < 18446744073709551616) × GoodOption GoodList t.list))
   tracked_there t g = (refl, (g.id_short, (g.time_fits, list_there t.list g.list_formed)))

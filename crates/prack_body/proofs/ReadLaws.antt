@@ -4,10 +4,10 @@ use native.Mathlib.Omega.{arith}
 use mathlib.Core.Path.{◌≡◌, refl, sym, ap, ap₂, ◌∙◌}
 use mathlib.Core.Bool.{Bool, true, false, true≢false}
 use mathlib.Core.List.{List, ◌∷◌, ◌++◌}
-use mathlib.Core.Option.{Option, none, some}
 use lib.ListN.{length, drop, get_or, length-drop, length-append}
 use lib.Dec.{leb, eqb}
 use borrow.Author.Tests.{le-leb, lt-leb, leb-true}
+use Rattle.std.specs.Prelude.{None, Option, Some}
 use Rattle.limits.specs.Limits.{rust_limits}
 use Rattle.text.specs.declared.Span.{Span}
 use Rattle.codec.specs.Codec.{Reading, text, in_front, passing, renamed, read_all, write_all, eight}
@@ -19,8 +19,6 @@ use Rattle.prack_body.specs.Lists.{Pending}
 use Rattle.prack_body.specs.Layout.{is_bit, pending_form, is_short, list_form, tracked_form}
 use Rattle.prack_body.specs.Places.{is_read, list_places, list_from, tracked_from}
 use Rattle.prack_body.specs.declared.ListAt.{ListAt}
-use Rattle.prack_body.specs.declared.ListReading.TheVariants as L
-use Rattle.prack_body.specs.declared.TrackedReading.TheVariants as T
 use Rattle.prack_body.proofs.LayoutLaws.{pending_exact, entries_size}
 
 -- ---- entries
@@ -31,7 +29,7 @@ four_at s at = ((get_or s at 0 * 256 + get_or s (at + 1) 0) * 256 + get_or s (at
 
 module _ (s : List ℕ) (at : ℕ) (h : at + 20 ≤ length s) where
   -- a method's number and a flag in their places: an entry
-  pub entry_at : is_method (get_or s (at + 8) 0) ≡ true → is_bit (get_or s (at + 11) 0) ≡ true → (p : Pending) × (pending_form.read (drop at s) ≡ some (record { value = p; rest = drop (at + 20) s }))
+  pub entry_at : is_method (get_or s (at + 8) 0) ≡ true → is_bit (get_or s (at + 11) 0) ≡ true → (p : Pending) × (pending_form.read (drop at s) ≡ Some (record { value = p; rest = drop (at + 20) s }))
   entry_at m b =
       let e : at + 4 + 4 ≡ at + 8 = omega arith in
       let f : at + 8 + 1 ≡ at + 9 = omega arith in
@@ -51,12 +49,12 @@ module _ (s : List ℕ) (at : ℕ) (h : at + 20 ≤ length s) where
       )
 
   -- another method's number, or another flag: none
-  pub entry_method : is_method (get_or s (at + 8) 0) ≡ false → pending_form.read (drop at s) ≡ none
+  pub entry_method : is_method (get_or s (at + 8) 0) ≡ false → pending_form.read (drop at s) ≡ None
   entry_method m =
       let e : at + 4 + 4 ≡ at + 8 = omega arith in
       rw (four_at_lem s at (omega arith), four_at_lem s (at + 4) (omega arith), e, byte_at s (at + 8) (omega arith), m)
 
-  pub entry_flag : is_method (get_or s (at + 8) 0) ≡ true → is_bit (get_or s (at + 11) 0) ≡ false → pending_form.read (drop at s) ≡ none
+  pub entry_flag : is_method (get_or s (at + 8) 0) ≡ true → is_bit (get_or s (at + 11) 0) ≡ false → pending_form.read (drop at s) ≡ None
   entry_flag m b =
       let e : at + 4 + 4 ≡ at + 8 = omega arith in
       let f : at + 8 + 1 ≡ at + 9 = omega arith in
@@ -64,13 +62,13 @@ module _ (s : List ℕ) (at : ℕ) (h : at + 20 ≤ length s) where
       rw (four_at_lem s at (omega arith), four_at_lem s (at + 4) (omega arith), e, byte_at s (at + 8) (omega arith), m, f, two_at s (at + 9) (omega arith), g, byte_at s (at + 11) (omega arith), b)
 
 more_read : (p : Pending) (o : Option (Reading (List Pending))) → is_read (in_front p o) ≡ is_read o
-more_read p none = refl
-more_read p (some x) = refl
+more_read p None = refl
+more_read p (Some x) = refl
 
 -- the loop over entries
 module _ (s : List ℕ) (i count at : ℕ) where
   -- one entry more was read
-  pub turn : i < count → (p : Pending) × (pending_form.read (drop at s) ≡ some (record { value = p; rest = drop (at + 20) s }))
+  pub turn : i < count → (p : Pending) × (pending_form.read (drop at s) ≡ Some (record { value = p; rest = drop (at + 20) s }))
       → is_read (read_all pending_form (count - i) (drop at s)) ≡ is_read (read_all pending_form (count - (i + 1)) (drop (at + 20) s))
   unfolding read_all
   turn h g =
@@ -78,7 +76,7 @@ module _ (s : List ℕ) (i count at : ℕ) where
       rw (k, g.1) (more_read g.0 (read_all pending_form (count - (i + 1)) (drop (at + 20) s)))
 
   -- one that is none ends it
-  pub stop : i < count → pending_form.read (drop at s) ≡ none → is_read (read_all pending_form (count - i) (drop at s)) ≡ false
+  pub stop : i < count → pending_form.read (drop at s) ≡ None → is_read (read_all pending_form (count - i) (drop at s)) ≡ false
   unfolding read_all
   stop h e =
       let k : count - i ≡ suc (count - (i + 1)) = omega arith in
@@ -92,7 +90,7 @@ module _ (s : List ℕ) (i count at : ℕ) where
       rw k
 
 -- so many entries as were asked for, and their bytes
-pub entries_read : (n : ℕ) (s : List ℕ) (x : Reading (List Pending)) → n < 256 → Bytes s → read_all pending_form n s ≡ some x → (length x.value ≡ n) × (n * 20 ≤ length s)
+pub entries_read : (n : ℕ) (s : List ℕ) (x : Reading (List Pending)) → n < 256 → Bytes s → read_all pending_form n s ≡ Some x → (length x.value ≡ n) × (n * 20 ≤ length s)
 entries_read n s x l h e =
     let k = (counted_exact pending_exact).back (n ∷ s) x (l, h) e in
     let w : n ∷ s ≡ length x.value ∷ (write_all pending_form x.value ++ x.rest) = k.0 in
@@ -104,62 +102,62 @@ entries_read n s x l h e =
 
 module _ (s : List ℕ) (at : ℕ) where
   -- no byte
-  pub list_none : length s ≡ at → L.Broken ≡ list_from at ((list_form rust_limits).read (drop at s))
+  pub list_none : length s ≡ at → None ≡ list_from at ((list_form rust_limits).read (drop at s))
   list_none e = rw (byte_none s at e)
 
   module _ (h : at < length s) where
     -- 0: no list
-    pub list_absent : get_or s at 0 ≡ 0 → L.At (record { has_list = false; count = 0; first = at + 1; end = at + 1 }) ≡ list_from at ((list_form rust_limits).read (drop at s))
+    pub list_absent : get_or s at 0 ≡ 0 → Some (record { has_list = false; count = 0; first = at + 1; end = at + 1 }) ≡ list_from at ((list_form rust_limits).read (drop at s))
     list_absent e = rw (byte_at s at h, e)
 
     -- neither 0 nor 1
-    pub list_other : (get_or s at 0 ≡ 0 → ⊥) → (get_or s at 0 ≡ 1 → ⊥) → L.Broken ≡ list_from at ((list_form rust_limits).read (drop at s))
+    pub list_other : (get_or s at 0 ≡ 0 → ⊥) → (get_or s at 0 ≡ 1 → ⊥) → None ≡ list_from at ((list_form rust_limits).read (drop at s))
     list_other y z = rw (byte_at s at h, lt-leb (get_or s at 0) 1 (omega arith))
 
     module _ (one : get_or s at 0 ≡ 1) where
       -- no count byte
-      pub list_short : length s - at < 2 → L.Broken ≡ list_from at ((list_form rust_limits).read (drop at s))
+      pub list_short : length s - at < 2 → None ≡ list_from at ((list_form rust_limits).read (drop at s))
       list_short l = rw (byte_at s at h, one, byte_none s (at + 1) (omega arith))
 
       module _ (l : at + 2 ≤ length s) {count : ℕ} (c : count ≡ get_or s (at + 1) 0) (small : count < 256) (b : Bytes (drop (at + 2) s)) where
         abbrev entries : Option (Reading (List Pending))
         entries = read_all pending_form count (drop (at + 2) s)
 
-        reads : list_from at ((list_form rust_limits).read (drop at s)) ≡ list_from at (renamed some (passing (is_short rust_limits) entries))
+        reads : list_from at ((list_form rust_limits).read (drop at s)) ≡ list_from at (renamed Some (passing (is_short rust_limits) entries))
         reads =
             let e : at + 1 + 1 ≡ at + 2 = omega arith in
             rw (byte_at s at h, one, byte_at s (at + 1) (omega arith), e, c)
 
-        unless : ((x : Reading (List Pending)) → entries ≡ some x → is_short rust_limits x.value ≡ true → ⊥) → L.Broken ≡ list_from at ((list_form rust_limits).read (drop at s))
+        unless : ((x : Reading (List Pending)) → entries ≡ Some x → is_short rust_limits x.value ≡ true → ⊥) → None ≡ list_from at ((list_form rust_limits).read (drop at s))
         unless f = by entries refl ∙ sym reads
           where
-            by : (o : Option (Reading (List Pending))) → entries ≡ o → L.Broken ≡ list_from at (renamed some (passing (is_short rust_limits) o))
-            by none e = refl
-            by (some x) e = is (is_short rust_limits x.value) refl
+            by : (o : Option (Reading (List Pending))) → entries ≡ o → None ≡ list_from at (renamed Some (passing (is_short rust_limits) o))
+            by None e = refl
+            by (Some x) e = is (is_short rust_limits x.value) refl
               where
-                is : (t : Bool) → is_short rust_limits x.value ≡ t → L.Broken ≡ list_from at (renamed some (passing (is_short rust_limits) (some x)))
+                is : (t : Bool) → is_short rust_limits x.value ≡ t → None ≡ list_from at (renamed Some (passing (is_short rust_limits) (Some x)))
                 is true t = absurd (f x e t)
                 is false t = rw t
 
         -- more than ten
-        pub list_many : 10 < count → L.Broken ≡ list_from at ((list_form rust_limits).read (drop at s))
+        pub list_many : 10 < count → None ≡ list_from at ((list_form rust_limits).read (drop at s))
         list_many m = unless (λ x e t. let k = entries_read count (drop (at + 2) s) x small b e in let z : length x.value ≤ 10 = leb-true _ _ t in omega (arith, k.0))
 
         -- fewer bytes than the count says
-        pub list_cut : length s - at - 2 < count * 20 → L.Broken ≡ list_from at ((list_form rust_limits).read (drop at s))
+        pub list_cut : length s - at - 2 < count * 20 → None ≡ list_from at ((list_form rust_limits).read (drop at s))
         list_cut m = unless (λ x e t. omega (arith, (entries_read count (drop (at + 2) s) x small b e).1, length-drop (at + 2) s))
 
         -- an entry that is none
-        pub list_unfit : is_read entries ≡ false → L.Broken ≡ list_from at ((list_form rust_limits).read (drop at s))
+        pub list_unfit : is_read entries ≡ false → None ≡ list_from at ((list_form rust_limits).read (drop at s))
         list_unfit u = unless (λ x e t. true≢false (ap is_read (sym e) ∙ u))
 
         -- a list
-        pub list_whole : count ≤ 10 → is_read entries ≡ true → L.At (record { has_list = true; count = count; first = at + 2; end = at + 2 + count * 20 }) ≡ list_from at ((list_form rust_limits).read (drop at s))
+        pub list_whole : count ≤ 10 → is_read entries ≡ true → Some (record { has_list = true; count = count; first = at + 2; end = at + 2 + count * 20 }) ≡ list_from at ((list_form rust_limits).read (drop at s))
         list_whole m u = by entries refl ∙ sym reads
           where
-            by : (o : Option (Reading (List Pending))) → entries ≡ o → L.At (record { has_list = true; count = count; first = at + 2; end = at + 2 + count * 20 }) ≡ list_from at (renamed some (passing (is_short rust_limits) o))
-            by none e = absurd (true≢false (sym u ∙ ap is_read e))
-            by (some x) e =
+            by : (o : Option (Reading (List Pending))) → entries ≡ o → Some (record { has_list = true; count = count; first = at + 2; end = at + 2 + count * 20 }) ≡ list_from at (renamed Some (passing (is_short rust_limits) o))
+            by None e = absurd (true≢false (sym u ∙ ap is_read e))
+            by (Some x) e =
                 let k : length x.value ≡ count = (entries_read count (drop (at + 2) s) x small b e).0 in
                 let t : leb (length x.value) 10 ≡ true = le-leb (length x.value) 10 (omega arith) in
                 rw (t, k)
@@ -169,27 +167,27 @@ module _ (s : List ℕ) (at : ℕ) where
 -- a list that was read, or not
 pub record ListGot (s : List ℕ) (at : ℕ) (p : ListAt) : Type 0 where
   pub reading : Reading (Option (List Pending))
-  pub reads : (list_form rust_limits).read (drop at s) ≡ some reading
+  pub reads : (list_form rust_limits).read (drop at s) ≡ Some reading
   pub placed : p ≡ list_places at reading.value
 
 -- a list that was read, by the answer
-pub list_got : (s : List ℕ) (at : ℕ) (p : ListAt) → L.At p ≡ list_from at ((list_form rust_limits).read (drop at s)) → ListGot s at p
+pub list_got : (s : List ℕ) (at : ℕ) (p : ListAt) → Some p ≡ list_from at ((list_form rust_limits).read (drop at s)) → ListGot s at p
 list_got s at p e = by ((list_form rust_limits).read (drop at s)) refl e
   where
-    by : (o : Option (Reading (Option (List Pending)))) → (list_form rust_limits).read (drop at s) ≡ o → L.At p ≡ list_from at o → ListGot s at p
-    by none k q = absurd (let z : ◌≡◌ {A = ℕ} 0 1 = cc in omega arith)
-    by (some x) k q = record { reading = x; reads = k; placed = (cc) }
+    by : (o : Option (Reading (Option (List Pending)))) → (list_form rust_limits).read (drop at s) ≡ o → Some p ≡ list_from at o → ListGot s at p
+    by None k q = absurd (let z : ◌≡◌ {A = ℕ} 0 1 = cc in omega arith)
+    by (Some x) k q = record { reading = x; reads = k; placed = (cc) }
 
-list_not : (s : List ℕ) (at : ℕ) → L.Broken ≡ list_from at ((list_form rust_limits).read (drop at s)) → (list_form rust_limits).read (drop at s) ≡ none
+list_not : (s : List ℕ) (at : ℕ) → None ≡ list_from at ((list_form rust_limits).read (drop at s)) → (list_form rust_limits).read (drop at s) ≡ None
 list_not s at e = by ((list_form rust_limits).read (drop at s)) e
   where
-    by : (o : Option (Reading (Option (List Pending)))) → L.Broken ≡ list_from at o → o ≡ none
-    by none q = refl
-    by (some x) q = absurd (let z : ◌≡◌ {A = ℕ} 0 1 = cc in omega arith)
+    by : (o : Option (Reading (Option (List Pending)))) → None ≡ list_from at o → o ≡ None
+    by None q = refl
+    by (Some x) q = absurd (let z : ◌≡◌ {A = ℕ} 0 1 = cc in omega arith)
 
 module _ (s : List ℕ) (at : ℕ) where
   -- a text that can't be read
-  pub held_text : text.read (drop at s) ≡ none → T.Broken ≡ tracked_from at ((tracked_form rust_limits).read (drop at s))
+  pub held_text : text.read (drop at s) ≡ None → None ≡ tracked_from at ((tracked_form rust_limits).read (drop at s))
   held_text e = rw e
 
   module _ {i : Span} (g : TextGot s at i) where
@@ -197,19 +195,19 @@ module _ (s : List ℕ) (at : ℕ) where
     time_at = i.start + i.length
 
     -- a time that is cut
-    pub held_time : length s - time_at < 8 → T.Broken ≡ tracked_from at ((tracked_form rust_limits).read (drop at s))
+    pub held_time : length s - time_at < 8 → None ≡ tracked_from at ((tracked_form rust_limits).read (drop at s))
     held_time h = rw (g.got.reads, eight_none s time_at h)
 
-    module _ {time : ℕ} (f : eight.read (drop time_at s) ≡ some (record { value = time; rest = drop (time_at + 8) s })) where
+    module _ {time : ℕ} (f : eight.read (drop time_at s) ≡ Some (record { value = time; rest = drop (time_at + 8) s })) where
       -- a list that can't be read
-      pub held_broken : L.Broken ≡ list_from (time_at + 8) ((list_form rust_limits).read (drop (time_at + 8) s)) → T.Broken ≡ tracked_from at ((tracked_form rust_limits).read (drop at s))
+      pub held_broken : None ≡ list_from (time_at + 8) ((list_form rust_limits).read (drop (time_at + 8) s)) → None ≡ tracked_from at ((tracked_form rust_limits).read (drop at s))
       held_broken q = rw (g.got.reads, f, list_not s (time_at + 8) q)
 
       -- all of it
-      pub held_whole : {p : ListAt} → L.At p ≡ list_from (time_at + 8) ((list_form rust_limits).read (drop (time_at + 8) s))
-          → T.Whole (record { id = i; cleaned_at = time; has_list = p.has_list; count = p.count; first = p.first; end = p.end }) ≡ tracked_from at ((tracked_form rust_limits).read (drop at s))
+      pub held_whole : {p : ListAt} → Some p ≡ list_from (time_at + 8) ((list_form rust_limits).read (drop (time_at + 8) s))
+          → Some (record { id = i; cleaned_at = time; has_list = p.has_list; count = p.count; first = p.first; end = p.end }) ≡ tracked_from at ((tracked_form rust_limits).read (drop at s))
       held_whole {p} q =
           let l = list_got s (time_at + 8) p q in
           let k : p ≡ list_places (at + 2 + length g.value + 8) l.reading.value = l.placed ∙ ap (λ (x : Span). list_places (x.start + x.length + 8) l.reading.value) g.placed in
           rw (g.got.reads, f, l.reads)
-          (ap₂ (λ (x : Span) (y : ListAt). T.Whole (record { id = x; cleaned_at = time; has_list = y.has_list; count = y.count; first = y.first; end = y.end })) g.placed k)
+          (ap₂ (λ (x : Span) (y : ListAt). Some (record { id = x; cleaned_at = time; has_list = y.has_list; count = y.count; first = y.first; end = y.end })) g.placed k)

@@ -1,7 +1,6 @@
 -- Steps of the code: what is held for one identifier text, held in a small array without the text. Its bytes are those behind the text in the
 -- store: eight bytes of time, the list's byte, and, where a list stands, its count byte and its entries (specs/Layout.antt).
-use Rattle.std.specs.Prelude.{ℕ, ◌+◌, ◌*◌, ◌≡◌, List, ◌++◌, length, take, drop}
-use Rattle.std.proofs.Math.Option.{some}
+use Rattle.std.specs.Prelude.{ℕ, ◌+◌, ◌*◌, ◌≡◌, List, ◌++◌, length, take, drop, Some}
 use Rattle.limits.specs.Limits.{rust_limits}
 use Rattle.codec.specs.Codec.{write_all, eight}
 use Rattle.prack_body.specs.Lists.{Pending, Tracked}
@@ -26,7 +25,7 @@ pub record Holds (bytes : List ℕ) (n : ℕ) (t : Tracked) : Type 0 where
 pub record Stands (bytes : List ℕ) (p : TrackedAt) (t : Tracked) : Type 0 where
   pub at : ℕ
   pub rest : List ℕ
-  pub reads : (tracked_form rust_limits).read (drop at bytes) ≡ some (record { value = t; rest = rest })
+  pub reads : (tracked_form rust_limits).read (drop at bytes) ≡ Some (record { value = t; rest = rest })
   pub placed : p ≡ tracked_places at t
 
 -- entries that lie behind the first ten bytes, which are what they were, and how many they are

@@ -1,8 +1,7 @@
 -- The bytes of what is held for one identifier text. Document 01, "Intervals, PRACK, RSeq": the layout is the team's, "written in docs/ first"; it is that of
 -- docs/LAYOUTS.md, "The PRACK store". Big-endian: the text with two length bytes, the last cleanup's time in eight bytes, a byte that is 1 where a list stands
 -- and otherwise 0; then, where it stands, a count byte and the entries of 20 bytes each. A list has at most as many entries as the limits say.
-use Rattle.std.specs.Prelude.{ℕ, ◌<◌, ◌≡◌, Bool, true, false, List, [], ◌∷◌, ◌++◌, length, leb, eqb}
-use Rattle.std.proofs.Math.Option.{Option, none, some}
+use Rattle.std.specs.Prelude.{ℕ, ◌<◌, ◌≡◌, Bool, true, false, List, [], ◌∷◌, ◌++◌, length, leb, eqb, None, Option, Some}
 use Rattle.limits.specs.Limits.{LimitSet}
 use Rattle.codec.specs.Codec.{Reading, Codec, Pair, then, such, renamed, mapped, byte, two, four, eight, text, counted}
 use Rattle.methods.specs.Methods.{is_method}
@@ -26,16 +25,16 @@ bit = mapped from_bit to_bit (such byte is_bit)
 
 -- a value that may be absent: a byte that says whether it stands, then the value
 abbrev pub write_option : {A : Type 0} → Codec A → Option A → List ℕ
-write_option c none = 0 ∷ []
-write_option c (some a) = 1 ∷ c.write a
+write_option c None = 0 ∷ []
+write_option c (Some a) = 1 ∷ c.write a
 
 abbrev pub option_after : {A : Type 0} → Codec A → Bool → List ℕ → Option (Reading (Option A))
-option_after c false s = some (record { value = none; rest = s })
-option_after c true s = renamed some (c.read s)
+option_after c false s = Some (record { value = None; rest = s })
+option_after c true s = renamed Some (c.read s)
 
 abbrev pub read_option : {A : Type 0} → Codec A → Option (Reading Bool) → Option (Reading (Option A))
-read_option c none = none
-read_option c (some r) = option_after c r.value r.rest
+read_option c None = None
+read_option c (Some r) = option_after c r.value r.rest
 
 abbrev pub optional : {A : Type 0} → Codec A → Codec (Option A)
 optional c = record { write = write_option c; read = λ s. read_option c (bit.read s) }
@@ -96,8 +95,8 @@ AllFormed [] = Unit {0}
 AllFormed (p ∷ ps) = PendingFormed p × AllFormed ps
 
 abbrev pub ListFormed : LimitSet → Option (List Pending) → Type 0
-ListFormed L none = Unit {0}
-ListFormed L (some ps) = AllFormed ps × (is_short L ps ≡ true)
+ListFormed L None = Unit {0}
+ListFormed L (Some ps) = AllFormed ps × (is_short L ps ≡ true)
 
 pub record TrackedFormed (L : LimitSet) (t : Tracked) : Type 0 where
   pub id_short : length t.id < 65536

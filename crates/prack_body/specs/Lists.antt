@@ -4,8 +4,7 @@
 -- response is sent again for 64*T1 and then its request is refused, any number may wait once the first is acknowledged, an acknowledged one is removed, and RSeq,
 -- CSeq and method together name the response; the list departs from it here as the Rust does: 300 s to nearly 600 s, at most ten, and the first of an RSeq
 -- alone is looked at (docs/DIFFERENCES.md, "RFC 3262, PRACK lists").
-use Rattle.std.specs.Prelude.{ℕ, ◌+◌, ◌-◌, ◌*◌, Bool, true, false, cond, not, ◌&&◌, ◌||◌, List, [], ◌∷◌, ◌++◌, length, drop, eqb, leb}
-use Rattle.std.proofs.Math.Option.{Option, none, some}
+use Rattle.std.specs.Prelude.{ℕ, ◌+◌, ◌-◌, ◌*◌, Bool, true, false, cond, not, ◌&&◌, ◌||◌, List, [], ◌∷◌, ◌++◌, length, drop, eqb, leb, None, Option, Some}
 use Rattle.limits.specs.Limits.{LimitSet}
 
 -- a response that was registered: its numbers and method (the INVITE's, say), its code, whether a PRACK has acknowledged it, and when it was registered
@@ -43,8 +42,8 @@ staying test [] = []
 staying test (p ∷ ps) = cond (test p) (p ∷ staying test ps) (staying test ps)
 
 abbrev pub cleaned_list : LimitSet → (now : ℕ) → Option (List Pending) → Option (List Pending)
-cleaned_list L now none = none
-cleaned_list L now (some ps) = some (staying (stays L now) ps)
+cleaned_list L now None = None
+cleaned_list L now (Some ps) = Some (staying (stays L now) ps)
 
 -- so long after the last cleanup the next one is due
 abbrev pub is_due : LimitSet → (now : ℕ) → Tracked → Bool
@@ -52,21 +51,21 @@ is_due L now t = leb (nanoseconds L.cleanup) (elapsed now t.cleaned_at)
 
 -- what is held after the cleanup of a call at a time; for an identifier of which nothing was held the time stands, without a list
 unfoldable pub cleaned : LimitSet → (now : ℕ) (id : List ℕ) → Option Tracked → Tracked
-cleaned L now id none = record { id = id; cleaned_at = now; list = none }
-cleaned L now id (some t) = cond (is_due L now t) (record { id = t.id; cleaned_at = now; list = cleaned_list L now t.list }) t
+cleaned L now id None = record { id = id; cleaned_at = now; list = None }
+cleaned L now id (Some t) = cond (is_due L now t) (record { id = t.id; cleaned_at = now; list = cleaned_list L now t.list }) t
 
 -- ---- registering
 
 abbrev pub entries_of : Option (List Pending) → List Pending
-entries_of none = []
-entries_of (some ps) = ps
+entries_of None = []
+entries_of (Some ps) = ps
 
 -- the last entries, so that one more makes at most so many, and the new one
 unfoldable pub pushed : LimitSet → Pending → List Pending → List Pending
 pushed L p ps = drop (length ps + 1 - L.pending) ps ++ (p ∷ [])
 
 abbrev pub registered : LimitSet → Pending → Tracked → Tracked
-registered L p t = record { id = t.id; cleaned_at = t.cleaned_at; list = some (pushed L p (entries_of t.list)) }
+registered L p t = record { id = t.id; cleaned_at = t.cleaned_at; list = Some (pushed L p (entries_of t.list)) }
 
 -- a response as it is registered
 abbrev pub pending_of : (rseq cseq method code now : ℕ) → Pending
@@ -76,8 +75,8 @@ pending_of rseq cseq method code now = record { rseq = rseq; cseq = cseq; method
 
 -- the first entry of an RSeq
 unfoldable pub first_of_rseq : ℕ → List Pending → Option Pending
-first_of_rseq r [] = none
-first_of_rseq r (p ∷ ps) = cond (eqb p.rseq r) (some p) (first_of_rseq r ps)
+first_of_rseq r [] = None
+first_of_rseq r (p ∷ ps) = cond (eqb p.rseq r) (Some p) (first_of_rseq r ps)
 
 abbrev pub acknowledge : Pending → Pending
 acknowledge p = record { rseq = p.rseq; cseq = p.cseq; method = p.method; code = p.code; acknowledged = true; registered_at = p.registered_at }
@@ -88,8 +87,8 @@ marked r [] = []
 marked r (p ∷ ps) = cond (eqb p.rseq r) (acknowledge p ∷ ps) (p ∷ marked r ps)
 
 abbrev pub is_acknowledged : Option Pending → Bool
-is_acknowledged none = false
-is_acknowledged (some p) = p.acknowledged
+is_acknowledged None = false
+is_acknowledged (Some p) = p.acknowledged
 
 -- another list in its place
 abbrev pub with_list : Option (List Pending) → Tracked → Tracked
@@ -100,8 +99,8 @@ abbrev pub is_other : ℕ → Pending → Bool
 is_other r p = not (eqb p.rseq r) || not p.acknowledged
 
 abbrev pub without_pracked : ℕ → Option (List Pending) → Option (List Pending)
-without_pracked r none = none
-without_pracked r (some ps) = some (staying (is_other r) ps)
+without_pracked r None = None
+without_pracked r (Some ps) = Some (staying (is_other r) ps)
 
 -- `get_pending`: those not acknowledged
 abbrev pub is_open : Pending → Bool

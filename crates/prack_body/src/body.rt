@@ -1,6 +1,5 @@
 // What is held for one identifier text, without the text, in a small array of which the first n bytes are its body (specs/Body.antt).
-ghost use Rattle.std.specs.Prelude.{◌≡◌, List, ℕ, ◌+◌, ◌-◌, ◌≤◌, ◌<◌, length};
-ghost use Rattle.std.proofs.Math.Option.{none};
+ghost use Rattle.std.specs.Prelude.{◌≡◌, List, ℕ, ◌+◌, ◌-◌, ◌≤◌, ◌<◌, length, None};
 ghost use Rattle.limits.specs.Limits.{rust_limits};
 ghost use Rattle.prack_body.specs.Lists.{Tracked, cleaned};
 ghost use Rattle.prack_body.specs.Body.{Holds, Stands};
@@ -24,7 +23,7 @@ pub fn load(bytes: &[u8], held: TrackedAt, body: &mut [u8]) -> usize
 // The body for an identifier of which nothing was held: a time without a list. Its length.
 pub fn begin(body: &mut [u8], time: u64) -> usize
     requires { 9 ≤ length body.old }
-    ensures { (id : List ℕ) → length id < 65536 → Holds body.new result (cleaned rust_limits time id none) }
+    ensures { (id : List ℕ) → length id < 65536 → Holds body.new result (cleaned rust_limits time id None) }
 {
     let end = write_eight(body, 0, time);
     body[end] = 0;

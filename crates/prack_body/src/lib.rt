@@ -7,7 +7,6 @@ ghost use Rattle.codec.specs.Codec.{read_all};
 ghost use Rattle.prack_body.specs.Layout.{pending_form, list_form, tracked_form};
 ghost use Rattle.prack_body.specs.Places.{is_read, list_from, tracked_from};
 
-use codec::Text;
 use limits::Limits;
 use text::Span;
 
@@ -50,12 +49,6 @@ pub struct ListAt {
     pub end: usize,
 }
 
-#[derive(Clone, Copy)]
-pub enum ListReading {
-    At(ListAt),
-    Broken,
-}
-
 // Where the parts lie of what is held for one identifier text, and the last cleanup's time.
 #[derive(Clone, Copy)]
 pub struct TrackedAt {
@@ -67,29 +60,19 @@ pub struct TrackedAt {
     pub end: usize,
 }
 
-#[derive(Clone, Copy)]
-pub enum TrackedReading {
-    Whole(TrackedAt),
-    Broken,
-}
-
 // What is held, whose text begins with its length bytes at a place.
-pub fn read_tracked(bytes: &[u8], at: usize) -> TrackedReading
+pub fn read_tracked(bytes: &[u8], at: usize) -> Option<TrackedAt>
     requires { at ≤ length bytes.now }
     ensures { result ≡ tracked_from at ((tracked_form rust_limits).read (drop at bytes.now)) }
 {
-    let Text::At(id) = codec::read_text(bytes, at) else {
-        return TrackedReading::Broken;
-    };
+    let id = codec::read_text(bytes, at)?;
     let time = id.start + id.length;
     if bytes.len() - time < LIST_AT {
-        return TrackedReading::Broken;
+        return None;
     }
     let cleaned_at = codec::read_eight(bytes, time);
-    let ListReading::At(l) = read_list(bytes, time + LIST_AT) else {
-        return TrackedReading::Broken;
-    };
-    TrackedReading::Whole(TrackedAt {
+    let l = read_list(bytes, time + LIST_AT)?;
+    Some(TrackedAt {
         id,
         cleaned_at,
         has_list: l.has_list,
@@ -100,16 +83,16 @@ pub fn read_tracked(bytes: &[u8], at: usize) -> TrackedReading
 }
 
 // A byte that says whether a list stands, then its count byte and its entries.
-fn read_list(bytes: &[u8], at: usize) -> ListReading
+fn read_list(bytes: &[u8], at: usize) -> Option<ListAt>
     requires { at ≤ length bytes.now }
     ensures { result ≡ list_from at ((list_form rust_limits).read (drop at bytes.now)) }
 {
     if bytes.len() == at {
-        return ListReading::Broken;
+        return None;
     }
     let stands = bytes[at];
     if stands == 0 {
-        return ListReading::At(ListAt {
+        return Some(ListAt {
             has_list: false,
             count: 0,
             first: at + 1,
@@ -117,22 +100,22 @@ fn read_list(bytes: &[u8], at: usize) -> ListReading
         });
     }
     if stands != 1 {
-        return ListReading::Broken;
+        return None;
     }
     if bytes.len() - at < LIST_HEAD {
-        return ListReading::Broken;
+        return None;
     }
     let count = codec::wide(bytes[at + 1]);
     if Limits::MAX_PENDING_PRACK_PER_DIALOG < count {
-        return ListReading::Broken;
+        return None;
     }
     if bytes.len() - at - LIST_HEAD < count * ENTRY_SIZE {
-        return ListReading::Broken;
+        return None;
     }
     if !are_entries(bytes, at + LIST_HEAD, count) {
-        return ListReading::Broken;
+        return None;
     }
-    ListReading::At(ListAt {
+    Some(ListAt {
         has_list: true,
         count,
         first: at + LIST_HEAD,

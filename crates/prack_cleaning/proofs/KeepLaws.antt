@@ -4,10 +4,10 @@ use native.Mathlib.Omega.{arith}
 use mathlib.Core.Path.{◌≡◌, refl, sym, ap, ap₂, subst, ◌∙◌}
 use mathlib.Core.Bool.{Bool, true, false, cond}
 use mathlib.Core.List.{List, [], ◌∷◌, ◌++◌, append_assoc, append-nil}
-use mathlib.Core.Option.{Option, none, some}
 use lib.ListN.{length, take, drop, set, length-append, take-append-drop}
 use lib.Seq.{drop-drop}
 use borrow.Author.Tests.{le-leb, lt-leb}
+use Rattle.std.specs.Prelude.{None, Option, Some}
 use Rattle.limits.specs.Limits.{rust_limits}
 use Rattle.edit.specs.Edit.{put_at}
 use Rattle.codec.specs.Codec.{write_all, eight}
@@ -109,7 +109,7 @@ module _ (test : Pending → Bool) (s₀ rest : List ℕ) (ps : List Pending) wh
 
 -- ---- what is held, with fewer entries
 
-keeps_formed : (which : Test) (t : Tracked) (ps : List Pending) → TrackedFormed rust_limits t → AllFormed ps → length ps ≤ 10 → TrackedFormed rust_limits (with_list (some (staying (test_of which) ps)) t)
+keeps_formed : (which : Test) (t : Tracked) (ps : List Pending) → TrackedFormed rust_limits t → AllFormed ps → length ps ≤ 10 → TrackedFormed rust_limits (with_list (Some (staying (test_of which) ps)) t)
 keeps_formed which t ps f g l = record {
   id_short = f.id_short;
   time_fits = f.time_fits;
@@ -122,8 +122,8 @@ module _ {s : List ℕ} {n : ℕ} {t : Tracked} (h : Holds s n t) (which : Test)
   kept_none l = by t.list refl
     where
       by : (o : Option (List Pending)) → t.list ≡ o → Holds s n (with_list (kept_list which t.list) t)
-      by none e = subst (λ (x : Option (List Pending)). Holds s n (with_list (kept_list which x) t)) (sym e) (subst (λ (x : Option (List Pending)). Holds s n (with_list x t)) e h)
-      by (some ps) e = absurd (omega (arith, list_size h ps e))
+      by None e = subst (λ (x : Option (List Pending)). Holds s n (with_list (kept_list which x) t)) (sym e) (subst (λ (x : Option (List Pending)). Holds s n (with_list x t)) e h)
+      by (Some ps) e = absurd (omega (arith, list_size h ps e))
 
   -- the entries that stay, and their count
   pub kept_list_lem : 10 ≤ n → {k : ℕ} {o : List ℕ} → ((ps : List Pending) (rest : List ℕ) → AllFormed ps → (n - 10) / 20 ≡ length ps → drop 10 s ≡ write_all pending_form ps ++ rest → Kept s (staying (test_of which) ps) o k)
@@ -131,35 +131,35 @@ module _ {s : List ℕ} {n : ℕ} {t : Tracked} (h : Holds s n t) (which : Test)
   kept_list_lem l {k} {o} f = by t.list refl
     where
       by : (x : Option (List Pending)) → t.list ≡ x → Holds (set o 9 k) (10 + k * 20) (with_list (kept_list which t.list) t)
-      by none e = absurd (omega (arith, none_size h e))
-      by (some ps) e =
+      by None e = absurd (omega (arith, none_size h e))
+      by (Some ps) e =
           let g = f ps (drop n s) (list_good h ps e) (count_is h ps e) (entries_lie h ps e) in
-          let w = whole h (some ps) e in
+          let w = whole h (Some ps) e in
           let kps = staying (test_of which) ps in
           let a : o ≡ (take 10 s ++ write_all pending_form kps) ++ drop (10 + k * 20) o = sym (take-append-drop (10 + k * 20) o) ∙ ap (λ (z : List ℕ). z ++ drop (10 + k * 20) o) g.are in
           let b : o ≡ eight.write t.cleaned_at ++ (1 ∷ length ps ∷ (write_all pending_form kps ++ drop (10 + k * 20) o)) = a ∙ ap (λ (z : List ℕ). (take 10 z ++ write_all pending_form kps) ++ drop (10 + k * 20) o) w in
-          let d : set o 9 k ≡ body_of (with_list (some kps) t) ++ drop (10 + k * 20) o = ap (λ (z : List ℕ). set z 9 k) b ∙ ap (λ (z : ℕ). eight.write t.cleaned_at ++ (1 ∷ z ∷ (write_all pending_form kps ++ drop (10 + k * 20) o))) g.counts in
+          let d : set o 9 k ≡ body_of (with_list (Some kps) t) ++ drop (10 + k * 20) o = ap (λ (z : List ℕ). set z 9 k) b ∙ ap (λ (z : ℕ). eight.write t.cleaned_at ++ (1 ∷ z ∷ (write_all pending_form kps ++ drop (10 + k * 20) o))) g.counts in
           subst (λ (x : Option (List Pending)). Holds (set o 9 k) (10 + k * 20) (with_list (kept_list which x) t)) (sym e)
           (hold (drop (10 + k * 20) o) (keeps_formed which t ps h.formed (list_good h ps e) (list_few h ps e)) d (omega (arith, g.counts, entries_size kps)))
 
 -- ---- cleaning
 
 young_list : (time : ℕ) (o : Option (List Pending)) → kept_list (tests.Young time) o ≡ cleaned_list rust_limits time o
-young_list time none = refl
-young_list time (some ps) = refl
+young_list time None = refl
+young_list time (Some ps) = refl
 
 -- the test of `remove_pracked`
 pub other_list : (r : ℕ) (o : Option (List Pending)) → kept_list (tests.Other r) o ≡ without_pracked r o
-other_list r none = refl
-other_list r (some ps) = refl
+other_list r None = refl
+other_list r (Some ps) = refl
 
 module _ (time : ℕ) (t : Tracked) where
   -- too soon
-  pub not_due : time - t.cleaned_at < 300000000000 → cleaned rust_limits time t.id (some t) ≡ t
+  pub not_due : time - t.cleaned_at < 300000000000 → cleaned rust_limits time t.id (Some t) ≡ t
   unfolding cleaned
   not_due h = rw (lt-leb 300000000000 (time - t.cleaned_at) h)
 
   -- 300 s or more after the last cleanup
-  pub due : 300000000000 ≤ time - t.cleaned_at → cleaned rust_limits time t.id (some t) ≡ record { id = t.id; cleaned_at = time; list = kept_list (tests.Young time) t.list }
+  pub due : 300000000000 ≤ time - t.cleaned_at → cleaned rust_limits time t.id (Some t) ≡ record { id = t.id; cleaned_at = time; list = kept_list (tests.Young time) t.list }
   unfolding cleaned
   due h = rw (le-leb 300000000000 (time - t.cleaned_at) h, young_list time t.list)

@@ -1,8 +1,7 @@
 // The entries that stay in a body (prack_body/specs/Body.antt), moved together: the cleanup of a call, and `remove_pracked`.
 #![tactic(auto)]
 
-ghost use Rattle.std.specs.Prelude.{◌≡◌, List, ◌++◌, ℕ, ◌+◌, ◌*◌, ◌≤◌, length, drop};
-ghost use Rattle.std.proofs.Math.Option.{some};
+ghost use Rattle.std.specs.Prelude.{◌≡◌, List, ◌++◌, ℕ, ◌+◌, ◌*◌, ◌≤◌, length, drop, Some};
 ghost use Rattle.limits.specs.Limits.{rust_limits};
 ghost use Rattle.codec.specs.Codec.{write_all};
 ghost use Rattle.prack_body.specs.Lists.{Pending, Tracked, staying, cleaned, with_list, without_pracked};
@@ -20,7 +19,7 @@ use prack_staying::{Test, elapsed, passes};
 // The cleanup of a call at a time, where it is due: the time stored, and the entries that stay. The new length.
 pub fn clean(body: &mut [u8], n: usize, time: u64) -> usize
     requires { (9 ≤ n) × ((n ≤ body_room) × (body_room ≤ length body.old)) }
-    ensures { (t : Tracked) → Holds body.old n t → Holds body.new result (cleaned rust_limits time t.id (some t)) }
+    ensures { (t : Tracked) → Holds body.old n t → Holds body.new result (cleaned rust_limits time t.id (Some t)) }
 {
     let since = read_eight(body, 0);
     if elapsed(time, since) < Limits::PENDING_PRACK_CLEANUP_INTERVAL_SECS * 1000000000 {

@@ -3,9 +3,10 @@ use Prim.Native.Nat.{ℕ, ◌+◌, ◌-◌, ◌<◌}
 use native.Mathlib.Omega.{arith}
 use mathlib.Core.Path.{◌≡◌, sym, ap, ap₂, subst, ◌∙◌}
 use mathlib.Core.List.{List, ◌++◌, append_assoc}
-use mathlib.Core.Option.{Option, none, some}
 use lib.ListN.{length, take, length-append}
+use Rattle.std.specs.Prelude.{None, Option, Result, Some}
 use Rattle.limits.specs.Limits.{rust_limits}
+use Rattle.limits.specs.declared.Refusal.{Refusal}
 use Rattle.edit.specs.Edit.{spliced}
 use Rattle.codec.specs.Codec.{text}
 use Rattle.codec.proofs.CodecLaws.{Bytes}
@@ -15,7 +16,6 @@ use Rattle.prack_body.specs.Lists.{Tracked, cleaned}
 use Rattle.prack_body.specs.Body.{body_of, Holds, Stands}
 use Rattle.prack_body.specs.declared.TrackedAt.{TrackedAt}
 use Rattle.prack_body.proofs.BodyLaws.{places_end}
-use Rattle.output.specs.declared.Written.{Written}
 use Rattle.prack_entries.specs.Entries.{key_of_text, key_of, encode_tracked, clean_for}
 use Rattle.prack_entries.specs.Places.{Sought}
 use Rattle.prack_entries.specs.declared.finding.Slot.{Slot as SlotAt}
@@ -68,11 +68,11 @@ set_free id bytes used at b s t e =
     ∙ ap₂ (λ (i l : List ℕ). spliced at 0 (text.write i ++ body_of t) l) e (was bytes used b s.within s.list s.are).0
 
 -- what the function promises
-abbrev pub Set : (id bytes body : List ℕ) (used : ℕ) (slot : SlotAt) (r : Written) (after : List ℕ) → Type 0
+abbrev pub Set : (id bytes body : List ℕ) (used : ℕ) (slot : SlotAt) (r : Result ℕ Refusal) (after : List ℕ) → Type 0
 Set id bytes body used slot r after =
     (s : Sought id bytes used slot) (t : Tracked) → t.id ≡ id → body ≡ body_of t → Answered bytes (encode_tracked rust_limits (set_entry key_of t s.list)) r after
 
-module _ (id bytes body : List ℕ) (used : ℕ) (b : Bytes bytes) {slot : SlotAt} {r : Written} {after : List ℕ} where
+module _ (id bytes body : List ℕ) (used : ℕ) (b : Bytes bytes) {slot : SlotAt} {r : Result ℕ Refusal} {after : List ℕ} where
   pub by_held : {p : TrackedAt} → slot ≡ slots.Held p → Answered bytes (spliced (p.id.start + p.id.length) (p.end - (p.id.start + p.id.length)) body (take used bytes)) r after → Set id bytes body used slot r after
   by_held {p} e a s t q w =
       subst (λ (l : List ℕ). Answered bytes l r after)
@@ -88,12 +88,12 @@ module _ (id bytes body : List ℕ) (used : ℕ) (b : Bytes bytes) {slot : SlotA
 module _ (bytes : List ℕ) (used time : ℕ) (b : Bytes bytes) {slot : SlotAt} where
   -- a text that is held: what was loaded, cleaned
   pub copied : {p : TrackedAt} → slot ≡ slots.Held p → {n r : ℕ} {mid after : List ℕ} → ((t : Tracked) → Stands (take used bytes) p t → Holds mid n t)
-      → ((t : Tracked) → Holds mid n t → Holds after r (cleaned rust_limits time t.id (some t))) → (id : List ℕ) (s : Sought id bytes used slot) → Holds after r (clean_for rust_limits time id s.list)
+      → ((t : Tracked) → Holds mid n t → Holds after r (cleaned rust_limits time t.id (Some t))) → (id : List ℕ) (s : Sought id bytes used slot) → Holds after r (clean_for rust_limits time id s.list)
   copied {p} e {n} {r} {mid} {after} load clean id s =
       let f = found id bytes used p b (renamed s e) in
       subst (Holds after r) (ap₂ (cleaned rust_limits time) f.same (sym f.is)) (clean f.t (load f.t f.stands))
 
   -- a text that isn't: a time without a list
-  pub begun : {at : ℕ} → slot ≡ slots.Free at → {r : ℕ} {after : List ℕ} → ((id : List ℕ) → length id < 65536 → Holds after r (cleaned rust_limits time id none))
+  pub begun : {at : ℕ} → slot ≡ slots.Free at → {r : ℕ} {after : List ℕ} → ((id : List ℕ) → length id < 65536 → Holds after r (cleaned rust_limits time id None))
       → (id : List ℕ) (s : Sought id bytes used slot) → length id < 65536 → Holds after r (clean_for rust_limits time id s.list)
   begun {at} e {r} {after} begin id s l = subst (λ (o : Option Tracked). Holds after r (cleaned rust_limits time id o)) (sym (lacking id bytes used at b (renamed s e)).0) (begin id l)

@@ -3,8 +3,8 @@ use Prim.Native.Nat.{ℕ, ◌+◌, ◌<◌}
 use native.Mathlib.Omega.{arith}
 use mathlib.Core.Path.{◌≡◌, refl, ap}
 use mathlib.Core.List.{List, ◌++◌}
-use mathlib.Core.Option.{Option, none, some}
 use lib.ListN.{length, drop, length-append, length-drop}
+use Rattle.std.specs.Prelude.{None, Option, Some}
 use Rattle.limits.specs.Limits.{rust_limits}
 use Rattle.codec.specs.Codec.{Reading, Codec}
 use Rattle.codec.proofs.CodecLaws.{Exact}
@@ -15,8 +15,6 @@ use Rattle.prack_body.specs.Layout.{tracked_form, TrackedFormed}
 use Rattle.prack_body.specs.Places.{tracked_places, tracked_from}
 use Rattle.prack_body.specs.Body.{body_of}
 use Rattle.prack_body.specs.declared.TrackedAt.{TrackedAt}
-use Rattle.prack_body.specs.declared.TrackedReading.{TrackedReading}
-use Rattle.prack_body.specs.declared.TrackedReading.TheVariants as reading
 use Rattle.prack_body.proofs.LayoutLaws.{tracked_exact, tracked_long}
 use Rattle.prack_body.proofs.BodyLaws.{places_end, text_lies}
 use Rattle.prack_entries.specs.Entries.{key_of_text, key_of}
@@ -41,13 +39,13 @@ pub lies : (s : List ℕ) (at : ℕ) (t : Tracked) (rest : List ℕ) → drop at
 lies s at t rest starts = (ap key_of_text (text_lies s at t rest starts), omega (arith, ap length starts, length-append (form.write t) rest, length-drop at s, size t))
 
 -- what the answer of a reading says
-pub whole_says : (at : ℕ) (o : Option (Reading Tracked)) (p : TrackedAt) → tracked_from at o ≡ reading.Whole p → (x : Reading Tracked) × ((o ≡ some x) × (tracked_places at x.value ≡ p))
-whole_says at none p e = absurd (let z : ◌≡◌ {A = ℕ} 0 1 = cc in omega arith)
-whole_says at (some x) p e = (x, (refl, (cc)))
+pub whole_says : (at : ℕ) (o : Option (Reading Tracked)) (p : TrackedAt) → tracked_from at o ≡ Some p → (x : Reading Tracked) × ((o ≡ Some x) × (tracked_places at x.value ≡ p))
+whole_says at None p e = absurd (let z : ◌≡◌ {A = ℕ} 0 1 = cc in omega arith)
+whole_says at (Some x) p e = (x, (refl, (cc)))
 
-pub broken_says : (at : ℕ) (o : Option (Reading Tracked)) → tracked_from at o ≡ reading.Broken → o ≡ none
-broken_says at none e = refl
-broken_says at (some x) e = absurd (let z : ◌≡◌ {A = ℕ} 0 1 = cc in omega arith)
+pub broken_says : (at : ℕ) (o : Option (Reading Tracked)) → tracked_from at o ≡ None → o ≡ None
+broken_says at None e = refl
+broken_says at (Some x) e = absurd (let z : ◌≡◌ {A = ℕ} 0 1 = cc in omega arith)
 
 abbrev pub layout : Layout Tracked
 layout = record {
@@ -63,10 +61,10 @@ layout = record {
   Within = λ s p. PartWithin s p.id;
   ends = places_end;
   lies = lies;
-  Answer = TrackedReading;
+  Answer = Option TrackedAt;
   answer_of = tracked_from;
-  whole = reading.Whole;
-  broken = reading.Broken;
+  whole = Some;
+  broken = None;
   whole_says = whole_says;
   broken_says = broken_says;
 }

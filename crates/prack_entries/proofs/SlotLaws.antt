@@ -4,9 +4,9 @@ use native.Mathlib.Omega.{arith}
 use mathlib.Core.Path.{◌≡◌, refl, sym, ap, ap₂, ◌∙◌}
 use mathlib.Core.Bool.{true}
 use mathlib.Core.List.{List, [], ◌++◌}
-use mathlib.Core.Option.{Option, none, some}
 use lib.ListN.{length, take, drop}
 use lib.Seq.{length-take-le, drop-append_seam}
+use Rattle.std.specs.Prelude.{None, Option, Some}
 use Rattle.limits.specs.Limits.{rust_limits}
 use Rattle.edit.specs.Edit.{spliced}
 use Rattle.codec.proofs.CodecLaws.{Bytes, bytes_take, GoodAll}
@@ -34,8 +34,8 @@ pub sought : (id bytes : List ℕ) (used : ℕ) (slot : SlotAt) → slot ≡ slo
 sought id bytes used slot e f = by (slot_used form key_of (key_of_text id) bytes used) (says form key_of (key_of_text id) bytes used) e
   where
     by : (o : Option (Slot Tracked)) → Says form key_of (key_of_text id) bytes used o → slot ≡ slot_of o → Sought id bytes used slot
-    by none w q = absurd (f q)
-    by (some x) w q = record { is = e; within = w.within; list = w.list; are = w.are }
+    by None w q = absurd (f q)
+    by (Some x) w q = record { is = e; within = w.within; list = w.list; are = w.are }
 
 pub held_sought : (id bytes : List ℕ) (used : ℕ) (p : TrackedAt) → slot_for id bytes used ≡ slots.Held p → Sought id bytes used (slots.Held p)
 held_sought id bytes used p e = sought id bytes used (slots.Held p) (sym e) (λ q. let z : ◌≡◌ {A = ℕ} 0 1 = cc in omega arith)
@@ -48,34 +48,34 @@ pub unreadable : (id bytes : List ℕ) (used : ℕ) → slot_for id bytes used �
 unreadable id bytes used e = by (slot_used form key_of (key_of_text id) bytes used) (says form key_of (key_of_text id) bytes used) e
   where
     by : (o : Option (Slot Tracked)) → Says form key_of (key_of_text id) bytes used o → slot_of o ≡ slots.Broken → Unreadable form key_of (key_of_text id) bytes used
-    by none w q = w
-    by (some (held place t)) w q = absurd (let z : ◌≡◌ {A = ℕ} 0 1 = cc in omega arith)
-    by (some (free place)) w q = absurd (let z : ◌≡◌ {A = ℕ} 0 1 = cc in omega arith)
+    by None w q = w
+    by (Some (held place t)) w q = absurd (let z : ◌≡◌ {A = ℕ} 0 1 = cc in omega arith)
+    by (Some (free place)) w q = absurd (let z : ◌≡◌ {A = ℕ} 0 1 = cc in omega arith)
 
 -- ---- what was read
 
 -- the used bytes are those of what is held
-pub was : (bytes : List ℕ) (used : ℕ) → Bytes bytes → used ≤ length bytes → (ts : List Tracked) → decode_tracked rust_limits (take used bytes) ≡ some ts
+pub was : (bytes : List ℕ) (used : ℕ) → Bytes bytes → used ≤ length bytes → (ts : List Tracked) → decode_tracked rust_limits (take used bytes) ≡ Some ts
     → (encode_tracked rust_limits ts ≡ take used bytes) × (length (encode_tracked rust_limits ts) ≡ used)
 was bytes used b h ts r =
     let e : encode_tracked rust_limits ts ≡ take used bytes = sym (decoded form key_of (TrackedFormed rust_limits) exact (take used bytes) ts (bytes_take used bytes b) r).0 in
     (e, ap length e ∙ length-take-le used bytes h)
 
 -- each of it is well formed, and the texts ascend
-pub well : (bytes : List ℕ) (used : ℕ) → Bytes bytes → (ts : List Tracked) → decode_tracked rust_limits (take used bytes) ≡ some ts → GoodAll (TrackedFormed rust_limits) ts × (ascending key_of ts ≡ true)
+pub well : (bytes : List ℕ) (used : ℕ) → Bytes bytes → (ts : List Tracked) → decode_tracked rust_limits (take used bytes) ≡ Some ts → GoodAll (TrackedFormed rust_limits) ts × (ascending key_of ts ≡ true)
 well bytes used b ts r =
     let d = decoded form key_of (TrackedFormed rust_limits) exact (take used bytes) ts (bytes_take used bytes b) r in
     (d.1, d.2)
 
 -- the slot is the one among what is held
-settled : (id bytes : List ℕ) (used : ℕ) (slot : SlotAt) (s : Sought id bytes used slot) → slot ≡ slot_of (some (slot_in form key_of (key_of_text id) 0 s.list))
+settled : (id bytes : List ℕ) (used : ℕ) (slot : SlotAt) (s : Sought id bytes used slot) → slot ≡ slot_of (Some (slot_in form key_of (key_of_text id) 0 s.list))
 settled id bytes used slot s =
     s.is ∙ ap slot_of (sym (in_used form key_of (key_of_text id) bytes used s.within) ∙ ap (slot_read form key_of (key_of_text id)) s.are)
 
 pub broken_not : (id bytes : List ℕ) (used : ℕ) → Sought id bytes used slots.Broken → ⊥
 broken_not id bytes used s = by (slot_in form key_of (key_of_text id) 0 s.list) (settled id bytes used slots.Broken s)
   where
-    by : (x : Slot Tracked) → slots.Broken ≡ slot_of (some x) → ⊥
+    by : (x : Slot Tracked) → slots.Broken ≡ slot_of (Some x) → ⊥
     by (held place t) q = let z : ◌≡◌ {A = ℕ} 0 1 = cc in omega arith
     by (free place) q = let z : ◌≡◌ {A = ℕ} 0 1 = cc in omega arith
 
@@ -91,7 +91,7 @@ pub record HeldAt (id : List ℕ) (p : TrackedAt) (ts : List Tracked) : Type 0 w
 pub held_there : (id bytes : List ℕ) (used : ℕ) (p : TrackedAt) (s : Sought id bytes used (slots.Held p)) → HeldAt id p s.list
 held_there id bytes used p s = by (slot_in form key_of (key_of_text id) 0 s.list) refl (settled id bytes used (slots.Held p) s)
   where
-    by : (x : Slot Tracked) → slot_in form key_of (key_of_text id) 0 s.list ≡ x → slots.Held p ≡ slot_of (some x) → HeldAt id p s.list
+    by : (x : Slot Tracked) → slot_in form key_of (key_of_text id) 0 s.list ≡ x → slots.Held p ≡ slot_of (Some x) → HeldAt id p s.list
     by (held place t) e q = record { at = place; t = t; stands = held_at form key_of (key_of_text id) s.list e; placed = (cc) }
     by (free place) e q = absurd (let z : ◌≡◌ {A = ℕ} 0 1 = cc in omega arith)
 
@@ -102,7 +102,7 @@ same_text e = cc
 -- what is held for it, where it lies, and the bytes without it
 pub record Found (id bytes : List ℕ) (used : ℕ) (p : TrackedAt) (ts : List Tracked) : Type 0 where
   pub t : Tracked
-  pub is : held_for id ts ≡ some t
+  pub is : held_for id ts ≡ Some t
   pub same : t.id ≡ id
   pub stands : Stands (take used bytes) p t
   pub start_past : 2 ≤ p.id.start
@@ -116,7 +116,7 @@ module _ (id bytes : List ℕ) (used : ℕ) (p : TrackedAt) (b : Bytes bytes) (s
   among : Held form key_of (key_of_text id) 0 h.at h.t s.list
   among = h.stands
 
-  entry_is : held_for id s.list ≡ some h.t
+  entry_is : held_for id s.list ≡ Some h.t
   entry_is = held_entry form key_of (key_of_text id) s.list h.at h.t among
 
   -- its bytes, and those after them
@@ -166,13 +166,13 @@ found id bytes used p b s = by_slot id bytes used p b s (held_there id bytes use
 pub free_there : (id bytes : List ℕ) (used at : ℕ) (s : Sought id bytes used (slots.Free at)) → Free form key_of (key_of_text id) 0 at s.list
 free_there id bytes used at s = by (slot_in form key_of (key_of_text id) 0 s.list) refl (settled id bytes used (slots.Free at) s)
   where
-    by : (x : Slot Tracked) → slot_in form key_of (key_of_text id) 0 s.list ≡ x → slots.Free at ≡ slot_of (some x) → Free form key_of (key_of_text id) 0 at s.list
+    by : (x : Slot Tracked) → slot_in form key_of (key_of_text id) 0 s.list ≡ x → slots.Free at ≡ slot_of (Some x) → Free form key_of (key_of_text id) 0 at s.list
     by (held place t) e q = absurd (let z : ◌≡◌ {A = ℕ} 0 1 = cc in omega arith)
     by (free place) e q = free_at form key_of (key_of_text id) s.list (e ∙ ap free (let z : place ≡ at = cc in z))
 
 -- nothing is held for it, and its place lies in the used bytes
 pub lacking : (id bytes : List ℕ) (used at : ℕ) → Bytes bytes → (s : Sought id bytes used (slots.Free at))
-    → (held_for id s.list ≡ none) × ((without_entry key_of (key_of_text id) s.list ≡ s.list) × (at ≤ used))
+    → (held_for id s.list ≡ None) × ((without_entry key_of (key_of_text id) s.list ≡ s.list) × (at ≤ used))
 lacking id bytes used at b s =
     let f = free_there id bytes used at s in
     let d : ascending key_of s.list ≡ true = (well bytes used b s.list s.are).1 in (

@@ -6,17 +6,17 @@ use mathlib.Core.List.{List, ◌++◌}
 use lib.ListN.{length, take, drop, length-append, length-drop}
 use lib.Seq.{length-take-le}
 use borrow.Author.Tests.{lt-ltb, le-ltb}
-use Rattle.limits.specs.Outcome.{refused, given, cause_if, refuse_by}
+use Rattle.std.specs.Prelude.{Err, Ok, Result}
+use Rattle.limits.specs.Outcome.{cause_if, refuse_by}
+use Rattle.limits.specs.declared.Refusal.{Refusal}
 use Rattle.limits.specs.declared.Refusal.TheVariants.{NoRoom}
 use Rattle.edit.specs.Edit.{over, put_at, spliced, tail_moved}
 use Rattle.edit.proofs.EditLaws.{Wrote, wrote_then, replace_law}
 use Rattle.output.specs.Output.{fitted, leaves, written_from}
-use Rattle.output.specs.declared.Written.{Written}
-use Rattle.output.specs.declared.Written.TheVariants as written
 use Rattle.codec.specs.Codec.{text}
 
 -- what is answered for a list that is to be written, and what the bytes then are
-abbrev pub Answered : List ℕ → List ℕ → Written → List ℕ → Type 0
+abbrev pub Answered : List ℕ → List ℕ → Result ℕ Refusal → List ℕ → Type 0
 Answered bytes new r after = (r ≡ written_from (fitted (length bytes) new)) × (after ≡ leaves (fitted (length bytes) new) bytes)
 
 module _ (bytes piece : List ℕ) (used at old : ℕ) (a : at + old ≤ used) (h : used ≤ length bytes) where
@@ -29,16 +29,16 @@ module _ (bytes piece : List ℕ) (used at old : ℕ) (a : at + old ≤ used) (h
       omega (arith, length-append (take at (take used bytes)) (piece ++ drop (at + old) (take used bytes)), length-append piece (drop (at + old) (take used bytes)), length-take-le used bytes h, length-take-le at (take used bytes) (omega (arith, a, length-take-le used bytes h)), length-drop (at + old) (take used bytes), a)
 
   -- 18
-  pub no_room : length bytes - (used - old) < length piece → Answered bytes changed (written.Refused NoRoom) bytes
+  pub no_room : length bytes - (used - old) < length piece → Answered bytes changed (Err NoRoom) bytes
   no_room q =
-      let f : fitted (length bytes) changed ≡ refused NoRoom = ap (λ t. refuse_by (cause_if t NoRoom) (given changed)) (lt-ltb (length bytes) (length changed) (omega (arith, changed_length, a, h, q))) in
+      let f : fitted (length bytes) changed ≡ Err NoRoom = ap (λ t. refuse_by (cause_if t NoRoom) (Ok changed)) (lt-ltb (length bytes) (length changed) (omega (arith, changed_length, a, h, q))) in
       (sym (ap written_from f), sym (ap (λ o. leaves o bytes) f))
 
   -- written
-  pub replaced : length piece ≤ length bytes - (used - old) → {n : ℕ} {after : List ℕ} → n ≡ used - old + length piece → after ≡ over changed bytes → Answered bytes changed (written.Length n) after
+  pub replaced : length piece ≤ length bytes - (used - old) → {n : ℕ} {after : List ℕ} → n ≡ used - old + length piece → after ≡ over changed bytes → Answered bytes changed (Ok n) after
   replaced q {n} {after} l e =
-      let f : fitted (length bytes) changed ≡ given changed = ap (λ t. refuse_by (cause_if t NoRoom) (given changed)) (le-ltb (length bytes) (length changed) (omega (arith, changed_length, a, h, q))) in
-      (ap written.Length (l ∙ sym changed_length) ∙ sym (ap written_from f), e ∙ sym (ap (λ o. leaves o bytes) f))
+      let f : fitted (length bytes) changed ≡ Ok changed = ap (λ t. refuse_by (cause_if t NoRoom) (Ok changed)) (le-ltb (length bytes) (length changed) (omega (arith, changed_length, a, h, q))) in
+      (ap Ok (l ∙ sym changed_length) ∙ sym (ap written_from f), e ∙ sym (ap (λ o. leaves o bytes) f))
 
 -- a text with its length bytes and a body behind it
 pub piece_size : (id body : List ℕ) → length (text.write id ++ body) ≡ 2 + length id + length body
@@ -47,7 +47,7 @@ piece_size id body = omega (arith, length-append (text.write id) body)
 -- the tail moved, and text and body put before it
 pub inserted : (id body bytes : List ℕ) (used at : ℕ) → at ≤ used → used ≤ length bytes → {size n m : ℕ} {moved x after : List ℕ} → size ≡ 2 + length id + length body → size ≤ length bytes - used
     → n ≡ used - 0 + size → moved ≡ tail_moved used at 0 size bytes → length moved ≡ length bytes → Wrote at (text.write id) moved m x → after ≡ put_at m body x
-    → Answered bytes (spliced at 0 (text.write id ++ body) (take used bytes)) (written.Length n) after
+    → Answered bytes (spliced at 0 (text.write id ++ body) (take used bytes)) (Ok n) after
 inserted id body bytes used at a h {size} {n} {m} {moved} {x} {after} s q l t k w e =
     let piece : List ℕ = text.write id ++ body in
     let long : size ≡ length piece = s ∙ sym (piece_size id body) in

@@ -1,7 +1,6 @@
 -- The PRACK store's contents: what is held for each identifier text, in strictly ascending order of the texts (docs/LAYOUTS.md, "The PRACK store").
 -- Document 01, "Intervals, PRACK, RSeq": "PRACK lists are held per identifier text, in a second lent store, with the last cleanup's time".
-use Rattle.std.specs.Prelude.{ℕ, List, [], ◌∷◌}
-use Rattle.std.proofs.Math.Option.{Option}
+use Rattle.std.specs.Prelude.{ℕ, List, [], ◌∷◌, Option}
 use Rattle.limits.specs.Limits.{LimitSet}
 use Rattle.ordered_store.specs.Entries.{Key, encode_entries, decode_entries, entry_of}
 use Rattle.prack_body.specs.Lists.{Tracked, cleaned}

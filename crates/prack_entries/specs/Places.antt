@@ -1,6 +1,5 @@
 -- Steps of the code: where what is held for an identifier text stands in a store's bytes, and what is answered of it. What is held is `decode_tracked` alone.
-use Rattle.std.specs.Prelude.{ℕ, ◌≤◌, ◌≡◌, List, length, take}
-use Rattle.std.proofs.Math.Option.{Option, none, some}
+use Rattle.std.specs.Prelude.{ℕ, ◌≤◌, ◌≡◌, List, length, take, None, Option, Some}
 use Rattle.limits.specs.Limits.{rust_limits}
 use Rattle.ordered_store.specs.Slot.{Slot, held, free, slot_used}
 use Rattle.prack_body.specs.Lists.{Tracked}
@@ -11,9 +10,9 @@ use Rattle.prack_entries.specs.declared.finding.Slot.{Slot as SlotAt}
 use Rattle.prack_entries.specs.declared.finding.Slot.TheVariants as slots
 
 abbrev pub slot_of : Option (Slot Tracked) → SlotAt
-slot_of none = slots.Broken
-slot_of (some (held place t)) = slots.Held (tracked_places place t)
-slot_of (some (free place)) = slots.Free place
+slot_of None = slots.Broken
+slot_of (Some (held place t)) = slots.Held (tracked_places place t)
+slot_of (Some (free place)) = slots.Free place
 
 -- in lent bytes of which so many are used
 abbrev pub slot_for : List ℕ → List ℕ → ℕ → SlotAt
@@ -24,4 +23,4 @@ pub record Sought (id bytes : List ℕ) (used : ℕ) (slot : SlotAt) : Type 0 wh
   pub is : slot ≡ slot_for id bytes used
   pub within : used ≤ length bytes
   pub list : List Tracked
-  pub are : decode_tracked rust_limits (take used bytes) ≡ some list
+  pub are : decode_tracked rust_limits (take used bytes) ≡ Some list

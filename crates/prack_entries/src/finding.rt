@@ -9,8 +9,8 @@ ghost use Rattle.prack_body.specs.Layout.{tracked_form};
 ghost use Rattle.prack_entries.specs.Entries.{key_of_text, key_of, decode_tracked};
 ghost use Rattle.prack_entries.specs.Places.{slot_of, slot_for};
 
-use ordered_store::{Count, Order};
-use prack_body::{TrackedAt, TrackedReading, read_tracked};
+use prack_body::{TrackedAt, read_tracked};
+use std::cmp::Ordering;
 
 // Where what is held for a text lies, or the place where it would go.
 #[derive(Clone, Copy)]
@@ -27,35 +27,31 @@ pub fn find(id: &[u8], bytes: &[u8], used: usize) -> Slot
     if bytes.len() < used {
         return Slot::Broken;
     }
-    let Count::Entries(_) = count_entries(&bytes[..used]) else {
+    let Some(_) = count_entries(&bytes[..used]) else {
         return Slot::Broken;
     };
     search(id, &bytes[..used])
 }
 
 // The texts from the front to the end, each before the next.
-fn count_entries(bytes: &[u8]) -> Count
+fn count_entries(bytes: &[u8]) -> Option<usize>
     ensures { result ≡ count_of (decode_tracked rust_limits bytes.now) }
 {
     if bytes.len() == 0 {
-        return Count::Entries(0);
+        return Some(0);
     }
-    let TrackedReading::Whole(first) = read_tracked(bytes, 0) else {
-        return Count::Broken;
-    };
+    let first = read_tracked(bytes, 0)?;
     let mut last = first;
     let mut n = 1;
     while last.end < bytes.len() {
-        let TrackedReading::Whole(t) = read_tracked(bytes, last.end) else {
-            return Count::Broken;
-        };
+        let t = read_tracked(bytes, last.end)?;
         if !ascends(bytes, last, t) {
-            return Count::Broken;
+            return None;
         }
         last = t;
         n += 1;
     }
-    Count::Entries(n)
+    Some(n)
 }
 
 // The first text that isn't before the one that is asked for. The bytes are those of a store that was read.
@@ -65,17 +61,17 @@ fn search(id: &[u8], bytes: &[u8]) -> Slot
 {
     let mut at = 0;
     while at < bytes.len() {
-        let TrackedReading::Whole(t) = read_tracked(bytes, at) else {
+        let Some(t) = read_tracked(bytes, at) else {
             return Slot::Broken;
         };
         match ordered_store::compare(text::part(bytes, t.id), id) {
-            Order::Before => {
+            Ordering::Less => {
                 at = t.end;
             }
-            Order::Same => {
+            Ordering::Equal => {
                 return Slot::Held(t);
             }
-            Order::After => {
+            Ordering::Greater => {
                 return Slot::Free(at);
             }
         }
@@ -90,8 +86,8 @@ fn ascends(bytes: &[u8], t: TrackedAt, u: TrackedAt) -> bool
     ensures { result ≡ is_before (key_order (key_of_text (part_in bytes.now t.id)) (key_of_text (part_in bytes.now u.id))) }
 {
     match ordered_store::compare(text::part(bytes, t.id), text::part(bytes, u.id)) {
-        Order::Before => true,
-        Order::Same => false,
-        Order::After => false,
+        Ordering::Less => true,
+        Ordering::Equal => false,
+        Ordering::Greater => false,
     }
 }

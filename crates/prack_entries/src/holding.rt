@@ -13,7 +13,6 @@ ghost use Rattle.prack_entries.specs.Places.{Sought};
 use crate::finding::Slot;
 use codec::LENGTH_SIZE;
 use limits::Refusal;
-use output::Written;
 
 // What is held after the cleanup of a call at a time, without the text, in a small array. Its length.
 pub fn clean_copy(slot: Slot, bytes: &[u8], used: usize, time: u64, body: &mut [u8]) -> usize
@@ -32,7 +31,13 @@ pub fn clean_copy(slot: Slot, bytes: &[u8], used: usize, time: u64, body: &mut [
 }
 
 // What is held for a text from now on, in the place of what was, or at its own: 18. The new used length.
-pub fn set(id: &[u8], slot: Slot, body: &[u8], bytes: &mut [u8], used: usize) -> Written
+pub fn set(
+    id: &[u8],
+    slot: Slot,
+    body: &[u8],
+    bytes: &mut [u8],
+    used: usize,
+) -> Result<usize, Refusal>
     requires { (length id.now < 65536) × ((length body.now ≤ body_room) × Sought id.now bytes.old used slot) }
     ensures value { (s : Sought id.now bytes.old used slot) (t : Tracked) → t.id ≡ id.now → body.now ≡ body_of t → result ≡ written_from (fitted (length bytes.old) (encode_tracked rust_limits (set_entry key_of t s.list))) }
     ensures bytes_after { (s : Sought id.now bytes.old used slot) (t : Tracked) → t.id ≡ id.now → body.now ≡ body_of t → bytes.new ≡ leaves (fitted (length bytes.old) (encode_tracked rust_limits (set_entry key_of t s.list))) bytes.old }
@@ -42,17 +47,23 @@ pub fn set(id: &[u8], slot: Slot, body: &[u8], bytes: &mut [u8], used: usize) ->
             let from = t.id.start + t.id.length;
             let old = t.end - from;
             if bytes.len() - (used - old) < body.len() {
-                return Written::Refused(Refusal::NoRoom);
+                return Err(Refusal::NoRoom);
             }
-            Written::Length(edit::replace(bytes, used, from, old, body))
+            Ok(edit::replace(bytes, used, from, old, body))
         }
         Slot::Free(at) => insert(id, body, bytes, used, at),
-        Slot::Broken => Written::Refused(Refusal::BadStore),
+        Slot::Broken => Err(Refusal::BadStore),
     }
 }
 
 // A text with its length bytes and what is held for it, put in at a place of the used bytes: 18. The new used length.
-fn insert(id: &[u8], body: &[u8], bytes: &mut [u8], used: usize, at: usize) -> Written
+fn insert(
+    id: &[u8],
+    body: &[u8],
+    bytes: &mut [u8],
+    used: usize,
+    at: usize,
+) -> Result<usize, Refusal>
     requires id_len_bound { (length id.now < 65536) × (length body.now ≤ body_room) }
     requires at_le_used { (at ≤ used) × (used ≤ length bytes.old) }
     ensures value { result ≡ written_from (fitted (length bytes.old) (spliced at 0 (text.write id.now ++ body.now) (take used bytes.old))) }
@@ -60,10 +71,10 @@ fn insert(id: &[u8], body: &[u8], bytes: &mut [u8], used: usize, at: usize) -> W
 {
     let size = LENGTH_SIZE + id.len() + body.len();
     if bytes.len() - used < size {
-        return Written::Refused(Refusal::NoRoom);
+        return Err(Refusal::NoRoom);
     }
     let n = edit::move_tail(bytes, used, at, 0, size);
     let behind = codec::write_text(bytes, at, id);
     edit::put(bytes, behind, body);
-    Written::Length(n)
+    Ok(n)
 }

@@ -4,12 +4,10 @@ use native.Mathlib.Omega.{arith}
 use mathlib.Core.Path.{◌≡◌, refl, sym, ap, subst, ◌∙◌}
 use mathlib.Core.Bool.{Bool, true}
 use mathlib.Core.List.{List}
-use mathlib.Core.Option.{Option, none, some}
 use lib.ListN.{length, take, drop}
+use Rattle.std.specs.Prelude.{Err, None, Ok, Option, Result, Some}
 use Rattle.limits.specs.Limits.{LimitSet}
-use Rattle.limits.specs.Outcome.{refused, given, check_of}
-use Rattle.limits.specs.declared.Check.{Check}
-use Rattle.limits.specs.declared.Check.TheVariants.{Passed, Refused}
+use Rattle.limits.specs.Outcome.{check_of}
 use Rattle.limits.proofs.Laws.{passed, stopped}
 use Rattle.limits.specs.declared.Refusal.{Refusal}
 use Rattle.limits.specs.declared.Refusal.TheVariants.{MissingHeader}
@@ -17,12 +15,10 @@ use Rattle.text.specs.Answers.{span_of}
 use Rattle.text.specs.declared.Span.{Span}
 use Rattle.msg.specs.Block.{HeaderLine, lines_of, first_named, value_of, value_named, text_of, part_of, found_of, block_cause}
 use Rattle.msg.specs.Table.{text_at}
-use Rattle.msg.specs.declared.Found.{Found}
 use Rattle.msg.proofs.LookupLaws.{Says, found_at}
 use Rattle.msg.proofs.TableLaws.{text_at_lem}
 use Rattle.text.specs.Number.{number_from, read_number}
 use Rattle.words.specs.Words.{word_at}
-use Rattle.msg.specs.declared.Found.TheVariants.{At}
 use Rattle.prack_headers.specs.Sequence.{cseq_name, cseq_number, value_text, read_in, stands, is_reliable, reliable_provisional}
 
 -- the value's bytes in the block are its text
@@ -30,40 +26,40 @@ pub value_text_lem : (name block : List ℕ) → part_of (value_named name block
 value_text_lem name block = by (first_named name (lines_of block)) refl
   where
     by : (o : Option HeaderLine) → first_named name (lines_of block) ≡ o → part_of (value_of o) block ≡ text_of o
-    by none e = refl
-    by (some l) e =
+    by None e = refl
+    by (Some l) e =
         let r : Says block (first_named name (lines_of block)) (span_of l.value) l.next = found_at block name 0 (span_of l.value) l.next (omega arith) (ap found_of e) in
         let q : r.line ≡ l = cc r.is in
         subst (λ (h : HeaderLine). take (length h.value.text) (drop h.value.place block) ≡ h.value.text) q r.placed.there
 
 -- the number of CSeq by its look-up
-pub cseq_found : (block : List ℕ) (f : Found) → f ≡ found_of (first_named cseq_name (lines_of block)) → number_from (read_number 32 (word_at 0 (text_at f block))) ≡ number_from (cseq_number block)
+pub cseq_found : (block : List ℕ) (f : Option (Span × ℕ)) → f ≡ found_of (first_named cseq_name (lines_of block)) → number_from (read_number 32 (word_at 0 (text_at f block))) ≡ number_from (cseq_number block)
 cseq_found block f e = rw (e, text_at_lem cseq_name block)
 
 -- r is what the check of the block answers
-module _ {A : Type 0} (L : LimitSet) (block : List ℕ) (o : Option A) {r : Check} (h : r ≡ check_of (block_cause L block)) where
-  pub stopped_read : {cause : Refusal} → r ≡ Refused cause → read_in L block o ≡ refused cause
+module _ {A : Type 0} (L : LimitSet) (block : List ℕ) (o : Option A) {r : Result (Unit {0}) Refusal} (h : r ≡ check_of (block_cause L block)) where
+  pub stopped_read : {cause : Refusal} → r ≡ Err cause → read_in L block o ≡ Err cause
   unfolding read_in
   stopped_read e = rw (stopped (block_cause L block) (sym h ∙ e))
 
-  pub missing_read : r ≡ Passed → o ≡ none → read_in L block o ≡ refused MissingHeader
+  pub missing_read : r ≡ Ok tt → o ≡ None → read_in L block o ≡ Err MissingHeader
   unfolding read_in
   missing_read e q = rw (passed (block_cause L block) (sym h ∙ e), q)
 
-  pub done_read : {a : A} → r ≡ Passed → o ≡ some a → read_in L block o ≡ given a
+  pub done_read : {a : A} → r ≡ Ok tt → o ≡ Some a → read_in L block o ≡ Ok a
   unfolding read_in
   done_read e q = rw (passed (block_cause L block) (sym h ∙ e), q)
 
-module _ (L : LimitSet) (status : ℕ) (block : List ℕ) {r : Check} (h : r ≡ check_of (block_cause L block)) where
-  pub stopped_test : {cause : Refusal} → r ≡ Refused cause → reliable_provisional L status block ≡ refused cause
+module _ (L : LimitSet) (status : ℕ) (block : List ℕ) {r : Result (Unit {0}) Refusal} (h : r ≡ check_of (block_cause L block)) where
+  pub stopped_test : {cause : Refusal} → r ≡ Err cause → reliable_provisional L status block ≡ Err cause
   unfolding reliable_provisional
   stopped_test e = rw (stopped (block_cause L block) (sym h ∙ e))
 
-  pub done_test : (t : Bool) → r ≡ Passed → is_reliable status block ≡ t → reliable_provisional L status block ≡ given t
+  pub done_test : (t : Bool) → r ≡ Ok tt → is_reliable status block ≡ t → reliable_provisional L status block ≡ Ok t
   unfolding reliable_provisional
   done_test t e q = rw (passed (block_cause L block) (sym h ∙ e), q)
 
 -- what the answer of a look-up says of a line
-pub found_line : (o : Option HeaderLine) {v : Span} {next : ℕ} → found_of o ≡ At v next → stands o ≡ true
-found_line none e = absurd (let z : ◌≡◌ {A = ℕ} 0 1 = cc in omega arith)
-found_line (some l) e = refl
+pub found_line : (o : Option HeaderLine) {v : Span} {next : ℕ} → found_of o ≡ Some (v, next) → stands o ≡ true
+found_line None e = absurd (let z : ◌≡◌ {A = ℕ} 0 1 = cc in omega arith)
+found_line (Some l) e = refl

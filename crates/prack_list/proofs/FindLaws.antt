@@ -4,11 +4,11 @@ use native.Mathlib.Omega.{arith}
 use mathlib.Core.Path.{◌≡◌, refl, sym, ap, ap₂, subst, ◌∙◌}
 use mathlib.Core.Bool.{Bool, true, false, cond}
 use mathlib.Core.List.{List, [], ◌∷◌, ◌++◌, append_assoc}
-use mathlib.Core.Option.{Option, none, some}
 use lib.ListN.{length, take, drop, get_or, set, length-drop, length-append}
 use lib.Seq.{drop-drop, drop-length, set_at}
 use lib.Dec.{eqb}
 use borrow.Author.Tests.{eq-eqb, ne_eqb, le-leb}
+use Rattle.std.specs.Prelude.{None, Option, Some}
 use Rattle.codec.specs.Codec.{write_all, four, eight}
 use Rattle.prack_body.specs.Lists.{Pending, Tracked, first_of_rseq, marked, acknowledge, with_list}
 use Rattle.prack_body.specs.Layout.{to_bit, pending_form, PendingFormed, AllFormed}
@@ -58,7 +58,7 @@ next s i ps rest g e h = by (drop i ps) refl
         }
 
 -- the same of a body with a list
-pub next_in : {s : List ℕ} {n : ℕ} {t : Tracked} (h : Holds s n t) (ps : List Pending) → t.list ≡ some ps → (i : ℕ) → i < (n - 10) / 20 → Next s ps i
+pub next_in : {s : List ℕ} {n : ℕ} {t : Tracked} (h : Holds s n t) (ps : List Pending) → t.list ≡ Some ps → (i : ℕ) → i < (n - 10) / 20 → Next s ps i
 next_in {s} {n} h ps e i l = next s i ps (drop n s) (list_good h ps e) (entries_lie h ps e) (omega (arith, count_is h ps e))
 
 -- ---- the search
@@ -85,12 +85,12 @@ flag_is true = refl
 flag_is false = refl
 
 -- the fields that are read of the entry that is found
-module _ (r : ℕ) {s : List ℕ} {ps : List Pending} {i : ℕ} (x : Next s ps i) {v : ℕ} {more : List ℕ} (e : four.read (drop (10 + i * 20) s) ≡ some (record { value = v; rest = more })) where
+module _ (r : ℕ) {s : List ℕ} {ps : List Pending} {i : ℕ} (x : Next s ps i) {v : ℕ} {more : List ℕ} (e : four.read (drop (10 + i * 20) s) ≡ Some (record { value = v; rest = more })) where
   same_rseq : v ≡ x.entry.rseq
   same_rseq = rseq_at s (10 + i * 20) x.entry x.more x.lies x.formed e
 
   -- found, by what is read
-  pub find_found : v ≡ r → {w : ℕ} {others : List ℕ} → four.read (drop (10 + i * 20 + 4) s) ≡ some (record { value = w; rest = others })
+  pub find_found : v ≡ r → {w : ℕ} {others : List ℕ} → four.read (drop (10 + i * 20 + 4) s) ≡ Some (record { value = w; rest = others })
       → P.At (10 + i * 20) w (get_or s (10 + i * 20 + 8) 0) (eqb (get_or s (10 + i * 20 + 11) 0) 1) ≡ From r i ps
   find_found q {w} f =
       let c : w ≡ x.entry.cseq = cseq_at s (10 + i * 20) x.entry x.more x.lies x.formed f in
@@ -113,28 +113,28 @@ module _ {s : List ℕ} {n : ℕ} {t : Tracked} (h : Holds s n t) (r : ℕ) wher
   find_none l = by t.list refl
     where
       by : (o : Option (List Pending)) → t.list ≡ o → P.NoList ≡ position_in r t.list
-      by none e = ap (position_in r) (sym e)
-      by (some ps) e = absurd (omega (arith, list_size h ps e))
+      by None e = ap (position_in r) (sym e)
+      by (Some ps) e = absurd (omega (arith, list_size h ps e))
 
   -- where a list stands
-  pub find_in : 10 ≤ n → {p : Position} → ((ps : List Pending) → t.list ≡ some ps → p ≡ position_in r (some ps)) → p ≡ position_in r t.list
+  pub find_in : 10 ≤ n → {p : Position} → ((ps : List Pending) → t.list ≡ Some ps → p ≡ position_in r (Some ps)) → p ≡ position_in r t.list
   find_in l {p} f = by t.list refl
     where
       by : (o : Option (List Pending)) → t.list ≡ o → p ≡ position_in r t.list
-      by none e = absurd (omega (arith, none_size h e))
-      by (some ps) e = f ps e ∙ ap (position_in r) (sym e)
+      by None e = absurd (omega (arith, none_size h e))
+      by (Some ps) e = f ps e ∙ ap (position_in r) (sym e)
 
 -- ---- what an answer says
 
-none_first : {p : Pending} → none ≡ some p → ⊥
+none_first : {p : Pending} → None ≡ Some p → ⊥
 none_first e = let z : ◌≡◌ {A = ℕ} 0 1 = cc in omega arith
 
 -- an entry was found: the list that has it, and its fields
 pub record FoundIn (r : ℕ) (o : Option (List Pending)) (place cseq method : ℕ) (acknowledged : Bool) : Type 0 where
   pub list : List Pending
   pub entry : Pending
-  pub stands : o ≡ some list
-  pub first : first_of_rseq r list ≡ some entry
+  pub stands : o ≡ Some list
+  pub first : first_of_rseq r list ≡ Some entry
   pub at : place ≡ place_from 10 r list
   pub same_cseq : cseq ≡ entry.cseq
   pub same_method : method ≡ entry.method
@@ -151,45 +151,45 @@ not_both e = let z : ◌≡◌ {A = ℕ} 0 1 = cc in omega arith
 
 -- an entry
 pub position_found : (r : ℕ) (o : Option (List Pending)) {k c m : ℕ} {b : Bool} → P.At k c m b ≡ position_in r o → FoundIn r o k c m b
-position_found r none e = absurd (not_at e)
-position_found r (some ps) {k} {c} {m} {b} e = by (first_of_rseq r ps) refl
+position_found r None e = absurd (not_at e)
+position_found r (Some ps) {k} {c} {m} {b} e = by (first_of_rseq r ps) refl
   where
-    by : (f : Option Pending) → first_of_rseq r ps ≡ f → FoundIn r (some ps) k c m b
-    by none q = absurd (not_found (e ∙ ap (position_at (place_from 10 r ps)) q))
-    by (some p) q =
+    by : (f : Option Pending) → first_of_rseq r ps ≡ f → FoundIn r (Some ps) k c m b
+    by None q = absurd (not_found (e ∙ ap (position_at (place_from 10 r ps)) q))
+    by (Some p) q =
         let z : P.At k c m b ≡ P.At (place_from 10 r ps) p.cseq p.method p.acknowledged = e ∙ ap (position_at (place_from 10 r ps)) q in
         record { list = ps; entry = p; stands = refl; first = q; at = (cc); same_cseq = (cc); same_method = (cc); same_flag = (cc) }
 
 -- no list
-pub position_no_list : (r : ℕ) (o : Option (List Pending)) → P.NoList ≡ position_in r o → o ≡ none
-position_no_list r none e = refl
-position_no_list r (some ps) e = by (first_of_rseq r ps) e
+pub position_no_list : (r : ℕ) (o : Option (List Pending)) → P.NoList ≡ position_in r o → o ≡ None
+position_no_list r None e = refl
+position_no_list r (Some ps) e = by (first_of_rseq r ps) e
   where
-    by : (f : Option Pending) → P.NoList ≡ position_at (place_from 10 r ps) f → some ps ≡ none
-    by none q = absurd (not_both q)
-    by (some p) q = absurd (not_at (sym q))
+    by : (f : Option Pending) → P.NoList ≡ position_at (place_from 10 r ps) f → Some ps ≡ None
+    by None q = absurd (not_both q)
+    by (Some p) q = absurd (not_at (sym q))
 
 -- a list without the RSeq
-pub position_unknown : (r : ℕ) (o : Option (List Pending)) → P.Unknown ≡ position_in r o → (ps : List Pending) × ((o ≡ some ps) × (first_of_rseq r ps ≡ none))
-position_unknown r none e = absurd (not_both (sym e))
-position_unknown r (some ps) e = (ps, (refl, by (first_of_rseq r ps) e))
+pub position_unknown : (r : ℕ) (o : Option (List Pending)) → P.Unknown ≡ position_in r o → (ps : List Pending) × ((o ≡ Some ps) × (first_of_rseq r ps ≡ None))
+position_unknown r None e = absurd (not_both (sym e))
+position_unknown r (Some ps) e = (ps, (refl, by (first_of_rseq r ps) e))
   where
-    by : (f : Option Pending) → P.Unknown ≡ position_at (place_from 10 r ps) f → f ≡ none
-    by none q = refl
-    by (some p) q = absurd (not_found (sym q))
+    by : (f : Option Pending) → P.Unknown ≡ position_at (place_from 10 r ps) f → f ≡ None
+    by None q = refl
+    by (Some p) q = absurd (not_found (sym q))
 
 -- the place of the first entry of an RSeq lies among the entries
-place_among : (r : ℕ) (ps : List Pending) (at : ℕ) (p : Pending) → first_of_rseq r ps ≡ some p → place_from at r ps + 20 ≤ at + length ps * 20
+place_among : (r : ℕ) (ps : List Pending) (at : ℕ) (p : Pending) → first_of_rseq r ps ≡ Some p → place_from at r ps + 20 ≤ at + length ps * 20
 unfolding first_of_rseq place_from
 place_among r [] at p e = absurd (none_first e)
 place_among r (q ∷ ps) at p e = by (eqb q.rseq r) refl (place_among r ps (at + 20) p)
   where
-    by : (b : Bool) → eqb q.rseq r ≡ b → (first_of_rseq r ps ≡ some p → place_from (at + 20) r ps + 20 ≤ at + 20 + length ps * 20) → cond (eqb q.rseq r) at (place_from (at + 20) r ps) + 20 ≤ at + suc (length ps) * 20
+    by : (b : Bool) → eqb q.rseq r ≡ b → (first_of_rseq r ps ≡ Some p → place_from (at + 20) r ps + 20 ≤ at + 20 + length ps * 20) → cond (eqb q.rseq r) at (place_from (at + 20) r ps) + 20 ≤ at + suc (length ps) * 20
     by true b more = rw b (omega arith)
-    by false b more = let f : first_of_rseq r ps ≡ some p = (rw b at e) in rw b (omega (arith, more f))
+    by false b more = let f : first_of_rseq r ps ≡ Some p = (rw b at e) in rw b (omega (arith, more f))
 
 -- and so within the body
-pub place_inside : {s : List ℕ} {n : ℕ} {t : Tracked} → Holds s n t → (r : ℕ) (ps : List Pending) (p : Pending) → t.list ≡ some ps → first_of_rseq r ps ≡ some p → place_from 10 r ps + 20 ≤ n
+pub place_inside : {s : List ℕ} {n : ℕ} {t : Tracked} → Holds s n t → (r : ℕ) (ps : List Pending) (p : Pending) → t.list ≡ Some ps → first_of_rseq r ps ≡ Some p → place_from 10 r ps + 20 ≤ n
 place_inside h r ps p e f = omega (arith, place_among r ps 10 p f, list_size h ps e)
 
 -- ---- the mark
@@ -215,14 +215,14 @@ marked_many r (p ∷ ps) = by (eqb p.rseq r) (marked_many r ps)
     by false k = ap suc k
 
 -- the flag of the first entry of an RSeq set: the bytes of the marked list
-set_flag : (r : ℕ) (ps : List Pending) (front rest : List ℕ) (at : ℕ) (p : Pending) → length front ≡ at → first_of_rseq r ps ≡ some p
+set_flag : (r : ℕ) (ps : List Pending) (front rest : List ℕ) (at : ℕ) (p : Pending) → length front ≡ at → first_of_rseq r ps ≡ Some p
     → set (front ++ (write_all pending_form ps ++ rest)) (place_from at r ps + 11) 1 ≡ front ++ (write_all pending_form (marked r ps) ++ rest)
 unfolding first_of_rseq place_from marked write_all
 set_flag r [] front rest at p l e = absurd (none_first e)
 set_flag r (q ∷ ps) front rest at p l e = by (eqb q.rseq r) refl (set_flag r ps (front ++ pending_form.write q) rest (at + 20) p (omega (arith, length-append front (pending_form.write q))))
   where
     by : (b : Bool) → eqb q.rseq r ≡ b
-        → (first_of_rseq r ps ≡ some p → set ((front ++ pending_form.write q) ++ (write_all pending_form ps ++ rest)) (place_from (at + 20) r ps + 11) 1 ≡ (front ++ pending_form.write q) ++ (write_all pending_form (marked r ps) ++ rest))
+        → (first_of_rseq r ps ≡ Some p → set ((front ++ pending_form.write q) ++ (write_all pending_form ps ++ rest)) (place_from (at + 20) r ps + 11) 1 ≡ (front ++ pending_form.write q) ++ (write_all pending_form (marked r ps) ++ rest))
         → set (front ++ ((pending_form.write q ++ write_all pending_form ps) ++ rest)) (cond (eqb q.rseq r) at (place_from (at + 20) r ps) + 11) 1 ≡ front ++ (write_all pending_form (cond (eqb q.rseq r) (acknowledge q ∷ ps) (q ∷ marked r ps)) ++ rest)
     by true b more =
         let z : length (front ++ take 11 (pending_form.write q)) ≡ at + 11 = omega (arith, length-append front (take 11 (pending_form.write q))) in
@@ -231,20 +231,20 @@ set_flag r (q ∷ ps) front rest at p l e = by (eqb q.rseq r) refl (set_flag r p
         ∙ set_at (front ++ take 11 (pending_form.write q)) (to_bit q.acknowledged) (eight.write q.registered_at ++ (write_all pending_form ps ++ rest)) 1 (at + 11) z
         ∙ append_assoc front (take 11 (pending_form.write q)) (1 ∷ (eight.write q.registered_at ++ (write_all pending_form ps ++ rest))))
     by false b more =
-        let f : first_of_rseq r ps ≡ some p = (rw b at e) in
+        let f : first_of_rseq r ps ≡ Some p = (rw b at e) in
         rw b
         (ap (λ (x : List ℕ). set x (place_from (at + 20) r ps + 11) 1) (sym (append_assoc front (pending_form.write q) (write_all pending_form ps ++ rest)))
         ∙ more f
         ∙ append_assoc front (pending_form.write q) (write_all pending_form (marked r ps) ++ rest))
 
 -- what is held, with the first entry of an RSeq acknowledged
-pub mark_law : {s : List ℕ} {n : ℕ} {t : Tracked} → Holds s n t → (r : ℕ) (ps : List Pending) (p : Pending) → t.list ≡ some ps → first_of_rseq r ps ≡ some p → {k : ℕ} → k ≡ place_from 10 r ps
-    → Holds (set s (k + 11) 1) n (with_list (some (marked r ps)) t)
+pub mark_law : {s : List ℕ} {n : ℕ} {t : Tracked} → Holds s n t → (r : ℕ) (ps : List Pending) (p : Pending) → t.list ≡ Some ps → first_of_rseq r ps ≡ Some p → {k : ℕ} → k ≡ place_from 10 r ps
+    → Holds (set s (k + 11) 1) n (with_list (Some (marked r ps)) t)
 mark_law {s} {n} {t} h r ps p e f {k} q =
-    let w = whole h (some ps) e in
+    let w = whole h (Some ps) e in
     let m : length (marked r ps) ≡ length ps = marked_many r ps in
     let a : set s (k + 11) 1 ≡ (eight.write t.cleaned_at ++ (1 ∷ length ps ∷ [])) ++ (write_all pending_form (marked r ps) ++ drop n s) = ap₂ (λ (x : List ℕ) (i : ℕ). set x (i + 11) 1) w q ∙ set_flag r ps (eight.write t.cleaned_at ++ (1 ∷ length ps ∷ [])) (drop n s) 10 p refl f in
-    let b : set s (k + 11) 1 ≡ body_of (with_list (some (marked r ps)) t) ++ drop n s = a ∙ ap (λ (i : ℕ). eight.write t.cleaned_at ++ (1 ∷ i ∷ (write_all pending_form (marked r ps) ++ drop n s))) (sym m) in
+    let b : set s (k + 11) 1 ≡ body_of (with_list (Some (marked r ps)) t) ++ drop n s = a ∙ ap (λ (i : ℕ). eight.write t.cleaned_at ++ (1 ∷ i ∷ (write_all pending_form (marked r ps) ++ drop n s))) (sym m) in
     let z : length (marked r ps) ≤ 10 = omega (arith, list_few h ps e) in
     hold (drop n s)
     (record { id_short = h.formed.id_short; time_fits = h.formed.time_fits; list_formed = (marked_formed r ps (list_good h ps e), le-leb (length (marked r ps)) 10 z) })

@@ -4,9 +4,9 @@ use native.Mathlib.Omega.{arith}
 use mathlib.Core.Path.{◌≡◌, refl, sym, ap, subst, ◌∙◌}
 use mathlib.Core.Bool.{Bool, true, false}
 use mathlib.Core.List.{List, [], ◌∷◌, ◌++◌, append_assoc, append-nil}
-use mathlib.Core.Option.{Option, none, some}
 use lib.ListN.{length, drop, get_or, length-append}
 use lib.Seq.{get_or-drop, drop-length}
+use Rattle.std.specs.Prelude.{None, Option, Some}
 use Rattle.edit.specs.Edit.{put_at, over}
 use Rattle.edit.proofs.EditLaws.{Wrote, wrote_then}
 use Rattle.codec.specs.Codec.{two, four}
@@ -24,16 +24,16 @@ module _ {s : List ℕ} {n : ℕ} {t : Tracked} (h : Holds s n t) where
   entry_count = by t.list refl
     where
       by : (o : Option (List Pending)) → t.list ≡ o → (n - 10) / 20 ≡ length (entries_of t.list)
-      by none e = subst (λ (o : Option (List Pending)). (n - 10) / 20 ≡ length (entries_of o)) (sym e) (omega (arith, none_size h e))
-      by (some ps) e = subst (λ (o : Option (List Pending)). (n - 10) / 20 ≡ length (entries_of o)) (sym e) (count_is h ps e)
+      by None e = subst (λ (o : Option (List Pending)). (n - 10) / 20 ≡ length (entries_of o)) (sym e) (omega (arith, none_size h e))
+      by (Some ps) e = subst (λ (o : Option (List Pending)). (n - 10) / 20 ≡ length (entries_of o)) (sym e) (count_is h ps e)
 
   -- the entry of a turn
   pub next_entry : (i : ℕ) → i < (n - 10) / 20 → Next s (entries_of t.list) i
   next_entry i l = by t.list refl
     where
       by : (o : Option (List Pending)) → t.list ≡ o → Next s (entries_of t.list) i
-      by none e = absurd (omega (arith, none_size h e))
-      by (some ps) e = subst (λ (o : Option (List Pending)). Next s (entries_of o) i) (sym e) (next_in h ps e i l)
+      by None e = absurd (omega (arith, none_size h e))
+      by (Some ps) e = subst (λ (o : Option (List Pending)). Next s (entries_of o) i) (sym e) (next_in h ps e i l)
 
 -- ---- a turn
 

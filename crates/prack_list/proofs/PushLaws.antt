@@ -3,10 +3,10 @@ use Prim.Native.Nat.{ℕ, ◌+◌, ◌-◌, ◌*◌, ◌/◌, ◌≤◌, ◌<◌
 use native.Mathlib.Omega.{arith}
 use mathlib.Core.Path.{◌≡◌, refl, sym, ap, subst, ◌∙◌}
 use mathlib.Core.List.{List, [], ◌∷◌, ◌++◌, append_assoc, append-nil}
-use mathlib.Core.Option.{Option, none, some}
 use lib.ListN.{length, take, drop, set, length-append, take-append-drop}
 use lib.Seq.{drop-drop, take_at}
 use borrow.Author.Tests.{le-leb}
+use Rattle.std.specs.Prelude.{None, Option, Some}
 use Rattle.limits.specs.Limits.{rust_limits}
 use Rattle.edit.specs.Edit.{put_at}
 use Rattle.edit.proofs.EditLaws.{Wrote, wrote_then}
@@ -40,19 +40,19 @@ module _ {s : List ℕ} {n : ℕ} {t : Tracked} (h : Holds s n t) where
   room_none l = by t.list refl
     where
       by : (o : Option (List Pending)) → t.list ≡ o → Kept s (last_of (entries_of t.list)) s 0
-      by none e = subst (λ (o : Option (List Pending)). Kept s (last_of (entries_of o)) s 0) (sym e) (record { counts = refl; are = sym (append-nil (take 10 s)) })
-      by (some ps) e = absurd (omega (arith, list_size h ps e))
+      by None e = subst (λ (o : Option (List Pending)). Kept s (last_of (entries_of o)) s 0) (sym e) (record { counts = refl; are = sym (append-nil (take 10 s)) })
+      by (Some ps) e = absurd (omega (arith, list_size h ps e))
 
   -- fewer than ten: all of them
   pub room_some : 10 ≤ n → {k : ℕ} → k ≡ (n - 10) / 20 → k < 10 → Kept s (last_of (entries_of t.list)) s k
   room_some l {k} c f = by t.list refl
     where
       by : (o : Option (List Pending)) → t.list ≡ o → Kept s (last_of (entries_of t.list)) s k
-      by none e = absurd (omega (arith, none_size h e))
-      by (some ps) e =
+      by None e = absurd (omega (arith, none_size h e))
+      by (Some ps) e =
           let m : k ≡ length ps = c ∙ count_is h ps e in
           let z : length ps + 1 - 10 ≡ 0 = omega arith in
-          let w = whole h (some ps) e in
+          let w = whole h (Some ps) e in
           let j : 10 + k * 20 ≡ n = omega (arith, list_size h ps e) in
           let v : take (10 + k * 20) s ≡ take 10 s ++ write_all pending_form ps = ap (λ (i : ℕ). take i s) j ∙ h.are ∙ ap (λ (o : Option (List Pending)). eight.write t.cleaned_at ++ (list_form rust_limits).write o) e ∙ sym (ap (λ (x : List ℕ). take 10 x ++ write_all pending_form ps) w) in
           subst (λ (o : Option (List Pending)). Kept s (last_of (entries_of o)) s k) (sym e)
@@ -73,8 +73,8 @@ module _ {s : List ℕ} {n : ℕ} {t : Tracked} (h : Holds s n t) where
           record { counts = omega arith; are = ap (λ (j : ℕ). take (10 + j) o) (sym i) ∙ d }
 
       by : (x : Option (List Pending)) → t.list ≡ x → Kept s (last_of (entries_of t.list)) o 9
-      by none e = absurd (omega (arith, none_size h e))
-      by (some ps) e =
+      by None e = absurd (omega (arith, none_size h e))
+      by (Some ps) e =
           let m : length ps ≡ 10 = omega (arith, count_is h ps e, list_few h ps e) in
           let z : length ps + 1 - 10 ≡ 1 = omega arith in
           subst (λ (x : Option (List Pending)). Kept s (last_of (entries_of x)) o 9) (sym e)
@@ -93,8 +93,8 @@ module _ {s : List ℕ} {n : ℕ} {t : Tracked} (h : Holds s n t) where
   entries_good = by t.list refl
     where
       by : (x : Option (List Pending)) → t.list ≡ x → AllFormed (entries_of t.list)
-      by none e = subst (λ (x : Option (List Pending)). AllFormed (entries_of x)) (sym e) tt
-      by (some ps) e = subst (λ (x : Option (List Pending)). AllFormed (entries_of x)) (sym e) (list_good h ps e)
+      by None e = subst (λ (x : Option (List Pending)). AllFormed (entries_of x)) (sym e) tt
+      by (Some ps) e = subst (λ (x : Option (List Pending)). AllFormed (entries_of x)) (sym e) (list_good h ps e)
 
   -- the entry put behind the others, the list's byte and its count
   pub push_law : 10 ≤ length s → {o : List ℕ} {k : ℕ} → k ≤ 9 → 10 + k * 20 ≤ length o → Kept s (last_of (entries_of t.list)) o k → (p : Pending) → PendingFormed p

@@ -1,6 +1,5 @@
 -- Steps of the code: the last entries before one more is put behind them, and where the first entry of an RSeq lies in a body (prack_body/specs/Body.antt).
-use Rattle.std.specs.Prelude.{ℕ, ◌+◌, ◌-◌, cond, List, [], ◌∷◌, length, drop, eqb}
-use Rattle.std.proofs.Math.Option.{Option, none, some}
+use Rattle.std.specs.Prelude.{ℕ, ◌+◌, ◌-◌, cond, List, [], ◌∷◌, length, drop, eqb, None, Option, Some}
 use Rattle.limits.specs.Limits.{rust_limits}
 use Rattle.prack_body.specs.Lists.{Pending, first_of_rseq}
 use Rattle.prack_list.specs.declared.finding.Position.{Position}
@@ -18,9 +17,9 @@ place_from at r [] = at
 place_from at r (p ∷ ps) = cond (eqb p.rseq r) at (place_from (at + 20) r ps)
 
 abbrev pub position_at : ℕ → Option Pending → Position
-position_at at none = position.Unknown
-position_at at (some p) = position.At at p.cseq p.method p.acknowledged
+position_at at None = position.Unknown
+position_at at (Some p) = position.At at p.cseq p.method p.acknowledged
 
 abbrev pub position_in : ℕ → Option (List Pending) → Position
-position_in r none = position.NoList
-position_in r (some ps) = position_at (place_from 10 r ps) (first_of_rseq r ps)
+position_in r None = position.NoList
+position_in r (Some ps) = position_at (place_from 10 r ps) (first_of_rseq r ps)

@@ -1,6 +1,5 @@
 // The first entry of an RSeq in a body: found, and marked.
-ghost use Rattle.std.specs.Prelude.{◌≡◌, List, ℕ, ◌+◌, ◌≤◌, length};
-ghost use Rattle.std.proofs.Math.Option.{some};
+ghost use Rattle.std.specs.Prelude.{◌≡◌, List, ℕ, ◌+◌, ◌≤◌, length, Some};
 ghost use Rattle.prack_body.specs.Lists.{Pending, Tracked, first_of_rseq, marked, with_list};
 ghost use Rattle.prack_body.specs.Body.{Holds};
 ghost use Rattle.prack_list.specs.Steps.{place_from, position_in};
@@ -44,7 +43,7 @@ pub fn first_of(body: &[u8], n: usize, rseq: u32) -> Position
 // The entry at a place acknowledged.
 pub fn mark(body: &mut [u8], place: usize)
     requires { place + 20 ≤ length body.old }
-    ensures { (n rseq : ℕ) (t : Tracked) (ps : List Pending) (p : Pending) → Holds body.old n t → t.list ≡ some ps → first_of_rseq rseq ps ≡ some p → place ≡ place_from 10 rseq ps → Holds body.new n (with_list (some (marked rseq ps)) t) }
+    ensures { (n rseq : ℕ) (t : Tracked) (ps : List Pending) (p : Pending) → Holds body.old n t → t.list ≡ Some ps → first_of_rseq rseq ps ≡ Some p → place ≡ place_from 10 rseq ps → Holds body.new n (with_list (Some (marked rseq ps)) t) }
 {
     body[place + ACKNOWLEDGED_AT] = 1;
 }

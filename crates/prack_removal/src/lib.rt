@@ -8,36 +8,35 @@ ghost use Rattle.prack_validator.specs.Validator.{remove_dialog, remove_pracked,
 
 use codec::LENGTH_SIZE;
 use limits::Refusal;
-use output::Written;
 use prack_entries::{Slot, find, set};
 
 // PrackValidator::remove_dialog: 1, 3. Nothing held: nothing changes. The new used length.
-pub fn remove_dialog(id: &[u8], bytes: &mut [u8], used: usize) -> Written
+pub fn remove_dialog(id: &[u8], bytes: &mut [u8], used: usize) -> Result<usize, Refusal>
     ensures value { result ≡ written_in (ran rust_limits (remove_dialog id.now) bytes.old used) }
     ensures bytes_after { bytes.new ≡ (ran rust_limits (remove_dialog id.now) bytes.old used).bytes }
     ensures used_value { used_written result used ≡ (ran rust_limits (remove_dialog id.now) bytes.old used).used }
 {
     if text::too_long(id) {
-        return Written::Refused(Refusal::TextTooLong);
+        return Err(Refusal::TextTooLong);
     }
     match find(id, bytes, used) {
         Slot::Held(t) => {
             let at = t.id.start - LENGTH_SIZE;
-            Written::Length(edit::replace(bytes, used, at, t.end - at, b""))
+            Ok(edit::replace(bytes, used, at, t.end - at, b""))
         }
-        Slot::Free(_) => Written::Length(used),
-        Slot::Broken => Written::Refused(Refusal::BadStore),
+        Slot::Free(_) => Ok(used),
+        Slot::Broken => Err(Refusal::BadStore),
     }
 }
 
 // PrackValidator::remove_pracked: 1, 3. The acknowledged entries of an RSeq go; an emptied list stands. The new used length.
-pub fn remove_pracked(id: &[u8], rseq: u32, bytes: &mut [u8], used: usize) -> Written
+pub fn remove_pracked(id: &[u8], rseq: u32, bytes: &mut [u8], used: usize) -> Result<usize, Refusal>
     ensures value { result ≡ written_in (ran rust_limits (remove_pracked id.now rseq) bytes.old used) }
     ensures bytes_after { bytes.new ≡ (ran rust_limits (remove_pracked id.now rseq) bytes.old used).bytes }
     ensures used_value { used_written result used ≡ (ran rust_limits (remove_pracked id.now rseq) bytes.old used).used }
 {
     if text::too_long(id) {
-        return Written::Refused(Refusal::TextTooLong);
+        return Err(Refusal::TextTooLong);
     }
     let slot = find(id, bytes, used);
     match slot {
@@ -47,7 +46,7 @@ pub fn remove_pracked(id: &[u8], rseq: u32, bytes: &mut [u8], used: usize) -> Wr
             let m = prack_cleaning::prune(&mut body, n, rseq);
             set(id, slot, &body[..m], bytes, used)
         }
-        Slot::Free(_) => Written::Length(used),
-        Slot::Broken => Written::Refused(Refusal::BadStore),
+        Slot::Free(_) => Ok(used),
+        Slot::Broken => Err(Refusal::BadStore),
     }
 }

@@ -5,12 +5,12 @@ use native.Mathlib.Omega.{arith}
 use mathlib.Core.Path.{◌≡◌, refl, sym, ap, ap₂, subst, ◌∙◌}
 use mathlib.Core.Bool.{Bool, true, false, cond, not, ◌&&◌}
 use mathlib.Core.List.{List, [], ◌∷◌, ◌++◌}
-use mathlib.Core.Option.{Option, none, some}
 use lib.ListN.{length, drop, length-append, length-drop}
 use lib.Dec.{ltb, eqb}
 use borrow.Author.Tests.{le-leb, leb-true, ltb-false, le-ltb, eq-eqb}
+use Rattle.std.specs.Prelude.{Err, None, Ok, Option, Result, Some}
 use Rattle.limits.specs.Limits.{rust_limits}
-use Rattle.limits.specs.Outcome.{Outcome, refused, given, or_else, cause_if, refuse_if, and_then, or_refuse}
+use Rattle.limits.specs.Outcome.{or_else, cause_if, refuse_if, and_then, or_refuse}
 use Rattle.limits.specs.declared.Refusal.{Refusal}
 use Rattle.limits.specs.declared.Refusal.TheVariants.{TextTooLong, Malformed, InvalidMethod, UnknownRSeq, RAckCSeqMismatch, RAckMethodMismatch, DuplicatePrack}
 use Rattle.text.specs.Answers.{length_cause}
@@ -42,45 +42,45 @@ Good = TrackedFormed rust_limits
 -- ---- each step keeps what is held well formed
 
 -- a text that is taken is short
-short : (id : List ℕ) → length_cause rust_limits id ≡ none → length id < 65536
+short : (id : List ℕ) → length_cause rust_limits id ≡ None → length id < 65536
 short id e = by (ltb 8192 (length id)) refl e
   where
-    by : (t : Bool) → ltb 8192 (length id) ≡ t → cause_if t TextTooLong ≡ none → length id < 65536
+    by : (t : Bool) → ltb 8192 (length id) ≡ t → cause_if t TextTooLong ≡ None → length id < 65536
     by true p q = absurd (let z : ◌≡◌ {A = ℕ} 0 1 = cc in omega arith)
     by false p q = omega (arith, ltb-false 8192 (length id) p)
 
 -- a method that is taken is one
-known : (m : ℕ) → method_cause m ≡ none → is_method m ≡ true
+known : (m : ℕ) → method_cause m ≡ None → is_method m ≡ true
 known m e = by (is_method m) refl e
   where
-    by : (t : Bool) → is_method m ≡ t → method_cause m ≡ none → is_method m ≡ true
+    by : (t : Bool) → is_method m ≡ t → method_cause m ≡ None → is_method m ≡ true
     by true p q = p
-    by false p q = absurd (let r : some InvalidMethod ≡ none = sym (ap (λ t. cause_if (not t) InvalidMethod) p) ∙ q in let z : ◌≡◌ {A = ℕ} 0 1 = cc in omega arith)
+    by false p q = absurd (let r : Some InvalidMethod ≡ None = sym (ap (λ t. cause_if (not t) InvalidMethod) p) ∙ q in let z : ◌≡◌ {A = ℕ} 0 1 = cc in omega arith)
 
 few : (ps : List Pending) → is_short rust_limits ps ≡ true → length ps ≤ 10
 few ps e = leb-true (length ps) 10 e
 
-kept_formed : (test : Pending → Bool) (ps : List Pending) → ListFormed rust_limits (some ps) → ListFormed rust_limits (some (staying test ps))
+kept_formed : (test : Pending → Bool) (ps : List Pending) → ListFormed rust_limits (Some ps) → ListFormed rust_limits (Some (staying test ps))
 kept_formed test ps f = (staying_formed test ps f.0, le-leb (length (staying test ps)) 10 (omega (arith, staying_short test ps, few ps f.1)))
 
 clean_list : (time : ℕ) (o : Option (List Pending)) → ListFormed rust_limits o → ListFormed rust_limits (cleaned_list rust_limits time o)
-clean_list time none f = tt
-clean_list time (some ps) f = kept_formed (stays rust_limits time) ps f
+clean_list time None f = tt
+clean_list time (Some ps) f = kept_formed (stays rust_limits time) ps f
 
 pruned_list : (r : ℕ) (o : Option (List Pending)) → ListFormed rust_limits o → ListFormed rust_limits (without_pracked r o)
-pruned_list r none f = tt
-pruned_list r (some ps) f = kept_formed (is_other r) ps f
+pruned_list r None f = tt
+pruned_list r (Some ps) f = kept_formed (is_other r) ps f
 
-marked_list : (v : Outcome RAck) (o : Option (List Pending)) → ListFormed rust_limits o → ListFormed rust_limits (marked_by v o)
-marked_list (refused cause) o f = f
-marked_list (given k) none f = tt
-marked_list (given k) (some ps) f = (marked_formed k.rseq ps f.0, le-leb (length (marked k.rseq ps)) 10 (omega (arith, marked_many k.rseq ps, few ps f.1)))
+marked_list : (v : Result RAck Refusal) (o : Option (List Pending)) → ListFormed rust_limits o → ListFormed rust_limits (marked_by v o)
+marked_list (Err cause) o f = f
+marked_list (Ok k) None f = tt
+marked_list (Ok k) (Some ps) f = (marked_formed k.rseq ps f.0, le-leb (length (marked k.rseq ps)) 10 (omega (arith, marked_many k.rseq ps, few ps f.1)))
 
 entries_formed : (o : Option (List Pending)) → ListFormed rust_limits o → AllFormed (entries_of o)
-entries_formed none f = tt
-entries_formed (some ps) f = f.0
+entries_formed None f = tt
+entries_formed (Some ps) f = f.0
 
-pushed_list : (p : Pending) (o : Option (List Pending)) → PendingFormed p → ListFormed rust_limits o → ListFormed rust_limits (some (pushed rust_limits p (entries_of o)))
+pushed_list : (p : Pending) (o : Option (List Pending)) → PendingFormed p → ListFormed rust_limits o → ListFormed rust_limits (Some (pushed rust_limits p (entries_of o)))
 unfolding pushed
 pushed_list p o g f =
     let ps : List Pending = entries_of o in
@@ -100,8 +100,8 @@ cleaned_good time id ts h l g = by (held_for id ts) refl
     due t f false = f
 
     by : (o : Option Tracked) → held_for id ts ≡ o → Good (cleaned rust_limits time id o)
-    by none e = record { id_short = l; time_fits = h; list_formed = tt }
-    by (some t) e = due t (found_good key_of Good (key_of_text id) ts t g e) (is_due rust_limits time t)
+    by None e = record { id_short = l; time_fits = h; list_formed = tt }
+    by (Some t) e = due t (found_good key_of Good (key_of_text id) ts t g e) (is_due rust_limits time t)
 
 -- ---- each call keeps well-formed, ascending entries so
 
@@ -109,14 +109,14 @@ set_sound : (t : Tracked) (ts : List Tracked) → Good t → Sound key_of Good t
 set_sound t ts g s = (set_good key_of Good t ts g s.0, set_ascends key_of t ts s.1)
 
 -- what was decided
-decided : {ts : List Tracked} {a : Outcome Value} {d : Decided Tracked Value} → deciding ts a ≡ given d → ts ≡ d.entries
+decided : {ts : List Tracked} {a : Result Value Refusal} {d : Decided Tracked Value} → deciding ts a ≡ Ok d → ts ≡ d.entries
 decided {ts} {a} {d} e = let k : record { entries = ts; answer = a } ≡ d = cc in ap (λ (x : Decided Tracked Value). x.entries) k
 
-first_none : (a b : Option Refusal) → or_else a b ≡ none → (a ≡ none) × (b ≡ none)
-first_none none b e = (refl, e)
-first_none (some x) b e = absurd (let z : ◌≡◌ {A = ℕ} 0 1 = cc in omega arith)
+first_none : (a b : Option Refusal) → or_else a b ≡ None → (a ≡ None) × (b ≡ None)
+first_none None b e = (refl, e)
+first_none (Some x) b e = absurd (let z : ◌≡◌ {A = ℕ} 0 1 = cc in omega arith)
 
-action_keeps : (a : Action) (ts : List Tracked) (d : Decided Tracked Value) → Typed a → action_cause rust_limits a ≡ none → judge rust_limits a ts ≡ given d → Sound key_of Good ts → Sound key_of Good d.entries
+action_keeps : (a : Action) (ts : List Tracked) (d : Decided Tracked Value) → Typed a → action_cause rust_limits a ≡ None → judge rust_limits a ts ≡ Ok d → Sound key_of Good ts → Sound key_of Good d.entries
 unfolding action_cause judge
 action_keeps (register id rseq cseq method code time) ts d n c j s =
     let p : Pending = pending_of rseq cseq method code time in
@@ -125,7 +125,7 @@ action_keeps (register id rseq cseq method code time) ts d n c j s =
     let g : Good t = cleaned_good time id ts n.1.1.1 (short id k.0) s.0 in
     let f : PendingFormed p = record { rseq_fits = n.0; cseq_fits = n.1.0; method_known = known method k.1; code_fits = n.1.1.0; time_fits = n.1.1.1 } in
     subst (Sound key_of Good) (decided j)
-    (set_sound (registered rust_limits p t) ts (with_list_lem t (some (pushed rust_limits p (entries_of t.list))) g (pushed_list p t.list f g.list_formed)) s)
+    (set_sound (registered rust_limits p t) ts (with_list_lem t (Some (pushed rust_limits p (entries_of t.list))) g (pushed_list p t.list f g.list_formed)) s)
 action_keeps (validate id block time) ts d n c j s =
     let t : Tracked = clean_for rust_limits time id ts in
     let g : Good t = cleaned_good time id ts n (short id (first_none (length_cause rust_limits id) _ c).0) s.0 in
@@ -137,16 +137,16 @@ action_keeps (get_pending id time room) ts d n c j s = by (fitted room (open_byt
     t : Tracked
     t = clean_for rust_limits time id ts
 
-    by : (o : Outcome (List ℕ)) → and_then o (λ bytes. deciding (set_entry key_of t ts) (given (written bytes))) ≡ given d → Sound key_of Good d.entries
-    by (refused cause) e = absurd (let z : ◌≡◌ {A = ℕ} 0 1 = cc in omega arith)
-    by (given bytes) e = subst (Sound key_of Good) (decided e) (set_sound t ts (cleaned_good time id ts n (short id c) s.0) s)
+    by : (o : Result (List ℕ) Refusal) → and_then o (λ bytes. deciding (set_entry key_of t ts) (Ok (written bytes))) ≡ Ok d → Sound key_of Good d.entries
+    by (Err cause) e = absurd (let z : ◌≡◌ {A = ℕ} 0 1 = cc in omega arith)
+    by (Ok bytes) e = subst (Sound key_of Good) (decided e) (set_sound t ts (cleaned_good time id ts n (short id c) s.0) s)
 action_keeps (remove_dialog id) ts d n c j s =
     subst (Sound key_of Good) (decided j) (without_good key_of Good (key_of_text id) ts s.0, without_ascends key_of (key_of_text id) ts s.1)
 action_keeps (remove_pracked id r) ts d n c j s = subst (Sound key_of Good) (decided j) (by (held_for id ts) refl)
   where
     by : (o : Option Tracked) → held_for id ts ≡ o → Sound key_of Good (pruned r o ts)
-    by none e = s
-    by (some t) e =
+    by None e = s
+    by (Some t) e =
         let g : Good t = found_good key_of Good (key_of_text id) ts t s.0 e in
         set_sound (with_list (without_pracked r t.list) t) ts (with_list_lem t (without_pracked r t.list) g (pruned_list r t.list g.list_formed)) s
 
@@ -166,7 +166,7 @@ held_sound cs s = sound (tracked_form rust_limits) key_of (calls rust_limits) Go
 -- ---- each list has at most ten entries
 
 module _ (cs : List (Call Action)) (s : EachTyped (calls rust_limits) cs) where
-  at_most_ten : (id : List ℕ) (t : Tracked) (ps : List Pending) → held_for id (held rust_limits cs) ≡ some t → t.list ≡ some ps → length ps ≤ 10
+  at_most_ten : (id : List ℕ) (t : Tracked) (ps : List Pending) → held_for id (held rust_limits cs) ≡ Some t → t.list ≡ Some ps → length ps ≤ 10
   at_most_ten id t ps e l =
       let g : Good t = found_good key_of Good (key_of_text id) (held rust_limits cs) t (held_sound cs s).0 e in
       few ps (subst (ListFormed rust_limits) l g.list_formed).1
@@ -174,16 +174,16 @@ module _ (cs : List (Call Action)) (s : EachTyped (calls rust_limits) cs) where
 -- ---- a PRACK that acknowledges again
 
 -- the first entry of an RSeq among those that a test leaves passes it
-passed : (test : Pending → Bool) (r : ℕ) (ps : List Pending) (p : Pending) → first_of_rseq r (staying test ps) ≡ some p → test p ≡ true
+passed : (test : Pending → Bool) (r : ℕ) (ps : List Pending) (p : Pending) → first_of_rseq r (staying test ps) ≡ Some p → test p ≡ true
 unfolding first_of_rseq staying
 passed test r [] p e = absurd (let z : ◌≡◌ {A = ℕ} 0 1 = cc in omega arith)
 passed test r (q ∷ ps) p e = by (test q) refl e (passed test r ps p)
   where
-    here : (t : Bool) → test q ≡ true → cond t (some q) (first_of_rseq r (staying test ps)) ≡ some p → (first_of_rseq r (staying test ps) ≡ some p → test p ≡ true) → test p ≡ true
+    here : (t : Bool) → test q ≡ true → cond t (Some q) (first_of_rseq r (staying test ps)) ≡ Some p → (first_of_rseq r (staying test ps) ≡ Some p → test p ≡ true) → test p ≡ true
     here true h e more = let z : q ≡ p = cc in subst (λ x. test x ≡ true) z h
     here false h e more = more e
 
-    by : (t : Bool) → test q ≡ t → first_of_rseq r (cond t (q ∷ staying test ps) (staying test ps)) ≡ some p → (first_of_rseq r (staying test ps) ≡ some p → test p ≡ true) → test p ≡ true
+    by : (t : Bool) → test q ≡ t → first_of_rseq r (cond t (q ∷ staying test ps) (staying test ps)) ≡ Some p → (first_of_rseq r (staying test ps) ≡ Some p → test p ≡ true) → test p ≡ true
     by true h e more = here (eqb q.rseq r) h e more
     by false h e more = more e
 
@@ -196,21 +196,21 @@ module _ (id block : List ℕ) (time : ℕ) (ts : List Tracked) (w : Repeats rus
   -- what is held is as it was: no cleanup was due, since it would have dropped the entry
   pub record Undue : Type 0 where
     pub t : Tracked
-    pub is : held_for id ts ≡ some t
+    pub is : held_for id ts ≡ Some t
     pub clean : clean_for rust_limits time id ts ≡ t
 
   undue : Undue
   unfolding cleaned
   undue = by (held_for id ts) refl w.stands
     where
-      gone : (o : Option (List Pending)) → cleaned_list rust_limits time o ≡ some w.list → ⊥
-      gone none e = let z : ◌≡◌ {A = ℕ} 0 1 = cc in omega arith
-      gone (some ps) e =
+      gone : (o : Option (List Pending)) → cleaned_list rust_limits time o ≡ Some w.list → ⊥
+      gone None e = let z : ◌≡◌ {A = ℕ} 0 1 = cc in omega arith
+      gone (Some ps) e =
           let z : staying (stays rust_limits time) ps ≡ w.list = cc in
           not_both w.entry.acknowledged _ w.acknowledged (passed (stays rust_limits time) w.rack.rseq ps w.entry (ap (first_of_rseq w.rack.rseq) z ∙ w.first))
 
-      due : (t : Tracked) → held_for id ts ≡ some t → (b : Bool) → is_due rust_limits time t ≡ b
-          → (cond b (record { id = t.id; cleaned_at = time; list = cleaned_list rust_limits time t.list }) t).list ≡ some w.list → Undue
+      due : (t : Tracked) → held_for id ts ≡ Some t → (b : Bool) → is_due rust_limits time t ≡ b
+          → (cond b (record { id = t.id; cleaned_at = time; list = cleaned_list rust_limits time t.list }) t).list ≡ Some w.list → Undue
       due t e true b l = absurd (gone t.list l)
       due t e false b l = record {
         t = t;
@@ -218,19 +218,19 @@ module _ (id block : List ℕ) (time : ℕ) (ts : List Tracked) (w : Repeats rus
         clean = ap (cleaned rust_limits time id) e ∙ ap (λ (x : Bool). cond x (record { id = t.id; cleaned_at = time; list = cleaned_list rust_limits time t.list }) t) b;
       }
 
-      by : (o : Option Tracked) → held_for id ts ≡ o → (cleaned rust_limits time id o).list ≡ some w.list → Undue
-      by none e l = absurd (let z : ◌≡◌ {A = ℕ} 0 1 = cc in omega arith)
-      by (some t) e l = due t e (is_due rust_limits time t) refl l
+      by : (o : Option Tracked) → held_for id ts ≡ o → (cleaned rust_limits time id o).list ≡ Some w.list → Undue
+      by None e l = absurd (let z : ◌≡◌ {A = ℕ} 0 1 = cc in omega arith)
+      by (Some t) e l = due t e (is_due rust_limits time t) refl l
 
   -- the verdict
-  duplicate : judged_for rust_limits id block time ts ≡ refused DuplicatePrack
+  duplicate : judged_for rust_limits id block time ts ≡ Err DuplicatePrack
   unfolding judged
   duplicate =
       ap₂ judged w.reads w.stands
       ∙ ap (λ o. and_then (or_refuse UnknownRSeq o) (λ p. matched w.rack p)) w.first
-      ∙ ap (λ (t : Bool). refuse_if (not t) RAckCSeqMismatch (refuse_if (not (eqb w.entry.method w.rack.method)) RAckMethodMismatch (refuse_if w.entry.acknowledged DuplicatePrack (given w.rack)))) (eq-eqb w.entry.cseq w.rack.cseq w.same_cseq)
-      ∙ ap (λ (t : Bool). refuse_if (not t) RAckMethodMismatch (refuse_if w.entry.acknowledged DuplicatePrack (given w.rack))) (eq-eqb w.entry.method w.rack.method w.same_method)
-      ∙ ap (λ (t : Bool). refuse_if t DuplicatePrack (given w.rack)) w.acknowledged
+      ∙ ap (λ (t : Bool). refuse_if (not t) RAckCSeqMismatch (refuse_if (not (eqb w.entry.method w.rack.method)) RAckMethodMismatch (refuse_if w.entry.acknowledged DuplicatePrack (Ok w.rack)))) (eq-eqb w.entry.cseq w.rack.cseq w.same_cseq)
+      ∙ ap (λ (t : Bool). refuse_if (not t) RAckMethodMismatch (refuse_if w.entry.acknowledged DuplicatePrack (Ok w.rack))) (eq-eqb w.entry.method w.rack.method w.same_method)
+      ∙ ap (λ (t : Bool). refuse_if t DuplicatePrack (Ok w.rack)) w.acknowledged
 
   -- and nothing changes
   unchanged : ascending key_of ts ≡ true → set_entry key_of (marked_for rust_limits id block time ts) ts ≡ ts
@@ -241,12 +241,12 @@ module _ (id block : List ℕ) (time : ℕ) (ts : List Tracked) (w : Repeats rus
       ap (λ v. with_list (marked_by v (clean_for rust_limits time id ts).list) (clean_for rust_limits time id ts)) duplicate ∙ ap (λ (x : Tracked). with_list x.list x) u.clean in
       ap (λ (x : Tracked). set_entry key_of x ts) same ∙ set_again key_of u.t ts up (ap (λ (q : Key). entry_of key_of q ts) k ∙ u.is)
 
-  decided_so : ascending key_of ts ≡ true → judge rust_limits (validate id block time) ts ≡ deciding ts (refused DuplicatePrack)
+  decided_so : ascending key_of ts ≡ true → judge rust_limits (validate id block time) ts ≡ deciding ts (Err DuplicatePrack)
   unfolding judge
-  decided_so up = ap₂ (λ (x : List Tracked) (v : Outcome RAck). deciding x (rack_value v)) (unchanged up) duplicate
+  decided_so up = ap₂ (λ (x : List Tracked) (v : Result RAck Refusal). deciding x (rack_value v)) (unchanged up) duplicate
 
 -- the arguments are taken
-taken : (id block : List ℕ) (time : ℕ) → length id ≤ 8192 → length block ≤ 8192 → is_block block ≡ true → action_cause rust_limits (validate id block time) ≡ none
+taken : (id block : List ℕ) (time : ℕ) → length id ≤ 8192 → length block ≤ 8192 → is_block block ≡ true → action_cause rust_limits (validate id block time) ≡ None
 unfolding action_cause block_cause
 taken id block time a b f =
     ap (λ (t : Bool). or_else (cause_if t TextTooLong) (or_else (length_cause rust_limits block) (cause_if (not (is_block block)) Malformed))) (le-ltb 8192 (length id) a)
@@ -273,8 +273,8 @@ prack_history m cs s = record {
     f = stands (tracked_form rust_limits) key_of (calls rust_limits) Good exact filled keeps m cs s
 
     by : (lent : ℕ) (id block : List ℕ) (time : ℕ) → Sendable rust_limits m lent (store rust_limits m cs).used id block → Repeats rust_limits id block time (held rust_limits cs)
-        → (lending (tracked_form rust_limits) key_of (calls rust_limits) (record { lent = lent; action = validate id block time }) (store rust_limits m cs)).answer ≡ refused DuplicatePrack
+        → (lending (tracked_form rust_limits) key_of (calls rust_limits) (record { lent = lent; action = validate id block time }) (store rust_limits m cs)).answer ≡ Err DuplicatePrack
     by lent id block time ok w =
         same_answer (tracked_form rust_limits) key_of (calls rust_limits) Good exact filled m (record { lent = lent; action = validate id block time }) (store rust_limits m cs) (held rust_limits cs) (held_sound cs typed) f ok.lends
-        ∙ settled (tracked_form rust_limits) key_of (calls rust_limits) (record { lent = lent; action = validate id block time }) (held rust_limits cs) (record { entries = held rust_limits cs; answer = refused DuplicatePrack })
+        ∙ settled (tracked_form rust_limits) key_of (calls rust_limits) (record { lent = lent; action = validate id block time }) (held rust_limits cs) (record { entries = held rust_limits cs; answer = Err DuplicatePrack })
         (taken id block time ok.text_fits ok.block_fits ok.formed) (omega (arith, ok.holds, f.used_is)) (decided_so id block time (held rust_limits cs) w (held_sound cs typed).1) (omega (arith, ok.holds, f.used_is))

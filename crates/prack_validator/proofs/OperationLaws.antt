@@ -5,13 +5,13 @@ use mathlib.Core.Path.{◌≡◌, refl, sym, ap, ap₂, ◌∙◌}
 use mathlib.Core.Logic.{⊎_elim}
 use mathlib.Core.Bool.{Bool, true, false, cond, not}
 use mathlib.Core.List.{List, [], ◌++◌}
-use mathlib.Core.Option.{Option, none, some}
 use lib.ListN.{length, take, drop, length-append, length-drop, take-append-drop}
 use lib.Seq.{length-take-le, take_all, take_at, take-append-le, drop-append-le}
 use lib.Dec.{ltb}
 use borrow.Author.Tests.{lt-ltb, le-ltb, ltb-true, ltb-false}
+use Rattle.std.specs.Prelude.{Err, None, Ok, Option, Result, Some}
 use Rattle.limits.specs.Limits.{rust_limits}
-use Rattle.limits.specs.Outcome.{Outcome, refused, given, cause_if, or_else, refuse_by}
+use Rattle.limits.specs.Outcome.{cause_if, or_else, refuse_by}
 use Rattle.limits.specs.declared.Refusal.{Refusal}
 use Rattle.limits.specs.declared.Refusal.TheVariants.{BadStore, NoRoom, TextTooLong, InvalidMethod}
 use Rattle.text.specs.Answers.{too_long, length_cause}
@@ -52,14 +52,14 @@ id_of (remove_pracked id r) = id
 abbrev rest_of : Action → Option Refusal
 rest_of (register id rseq cseq method code time) = method_cause method
 rest_of (validate id block time) = block_cause rust_limits block
-rest_of (is_pracked id r) = none
-rest_of (get_pending id time room) = none
-rest_of (remove_dialog id) = none
-rest_of (remove_pracked id r) = none
+rest_of (is_pracked id r) = None
+rest_of (get_pending id time room) = None
+rest_of (remove_dialog id) = None
+rest_of (remove_pracked id r) = None
 
-or_none : (o : Option Refusal) → o ≡ or_else o none
-or_none none = refl
-or_none (some cause) = refl
+or_none : (o : Option Refusal) → o ≡ or_else o None
+or_none None = refl
+or_none (Some cause) = refl
 
 causes : (a : Action) → action_cause rust_limits a ≡ or_else (length_cause rust_limits (id_of a)) (rest_of a)
 unfolding action_cause
@@ -71,7 +71,7 @@ causes (remove_dialog id) = or_none (length_cause rust_limits id)
 causes (remove_pracked id r) = or_none (length_cause rust_limits id)
 
 -- 1
-pub long_cause_lem : (a : Action) → too_long rust_limits (id_of a) ≡ true → action_cause rust_limits a ≡ some TextTooLong
+pub long_cause_lem : (a : Action) → too_long rust_limits (id_of a) ≡ true → action_cause rust_limits a ≡ Some TextTooLong
 long_cause_lem a e = causes a ∙ ap (λ (t : Bool). or_else (cause_if t TextTooLong) (rest_of a)) e
 
 pub rest_cause : (a : Action) → too_long rust_limits (id_of a) ≡ false → action_cause rust_limits a ≡ rest_of a
@@ -88,13 +88,13 @@ method_cause_lem m t e = ap (λ (b : Bool). cause_if (not b) InvalidMethod) e
 -- ---- the ways out
 
 -- what is left: the lent bytes, the used length, the answer
-abbrev pub leaving : List ℕ → ℕ → Outcome Value → Left Value
+abbrev pub leaving : List ℕ → ℕ → Result Value Refusal → Left Value
 leaving bytes used v = record { bytes = bytes; used = used; answer = v }
 
 -- what is left where the store with the change fits, and where it doesn't
-abbrev pub left_by : List ℕ → ℕ → Outcome Value → Outcome (List ℕ) → Left Value
-left_by bytes used v (refused cause) = kept_with bytes used cause
-left_by bytes used v (given x) = leaving (over x bytes) (length x) v
+abbrev pub left_by : List ℕ → ℕ → Result Value Refusal → Result (List ℕ) Refusal → Left Value
+left_by bytes used v (Err cause) = kept_with bytes used cause
+left_by bytes used v (Ok x) = leaving (over x bytes) (length x) v
 
 -- the used bytes over themselves
 over_itself : (s : List ℕ) (used : ℕ) → used ≤ length s → over (take used s) s ≡ s
@@ -104,10 +104,10 @@ module _ (bytes : List ℕ) (used : ℕ) (a : Action) where
   abbrev left : Left Value
   left = ran rust_limits a bytes used
 
-  pub by_arguments : {cause : Refusal} → action_cause rust_limits a ≡ some cause → left ≡ kept_with bytes used cause
+  pub by_arguments : {cause : Refusal} → action_cause rust_limits a ≡ Some cause → left ≡ kept_with bytes used cause
   by_arguments {cause} e = way_arguments (tracked_form rust_limits) key_of (action_cause rust_limits a) (judge rust_limits a) bytes used cause e
 
-  module _ (clear : action_cause rust_limits a ≡ none) where
+  module _ (clear : action_cause rust_limits a ≡ None) where
     -- 3
     pub by_store : (id : List ℕ) → slot_for id bytes used ≡ slots.Broken → left ≡ kept_with bytes used BadStore
     by_store id e =
@@ -116,10 +116,10 @@ module _ (bytes : List ℕ) (used : ℕ) (a : Action) where
 
     module _ {id : List ℕ} {slot : SlotAt} (s : Sought id bytes used slot) where
       -- the call's own cause over what is held
-      pub by_cause : {cause : Refusal} → judge rust_limits a s.list ≡ refused cause → left ≡ kept_with bytes used cause
+      pub by_cause : {cause : Refusal} → judge rust_limits a s.list ≡ Err cause → left ≡ kept_with bytes used cause
       by_cause {cause} j = way_judged (tracked_form rust_limits) key_of (action_cause rust_limits a) (judge rust_limits a) bytes used clear s.within s.list s.are cause j
 
-      module _ (ts : List Tracked) (v : Outcome Value) (j : judge rust_limits a s.list ≡ deciding ts v) where
+      module _ (ts : List Tracked) (v : Result Value Refusal) (j : judge rust_limits a s.list ≡ deciding ts v) where
         -- what is held becomes `ts`, whose bytes fit
         pub by_changing : {x : List ℕ} {n : ℕ} → encode_tracked rust_limits ts ≡ x → length (encode_tracked rust_limits ts) ≡ n → n ≤ length bytes → left ≡ leaving (over x bytes) n v
         by_changing e l h =
@@ -137,7 +137,7 @@ module _ (bytes : List ℕ) (used : ℕ) (a : Action) where
         pub by_fitting : left ≡ left_by bytes used v (fitted (length bytes) (encode_tracked rust_limits ts))
         by_fitting = by (ltb (length bytes) (length (encode_tracked rust_limits ts))) refl
           where
-            by : (t : Bool) → ltb (length bytes) (length (encode_tracked rust_limits ts)) ≡ t → left ≡ left_by bytes used v (refuse_by (cause_if t NoRoom) (given (encode_tracked rust_limits ts)))
+            by : (t : Bool) → ltb (length bytes) (length (encode_tracked rust_limits ts)) ≡ t → left ≡ left_by bytes used v (refuse_by (cause_if t NoRoom) (Ok (encode_tracked rust_limits ts)))
             by true q =
                 way_full (tracked_form rust_limits) key_of (action_cause rust_limits a) (judge rust_limits a) bytes used clear s.within s.list s.are (record { entries = ts; answer = v }) j
                 (ltb-true (length bytes) (length (encode_tracked rust_limits ts)) q)
@@ -147,7 +147,7 @@ module _ (bytes : List ℕ) (used : ℕ) (a : Action) where
 
 module _ (id : List ℕ) (ts : List Tracked) where
   pub register_decides : (rseq cseq method code time : ℕ)
-      → judge rust_limits (register id rseq cseq method code time) ts ≡ deciding (set_entry key_of (registered rust_limits (pending_of rseq cseq method code time) (clean_for rust_limits time id ts)) ts) (given no_value)
+      → judge rust_limits (register id rseq cseq method code time) ts ≡ deciding (set_entry key_of (registered rust_limits (pending_of rseq cseq method code time) (clean_for rust_limits time id ts)) ts) (Ok no_value)
   unfolding judge
   register_decides rseq cseq method code time = refl
 
@@ -157,27 +157,27 @@ module _ (id : List ℕ) (ts : List Tracked) where
   validate_decides block time = refl
 
   -- 18 where the output has no room
-  pub pending_refuses : (time room : ℕ) → room < length (open_bytes (open_in (clean_for rust_limits time id ts).list)) → judge rust_limits (get_pending id time room) ts ≡ refused NoRoom
+  pub pending_refuses : (time room : ℕ) → room < length (open_bytes (open_in (clean_for rust_limits time id ts).list)) → judge rust_limits (get_pending id time room) ts ≡ Err NoRoom
   unfolding judge
   pending_refuses time room h = rw (lt-ltb room (length (open_bytes (open_in (clean_for rust_limits time id ts).list))) h)
 
   pub pending_decides : (time room : ℕ) → length (open_bytes (open_in (clean_for rust_limits time id ts).list)) ≤ room
-      → judge rust_limits (get_pending id time room) ts ≡ deciding (set_entry key_of (clean_for rust_limits time id ts) ts) (given (written (open_bytes (open_in (clean_for rust_limits time id ts).list))))
+      → judge rust_limits (get_pending id time room) ts ≡ deciding (set_entry key_of (clean_for rust_limits time id ts) ts) (Ok (written (open_bytes (open_in (clean_for rust_limits time id ts).list))))
   unfolding judge
   pending_decides time room h = rw (le-ltb room (length (open_bytes (open_in (clean_for rust_limits time id ts).list))) h)
 
   -- the flag of the first entry of the RSeq
-  pub pracked_decides : (r : ℕ) (o : Option Tracked) → held_for id ts ≡ o → judge rust_limits (is_pracked id r) ts ≡ deciding ts (given (flag (is_acknowledged (first_of_rseq r (entries_of (list_of o))))))
+  pub pracked_decides : (r : ℕ) (o : Option Tracked) → held_for id ts ≡ o → judge rust_limits (is_pracked id r) ts ≡ deciding ts (Ok (flag (is_acknowledged (first_of_rseq r (entries_of (list_of o))))))
   unfolding judge
-  pracked_decides r o e = ap (λ (x : Option Tracked). deciding ts (given (flag (is_acknowledged (first_of_rseq r (entries_of (list_of x))))))) e
+  pracked_decides r o e = ap (λ (x : Option Tracked). deciding ts (Ok (flag (is_acknowledged (first_of_rseq r (entries_of (list_of x))))))) e
 
-  pub dialog_decides : judge rust_limits (remove_dialog id) ts ≡ deciding (without_entry key_of (key_of_text id) ts) (given no_value)
+  pub dialog_decides : judge rust_limits (remove_dialog id) ts ≡ deciding (without_entry key_of (key_of_text id) ts) (Ok no_value)
   unfolding judge
   dialog_decides = refl
 
-  pub pruning_decides : (r : ℕ) (o : Option Tracked) → held_for id ts ≡ o → judge rust_limits (remove_pracked id r) ts ≡ deciding (pruned r o ts) (given no_value)
+  pub pruning_decides : (r : ℕ) (o : Option Tracked) → held_for id ts ≡ o → judge rust_limits (remove_pracked id r) ts ≡ deciding (pruned r o ts) (Ok no_value)
   unfolding judge
-  pruning_decides r o e = ap (λ (x : Option Tracked). deciding (pruned r x ts) (given no_value)) e
+  pruning_decides r o e = ap (λ (x : Option Tracked). deciding (pruned r x ts) (Ok no_value)) e
 
 -- ---- the first entry of an RSeq, by its position
 
@@ -194,19 +194,19 @@ module _ (r : ℕ) (o : Option (List Pending)) where
 
 -- ---- the text of what is held
 
-cleaned_id : (time : ℕ) (id : List ℕ) (o : Option Tracked) → ((t : Tracked) → o ≡ some t → t.id ≡ id) → (cleaned rust_limits time id o).id ≡ id
+cleaned_id : (time : ℕ) (id : List ℕ) (o : Option Tracked) → ((t : Tracked) → o ≡ Some t → t.id ≡ id) → (cleaned rust_limits time id o).id ≡ id
 unfolding cleaned
-cleaned_id time id none f = refl
-cleaned_id time id (some t) f = by (is_due rust_limits time t)
+cleaned_id time id None f = refl
+cleaned_id time id (Some t) f = by (is_due rust_limits time t)
   where
     by : (b : Bool) → (cond b (record { id = t.id; cleaned_at = time; list = cleaned_list rust_limits time t.list }) t).id ≡ id
     by true = f t refl
     by false = f t refl
 
-held_id : {id bytes : List ℕ} {used : ℕ} → Bytes bytes → (slot : SlotAt) (s : Sought id bytes used slot) (t : Tracked) → held_for id s.list ≡ some t → t.id ≡ id
+held_id : {id bytes : List ℕ} {used : ℕ} → Bytes bytes → (slot : SlotAt) (s : Sought id bytes used slot) (t : Tracked) → held_for id s.list ≡ Some t → t.id ≡ id
 held_id {id} {bytes} {used} b (slots.Held p) s t e = let w = found id bytes used p b s in let q : w.t ≡ t = same_held w.is e in ap (λ (x : Tracked). x.id) (sym q) ∙ w.same
   where
-    same_held : {x y : Tracked} → held_for id s.list ≡ some x → held_for id s.list ≡ some y → x ≡ y
+    same_held : {x y : Tracked} → held_for id s.list ≡ Some x → held_for id s.list ≡ Some y → x ≡ y
     same_held f g = let z = sym f ∙ g in cc
 held_id {id} {bytes} {used} b (slots.Free at) s t e = absurd (let z = sym (lacking id bytes used at b s).0 ∙ e in let y : ◌≡◌ {A = ℕ} 0 1 = cc in omega arith)
 held_id {id} {bytes} {used} b slots.Broken s t e = absurd (broken_not id bytes used s)

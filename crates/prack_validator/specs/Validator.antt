@@ -3,10 +3,9 @@
 -- list; 18 comes before 19 where what the cleanup adds has no bytes left, and then nothing is changed. How a PRACK is judged: prack_verdict/specs/Verdict.antt. By the
 -- RFC only 101 to 199 of an INVITE are registered, and a PRACK that is refused changes nothing; here, as in the Rust, any code and method are, and it cleans
 -- (all departures: docs/DIFFERENCES.md, "RFC 3262, PRACK lists").
-use Rattle.std.specs.Prelude.{ℕ, ◌<◌, Bool, List}
-use Rattle.std.proofs.Math.Option.{Option, none, some}
+use Rattle.std.specs.Prelude.{ℕ, ◌<◌, Bool, List, Err, None, Ok, Option, Result, Some}
 use Rattle.limits.specs.Limits.{LimitSet}
-use Rattle.limits.specs.Outcome.{Outcome, refused, given, or_else, and_then}
+use Rattle.limits.specs.Outcome.{or_else, and_then}
 use Rattle.limits.specs.declared.Refusal.{Refusal}
 use Rattle.text.specs.Answers.{length_cause}
 use Rattle.msg.specs.Block.{block_cause}
@@ -49,19 +48,19 @@ action_cause L (remove_pracked id r) = length_cause L id
 
 -- ---- what each call decides
 
-abbrev pub rack_value : Outcome RAck → Outcome Value
-rack_value (refused cause) = refused cause
-rack_value (given k) = given (rack k)
+abbrev pub rack_value : Result RAck Refusal → Result Value Refusal
+rack_value (Err cause) = Err cause
+rack_value (Ok k) = Ok (rack k)
 
-abbrev pub deciding : List Tracked → Outcome Value → Outcome (Decided Tracked Value)
-deciding ts a = given (record { entries = ts; answer = a })
+abbrev pub deciding : List Tracked → Result Value Refusal → Result (Decided Tracked Value) Refusal
+deciding ts a = Ok (record { entries = ts; answer = a })
 
 abbrev pub list_of : Option Tracked → Option (List Pending)
-list_of none = none
-list_of (some t) = t.list
+list_of None = None
+list_of (Some t) = t.list
 
 -- the PRACK of a block held against the clean list of a text, and what is then held for it
-abbrev pub judged_for : LimitSet → List ℕ → List ℕ → ℕ → List Tracked → Outcome RAck
+abbrev pub judged_for : LimitSet → List ℕ → List ℕ → ℕ → List Tracked → Result RAck Refusal
 judged_for L id block time ts = judged (rack_in block) (clean_for L time id ts).list
 
 abbrev pub marked_for : LimitSet → List ℕ → List ℕ → ℕ → List Tracked → Tracked
@@ -69,18 +68,18 @@ marked_for L id block time ts = with_list (marked_by (judged_for L id block time
 
 -- nothing held: nothing changes
 abbrev pub pruned : ℕ → Option Tracked → List Tracked → List Tracked
-pruned r none ts = ts
-pruned r (some t) ts = set_entry key_of (with_list (without_pracked r t.list) t) ts
+pruned r None ts = ts
+pruned r (Some t) ts = set_entry key_of (with_list (without_pracked r t.list) t) ts
 
-unfoldable pub judge : LimitSet → Action → List Tracked → Outcome (Decided Tracked Value)
-judge L (register id rseq cseq method code time) ts = deciding (set_entry key_of (registered L (pending_of rseq cseq method code time) (clean_for L time id ts)) ts) (given no_value)
+unfoldable pub judge : LimitSet → Action → List Tracked → Result (Decided Tracked Value) Refusal
+judge L (register id rseq cseq method code time) ts = deciding (set_entry key_of (registered L (pending_of rseq cseq method code time) (clean_for L time id ts)) ts) (Ok no_value)
 judge L (validate id block time) ts = deciding (set_entry key_of (marked_for L id block time ts) ts) (rack_value (judged_for L id block time ts))
-judge L (is_pracked id r) ts = deciding ts (given (flag (is_acknowledged (first_of_rseq r (entries_of (list_of (held_for id ts)))))))
+judge L (is_pracked id r) ts = deciding ts (Ok (flag (is_acknowledged (first_of_rseq r (entries_of (list_of (held_for id ts)))))))
 judge L (get_pending id time room) ts =
     and_then (fitted room (open_bytes (open_in (clean_for L time id ts).list))) (λ bytes.
-    deciding (set_entry key_of (clean_for L time id ts) ts) (given (written bytes)))
-judge L (remove_dialog id) ts = deciding (without_entry key_of (key_of_text id) ts) (given no_value)
-judge L (remove_pracked id r) ts = deciding (pruned r (held_for id ts) ts) (given no_value)
+    deciding (set_entry key_of (clean_for L time id ts) ts) (Ok (written bytes)))
+judge L (remove_dialog id) ts = deciding (without_entry key_of (key_of_text id) ts) (Ok no_value)
+judge L (remove_pracked id r) ts = deciding (pruned r (held_for id ts) ts) (Ok no_value)
 
 -- what a call leaves of the lent bytes, of which so many are used
 abbrev pub ran : LimitSet → Action → List ℕ → ℕ → Left Value

@@ -8,11 +8,10 @@ ghost use Rattle.ordered_store.specs.Answers.{written_in, used_written};
 ghost use Rattle.prack_validator.specs.Validator.{register, validate, is_pracked, get_pending, ran};
 ghost use Rattle.prack_validator.specs.Answers.{validated_in, pracked_of, listed_in, used_listed, output_after, validated_of};
 
-use limits::{Check, Refusal};
-use output::Written;
+use limits::Refusal;
 use prack_entries::{Slot, clean_copy, find, set};
 use prack_list::Position;
-use prack_verdict::{Verdict, hold_against};
+use prack_verdict::hold_against;
 use rack::RAck;
 
 // The RAck that was accepted, or the cause; and the new used length, since a refused PRACK keeps the cleaned list.
@@ -20,19 +19,6 @@ use rack::RAck;
 pub enum Validated {
     Is(RAck, usize),
     Refused(Refusal, usize),
-}
-
-#[derive(Clone, Copy)]
-pub enum Pracked {
-    Is(bool),
-    Refused(Refusal),
-}
-
-// How many bytes of the output were written, and the new used length.
-#[derive(Clone, Copy)]
-pub enum Listed {
-    Is(usize, usize),
-    Refused(Refusal),
 }
 
 // PrackValidator::register_reliable_provisional: 1, 28, 3, 18. Cleaned first; the eleventh drops the first. The new used length.
@@ -45,20 +31,20 @@ pub fn register(
     time: u64,
     bytes: &mut [u8],
     used: usize,
-) -> Written
+) -> Result<usize, Refusal>
     ensures value { result ≡ written_in (ran rust_limits (register id.now rseq cseq method code time) bytes.old used) }
     ensures bytes_after { bytes.new ≡ (ran rust_limits (register id.now rseq cseq method code time) bytes.old used).bytes }
     ensures used_value { used_written result used ≡ (ran rust_limits (register id.now rseq cseq method code time) bytes.old used).used }
 {
     if text::too_long(id) {
-        return Written::Refused(Refusal::TextTooLong);
+        return Err(Refusal::TextTooLong);
     }
     if !methods::is_method(method) {
-        return Written::Refused(Refusal::InvalidMethod);
+        return Err(Refusal::InvalidMethod);
     }
     let slot = find(id, bytes, used);
     if let Slot::Broken = slot {
-        return Written::Refused(Refusal::BadStore);
+        return Err(Refusal::BadStore);
     }
     let mut body = [0u8; prack_body::BODY_ROOM];
     let n = clean_copy(slot, bytes, used, time, &mut body);
@@ -74,7 +60,7 @@ pub fn validate(id: &[u8], block: &[u8], time: u64, bytes: &mut [u8], used: usiz
     if text::too_long(id) {
         return Validated::Refused(Refusal::TextTooLong, used);
     }
-    if let Check::Refused(x) = msg::check_block(block) {
+    if let Err(x) = msg::check_block(block) {
         return Validated::Refused(x, used);
     }
     let slot = find(id, bytes, used);
@@ -85,66 +71,71 @@ pub fn validate(id: &[u8], block: &[u8], time: u64, bytes: &mut [u8], used: usiz
     let n = clean_copy(slot, bytes, used, time, &mut body);
     let verdict = hold_against(block, &mut body, n);
     match set(id, slot, &body[..n], bytes, used) {
-        Written::Length(after) => judged(verdict, after),
-        Written::Refused(x) => Validated::Refused(x, used),
+        Ok(after) => judged(verdict, after),
+        Err(x) => Validated::Refused(x, used),
     }
 }
 
 // PrackValidator::is_pracked: 1, 3. False where nothing is held for the text.
-pub fn is_pracked(id: &[u8], rseq: u32, bytes: &[u8], used: usize) -> Pracked
+pub fn is_pracked(id: &[u8], rseq: u32, bytes: &[u8], used: usize) -> Result<bool, Refusal>
     ensures value { result ≡ pracked_of (ran rust_limits (is_pracked id.now rseq) bytes.now used).answer }
     ensures bytes_value { bytes.now ≡ (ran rust_limits (is_pracked id.now rseq) bytes.now used).bytes }
     ensures used_value { used ≡ (ran rust_limits (is_pracked id.now rseq) bytes.now used).used }
 {
     if text::too_long(id) {
-        return Pracked::Refused(Refusal::TextTooLong);
+        return Err(Refusal::TextTooLong);
     }
     match find(id, bytes, used) {
         Slot::Held(t) => {
             let from = t.id.start + t.id.length;
             let to = t.end;
             match prack_list::first_of(&bytes[from..to], to - from, rseq) {
-                Position::At(_, _, _, acknowledged) => Pracked::Is(acknowledged),
-                Position::NoList => Pracked::Is(false),
-                Position::Unknown => Pracked::Is(false),
+                Position::At(_, _, _, acknowledged) => Ok(acknowledged),
+                Position::NoList => Ok(false),
+                Position::Unknown => Ok(false),
             }
         }
-        Slot::Free(_) => Pracked::Is(false),
-        Slot::Broken => Pracked::Refused(Refusal::BadStore),
+        Slot::Free(_) => Ok(false),
+        Slot::Broken => Err(Refusal::BadStore),
     }
 }
 
 // PrackValidator::get_pending: 1, 3, 18. Cleaned first; RSeq in four bytes and code in two, in list order, at the front of the output.
-pub fn get_pending(id: &[u8], time: u64, bytes: &mut [u8], used: usize, out: &mut [u8]) -> Listed
+// How many bytes of it were written, and the new used length.
+pub fn get_pending(
+    id: &[u8],
+    time: u64,
+    bytes: &mut [u8],
+    used: usize,
+    out: &mut [u8],
+) -> Result<(usize, usize), Refusal>
     ensures value { result ≡ listed_in (ran rust_limits (get_pending id.now time (length out.old)) bytes.old used) }
     ensures bytes_after { bytes.new ≡ (ran rust_limits (get_pending id.now time (length out.old)) bytes.old used).bytes }
     ensures used_value { used_listed result used ≡ (ran rust_limits (get_pending id.now time (length out.old)) bytes.old used).used }
     ensures out_after { out.new ≡ output_after (ran rust_limits (get_pending id.now time (length out.old)) bytes.old used).answer out.old }
 {
     if text::too_long(id) {
-        return Listed::Refused(Refusal::TextTooLong);
+        return Err(Refusal::TextTooLong);
     }
     let slot = find(id, bytes, used);
     if let Slot::Broken = slot {
-        return Listed::Refused(Refusal::BadStore);
+        return Err(Refusal::BadStore);
     }
     let mut body = [0u8; prack_body::BODY_ROOM];
     let n = clean_copy(slot, bytes, used, time, &mut body);
     if out.len() < prack_list::open_size(&body, n) {
-        return Listed::Refused(Refusal::NoRoom);
+        return Err(Refusal::NoRoom);
     }
-    match set(id, slot, &body[..n], bytes, used) {
-        Written::Length(after) => Listed::Is(prack_list::open_bytes(&body, n, out), after),
-        Written::Refused(x) => Listed::Refused(x),
-    }
+    let after = set(id, slot, &body[..n], bytes, used)?;
+    Ok((prack_list::open_bytes(&body, n, out), after))
 }
 
 // A verdict beside the new used length.
-fn judged(verdict: Verdict, used: usize) -> Validated
+fn judged(verdict: Result<RAck, Refusal>, used: usize) -> Validated
     ensures { result ≡ validated_of verdict used }
 {
     match verdict {
-        Verdict::Accepted(k) => Validated::Is(k, used),
-        Verdict::Refused(x) => Validated::Refused(x, used),
+        Ok(k) => Validated::Is(k, used),
+        Err(cause) => Validated::Refused(cause, used),
     }
 }

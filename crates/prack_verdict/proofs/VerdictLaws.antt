@@ -3,10 +3,10 @@ use Prim.Native.Nat.{ℕ}
 use mathlib.Core.Path.{◌≡◌, sym, ap, subst, ◌∙◌}
 use mathlib.Core.Bool.{Bool, true, false, not}
 use mathlib.Core.List.{List}
-use mathlib.Core.Option.{Option, none, some}
 use lib.Dec.{eqb}
 use borrow.Author.Tests.{eq-eqb, ne_eqb}
-use Rattle.limits.specs.Outcome.{Outcome, refused, given, refuse_if}
+use Rattle.std.specs.Prelude.{Err, None, Ok, Option, Result, Some}
+use Rattle.limits.specs.Outcome.{refuse_if}
 use Rattle.limits.specs.declared.Refusal.{Refusal}
 use Rattle.limits.specs.declared.Refusal.TheVariants.{InvalidRAck, NoPendingList, UnknownRSeq, RAckCSeqMismatch, RAckMethodMismatch, DuplicatePrack}
 use Rattle.rack.specs.declared.RAck.{RAck}
@@ -14,72 +14,70 @@ use Rattle.prack_body.specs.Lists.{Pending, Tracked, first_of_rseq, marked, with
 use Rattle.prack_body.specs.Body.{Holds}
 use Rattle.prack_list.proofs.FindLaws.{FoundIn}
 use Rattle.prack_verdict.specs.Verdict.{judged, marked_by, verdict_of}
-use Rattle.prack_verdict.specs.declared.Verdict.{Verdict}
-use Rattle.prack_verdict.specs.declared.Verdict.TheVariants as verdict
 
 -- ---- the causes
 
 -- 19
-pub no_rack_lem : (o : Option RAck) (list : Option (List Pending)) → o ≡ none → judged o list ≡ refused InvalidRAck
+pub no_rack_lem : (o : Option RAck) (list : Option (List Pending)) → o ≡ None → judged o list ≡ Err InvalidRAck
 unfolding judged
 no_rack_lem o list e = rw e
 
-module _ (o : Option RAck) (list : Option (List Pending)) (k : RAck) (e : o ≡ some k) where
+module _ (o : Option RAck) (list : Option (List Pending)) (k : RAck) (e : o ≡ Some k) where
   -- 20
-  pub no_list : list ≡ none → judged o list ≡ refused NoPendingList
+  pub no_list : list ≡ None → judged o list ≡ Err NoPendingList
   unfolding judged
   no_list l = rw (e, l)
 
   -- 21
-  pub no_entry : (ps : List Pending) → list ≡ some ps → first_of_rseq k.rseq ps ≡ none → judged o list ≡ refused UnknownRSeq
+  pub no_entry : (ps : List Pending) → list ≡ Some ps → first_of_rseq k.rseq ps ≡ None → judged o list ≡ Err UnknownRSeq
   unfolding judged
   no_entry ps l f = rw (e, l, f)
 
   module _ {place c m : ℕ} {a : Bool} (w : FoundIn k.rseq list place c m a) where
-    entry_decides : judged o list ≡ refuse_if (not (eqb c k.cseq)) RAckCSeqMismatch (refuse_if (not (eqb m k.method)) RAckMethodMismatch (refuse_if a DuplicatePrack (given k)))
+    entry_decides : judged o list ≡ refuse_if (not (eqb c k.cseq)) RAckCSeqMismatch (refuse_if (not (eqb m k.method)) RAckMethodMismatch (refuse_if a DuplicatePrack (Ok k)))
     unfolding judged
     entry_decides = rw (e, w.stands, w.first, w.same_cseq, w.same_method, w.same_flag)
 
     -- 22
-    pub other_cseq : (c ≡ k.cseq → ⊥) → judged o list ≡ refused RAckCSeqMismatch
+    pub other_cseq : (c ≡ k.cseq → ⊥) → judged o list ≡ Err RAckCSeqMismatch
     other_cseq d = entry_decides ∙ rw (ne_eqb c k.cseq d)
 
     module _ (q : c ≡ k.cseq) where
       -- 23
-      pub other_method : (m ≡ k.method → ⊥) → judged o list ≡ refused RAckMethodMismatch
+      pub other_method : (m ≡ k.method → ⊥) → judged o list ≡ Err RAckMethodMismatch
       other_method d = entry_decides ∙ rw (eq-eqb c k.cseq q, ne_eqb m k.method d)
 
       module _ (r : m ≡ k.method) where
         -- 24
-        pub repeated : a ≡ true → judged o list ≡ refused DuplicatePrack
+        pub repeated : a ≡ true → judged o list ≡ Err DuplicatePrack
         repeated d = entry_decides ∙ rw (eq-eqb c k.cseq q, eq-eqb m k.method r, d)
 
-        pub accepted : a ≡ false → judged o list ≡ given k
+        pub accepted : a ≡ false → judged o list ≡ Ok k
         accepted d = entry_decides ∙ rw (eq-eqb c k.cseq q, eq-eqb m k.method r, d)
 
 -- ---- what the code answers and leaves
 
 -- r is answered, and the body becomes `after`
-abbrev pub Judges : Option RAck → List ℕ → ℕ → Verdict → List ℕ → Type 0
+abbrev pub Judges : Option RAck → List ℕ → ℕ → Result RAck Refusal → List ℕ → Type 0
 Judges o body n r after =
     ((t : Tracked) → Holds body n t → r ≡ verdict_of (judged o t.list))
     × ((t : Tracked) → Holds body n t → Holds after n (with_list (marked_by (judged o t.list) t.list) t))
 
 module _ (o : Option RAck) (body : List ℕ) (n : ℕ) where
   -- a refusal keeps the body
-  pub keeps : {cause : Refusal} → ((t : Tracked) → Holds body n t → judged o t.list ≡ refused cause) → Judges o body n (verdict.Refused cause) body
+  pub keeps : {cause : Refusal} → ((t : Tracked) → Holds body n t → judged o t.list ≡ Err cause) → Judges o body n (Err cause) body
   keeps {cause} j = (
     λ t h. sym (ap verdict_of (j t h)),
-    λ t h. subst (λ (v : Outcome RAck). Holds body n (with_list (marked_by v t.list) t)) (sym (j t h)) h,
+    λ t h. subst (λ (v : Result RAck Refusal). Holds body n (with_list (marked_by v t.list) t)) (sym (j t h)) h,
   )
 
   -- an accepted PRACK marks the entry
   pub marks : {k : RAck} {after : List ℕ}
-      → ((t : Tracked) → Holds body n t → (judged o t.list ≡ given k) × ((ps : List Pending) × ((t.list ≡ some ps) × Holds after n (with_list (some (marked k.rseq ps)) t))))
-      → Judges o body n (verdict.Accepted k) after
+      → ((t : Tracked) → Holds body n t → (judged o t.list ≡ Ok k) × ((ps : List Pending) × ((t.list ≡ Some ps) × Holds after n (with_list (Some (marked k.rseq ps)) t))))
+      → Judges o body n (Ok k) after
   marks {k} {after} j = (
     λ t h. sym (ap verdict_of (j t h).0),
     λ t h.
-        subst (λ (v : Outcome RAck). Holds after n (with_list (marked_by v t.list) t)) (sym (j t h).0)
-        (subst (λ (l : Option (List Pending)). Holds after n (with_list (marked_by (given k) l) t)) (sym (j t h).1.1.0) (j t h).1.1.1),
+        subst (λ (v : Result RAck Refusal). Holds after n (with_list (marked_by v t.list) t)) (sym (j t h).0)
+        (subst (λ (l : Option (List Pending)). Holds after n (with_list (marked_by (Ok k) l) t)) (sym (j t h).1.1.0) (j t h).1.1.1),
   )

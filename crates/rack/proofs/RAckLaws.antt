@@ -4,14 +4,12 @@ use native.Mathlib.Omega.{arith}
 use mathlib.Core.Path.{◌≡◌, refl, sym, ap, ◌∙◌}
 use mathlib.Core.Bool.{Bool, true, false, cond}
 use mathlib.Core.List.{List, [], ◌∷◌, ◌++◌, append_assoc}
-use mathlib.Core.Option.{Option, none, some}
 use lib.ListN.{length, drop, length-drop, length-append, get_or-eq_default}
 use lib.Dec.{eqb, ltb}
 use borrow.Author.Tests.{eq-eqb, ne_eqb, ltb-true, ltb-false}
+use Rattle.std.specs.Prelude.{Err, None, Ok, Option, Result, Some}
 use Rattle.limits.specs.Limits.{LimitSet}
-use Rattle.limits.specs.Outcome.{refused, given, check_of}
-use Rattle.limits.specs.declared.Check.{Check}
-use Rattle.limits.specs.declared.Check.TheVariants.{Passed, Refused}
+use Rattle.limits.specs.Outcome.{check_of}
 use Rattle.limits.specs.declared.Refusal.{Refusal}
 use Rattle.limits.specs.declared.Refusal.TheVariants.{InvalidRAck}
 use Rattle.limits.proofs.Laws.{passed, stopped}
@@ -25,39 +23,37 @@ use Rattle.output.proofs.OutputLaws.{put_first, put_next}
 use Rattle.output.specs.Decimal.{decimal_of}
 use Rattle.words.specs.Words.{word_at}
 use Rattle.rack.specs.declared.RAck.{RAck}
-use Rattle.rack.specs.declared.RAckReading.TheVariants.{Of, Unreadable}
-use Rattle.rack.specs.declared.RAckReading.{RAckReading}
 
 -- ---- the reading
 
-either : (t : Bool) → ◌≡◌ {A = Option RAck} (cond t none none) none
+either : (t : Bool) → ◌≡◌ {A = Option RAck} (cond t None None) None
 either true = refl
 either false = refl
 
-no_second : (r m : Option ℕ) → rack_of r none m ≡ none
-no_second none m = refl
-no_second (some r) m = refl
+no_second : (r m : Option ℕ) → rack_of r None m ≡ None
+no_second None m = refl
+no_second (Some r) m = refl
 
-no_third : (r c : Option ℕ) → rack_of r c none ≡ none
-no_third none c = refl
-no_third (some r) none = refl
-no_third (some r) (some c) = refl
+no_third : (r c : Option ℕ) → rack_of r c None ≡ None
+no_third None c = refl
+no_third (Some r) None = refl
+no_third (Some r) (Some c) = refl
 
 -- no text is a method, so a word that is one stands there
-no_name : method_of [] ≡ none
+no_name : method_of [] ≡ None
 unfolding position_from method_names alike
 no_name = refl
 
 module _ (s : List ℕ) where
-  pub first_bad : read_number 32 (word_at 0 s) ≡ none → read_rack s ≡ none
+  pub first_bad : read_number 32 (word_at 0 s) ≡ None → read_rack s ≡ None
   unfolding read_rack
   first_bad e = rw e (either (eqb (length (words s)) 3))
 
-  pub second_bad : read_number 32 (word_at 1 s) ≡ none → read_rack s ≡ none
+  pub second_bad : read_number 32 (word_at 1 s) ≡ None → read_rack s ≡ None
   unfolding read_rack
   second_bad e = rw (e, no_second (read_number 32 (word_at 0 s)) (method_of (word_at 2 s))) (either (eqb (length (words s)) 3))
 
-  pub third_bad : method_of (word_at 2 s) ≡ none → read_rack s ≡ none
+  pub third_bad : method_of (word_at 2 s) ≡ None → read_rack s ≡ None
   unfolding read_rack
   third_bad e = rw (e, no_third (read_number 32 (word_at 0 s)) (read_number 32 (word_at 1 s))) (either (eqb (length (words s)) 3))
 
@@ -66,49 +62,49 @@ module _ (s : List ℕ) where
     count : length (words t) ≡ length (words s) - 3
     count = ap length h ∙ length-drop 3 (words s)
 
-    pub too_many : 0 < length (words t) → read_rack s ≡ none
+    pub too_many : 0 < length (words t) → read_rack s ≡ None
     unfolding read_rack
     too_many l = rw (ne_eqb (length (words s)) 3 (λ e. omega (arith, count)))
 
-    three_words : {m : ℕ} → method_of (word_at 2 s) ≡ some m → length (words t) ≡ 0 → length (words s) ≡ 3
+    three_words : {m : ℕ} → method_of (word_at 2 s) ≡ Some m → length (words t) ≡ 0 → length (words s) ≡ 3
     three_words {m} e l = by (ltb 2 (length (words s))) refl
       where
         by : (u : Bool) → ltb 2 (length (words s)) ≡ u → length (words s) ≡ 3
         by true q = omega (arith, count, ltb-true 2 (length (words s)) q)
         by false q =
             let k : word_at 2 s ≡ [] = get_or-eq_default (words s) [] (ltb-false 2 (length (words s)) q) in
-            let x : ◌≡◌ {A = Option ℕ} none (some m) = sym no_name ∙ sym (ap method_of k) ∙ e in
+            let x : ◌≡◌ {A = Option ℕ} None (Some m) = sym no_name ∙ sym (ap method_of k) ∙ e in
             absurd (let z : ◌≡◌ {A = ℕ} 0 1 = cc in omega arith)
 
-    pub three : {r c m : ℕ} → read_number 32 (word_at 0 s) ≡ some r → read_number 32 (word_at 1 s) ≡ some c → method_of (word_at 2 s) ≡ some m → length (words t) ≡ 0
-        → read_rack s ≡ some (record { rseq = r; cseq = c; method = m })
+    pub three : {r c m : ℕ} → read_number 32 (word_at 0 s) ≡ Some r → read_number 32 (word_at 1 s) ≡ Some c → method_of (word_at 2 s) ≡ Some m → length (words t) ≡ 0
+        → read_rack s ≡ Some (record { rseq = r; cseq = c; method = m })
     unfolding read_rack
     three x y z l = rw (eq-eqb _ _ (three_words z l), x, y, z)
 
 -- ---- the operation
 
 -- r is what the check of the value answers
-module _ (L : LimitSet) (s : List ℕ) {r : Check} (h : r ≡ check_of (value_cause L s)) where
-  pub stopped_parse : {cause : Refusal} → r ≡ Refused cause → parse_rack L s ≡ refused cause
+module _ (L : LimitSet) (s : List ℕ) {r : Result (Unit {0}) Refusal} (h : r ≡ check_of (value_cause L s)) where
+  pub stopped_parse : {cause : Refusal} → r ≡ Err cause → parse_rack L s ≡ Err cause
   unfolding parse_rack
   stopped_parse e = rw (stopped (value_cause L s) (sym h ∙ e))
 
-  pub bad_parse : r ≡ Passed → read_rack s ≡ none → parse_rack L s ≡ refused InvalidRAck
+  pub bad_parse : r ≡ Ok tt → read_rack s ≡ None → parse_rack L s ≡ Err InvalidRAck
   unfolding parse_rack
   bad_parse e q = rw (passed (value_cause L s) (sym h ∙ e), q)
 
-  pub done_parse : {a : RAck} → r ≡ Passed → read_rack s ≡ some a → parse_rack L s ≡ given a
+  pub done_parse : {a : RAck} → r ≡ Ok tt → read_rack s ≡ Some a → parse_rack L s ≡ Ok a
   unfolding parse_rack
   done_parse e q = rw (passed (value_cause L s) (sym h ∙ e), q)
 
 -- what the answer of the reading says
-pub no_rack_lem : (o : Option RAck) {r : RAckReading} → r ≡ rack_from o → r ≡ Unreadable → o ≡ none
-no_rack_lem none h e = refl
-no_rack_lem (some a) h e = absurd (let z : ◌≡◌ {A = ℕ} 0 1 = cc in omega arith)
+pub no_rack_lem : (o : Option RAck) {r : Option RAck} → r ≡ rack_from o → r ≡ None → o ≡ None
+no_rack_lem None h e = refl
+no_rack_lem (Some a) h e = absurd (let z : ◌≡◌ {A = ℕ} 0 1 = cc in omega arith)
 
-pub some_rack : (o : Option RAck) {r : RAckReading} {a : RAck} → r ≡ rack_from o → r ≡ Of a → o ≡ some a
-some_rack none h e = absurd (let z : ◌≡◌ {A = ℕ} 0 1 = cc in omega arith)
-some_rack (some b) h e = cc
+pub some_rack : (o : Option RAck) {r : Option RAck} {a : RAck} → r ≡ rack_from o → r ≡ Some a → o ≡ Some a
+some_rack None h e = absurd (let z : ◌≡◌ {A = ℕ} 0 1 = cc in omega arith)
+some_rack (Some b) h e = cc
 
 -- ---- the text
 

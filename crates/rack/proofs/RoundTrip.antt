@@ -5,12 +5,12 @@ use native.Mathlib.Omega.{arith}
 use mathlib.Core.Path.{◌≡◌, refl, ap, ◌∙◌}
 use mathlib.Core.Bool.{Bool, true, false, not, false≢true}
 use mathlib.Core.List.{List, [], ◌∷◌, ◌++◌}
-use mathlib.Core.Option.{some}
 use lib.ListN.{length, get_or}
 use lib.Dec.{ltb}
 use borrow.Author.Tests.{le-leb, ne_eqb, le-ltb, not-true}
+use Rattle.std.specs.Prelude.{Ok, Some}
 use Rattle.limits.specs.Limits.{LimitSet}
-use Rattle.limits.specs.Outcome.{given, cause_if, refuse_by}
+use Rattle.limits.specs.Outcome.{cause_if, refuse_by}
 use Rattle.limits.specs.declared.Refusal.TheVariants.{InvalidMethod, NoRoom}
 use Rattle.text.specs.Text.{is_digit, is_blank, is_value, all, alike, split, filled, words}
 use Rattle.text.specs.Number.{non_empty}
@@ -68,24 +68,24 @@ digit_value b e =
 -- the names from here on are the methods from n on
 abbrev Numbered : ℕ → List (List ℕ) → Type 0
 Numbered n [] = Unit {0}
-Numbered n (name ∷ names) = (method_of name ≡ some n) × Numbered (suc n) names
+Numbered n (name ∷ names) = (method_of name ≡ Some n) × Numbered (suc n) names
 
 numbered : Numbered 1 method_names
 unfolding position_from method_names alike
 numbered = (refl, (refl, (refl, (refl, (refl, (refl, (refl, (refl, (refl, (refl, (refl, (refl, (refl, (refl, tt))))))))))))))
 
-numbered_at : (n : ℕ) (names : List (List ℕ)) (k : ℕ) → Numbered n names → k < length names → method_of (get_or names k []) ≡ some (n + k)
+numbered_at : (n : ℕ) (names : List (List ℕ)) (k : ℕ) → Numbered n names → k < length names → method_of (get_or names k []) ≡ Some (n + k)
 numbered_at n [] k r h = absurd (omega arith)
 numbered_at n (name ∷ names) zero r h = rw (add-zero n) r.0
 numbered_at n (name ∷ names) (suc k) r h =
     let q : suc n + k ≡ n + suc k = omega arith in
-    numbered_at (suc n) names k r.1 (omega arith) ∙ ap some q
+    numbered_at (suc n) names k r.1 (omega arith) ∙ ap Some q
 
 -- a method's name is read as its number
-pub name_reads : (m : ℕ) → 1 ≤ m → m ≤ 14 → method_of (name_of m) ≡ some m
+pub name_reads : (m : ℕ) → 1 ≤ m → m ≤ 14 → method_of (name_of m) ≡ Some m
 name_reads m l h =
     let q : 1 + (m - 1) ≡ m = omega arith in
-    numbered_at 1 method_names (m - 1) numbered (omega (arith, fourteen)) ∙ ap some q
+    numbered_at 1 method_names (m - 1) numbered (omega (arith, fourteen)) ∙ ap Some q
 
 -- ---- RAck
 
@@ -102,7 +102,7 @@ module _ (r c m : ℕ) (hr : r < 2 ^ 32) (hc : c < 2 ^ 32) (hm : is_method m ≡
       ∙ ap (λ ws. decimal_of r ∷ ws) (first_word (decimal_of c) (name_of m) (decimal c).some_digit (solid c))
       ∙ ap (λ ws. decimal_of r ∷ decimal_of c ∷ ws) (last_word (name_of m) short.filled short.unbroken)
 
-  pub rack_reads : read_rack (rack_text r c m) ≡ some (record { rseq = r; cseq = c; method = m })
+  pub rack_reads : read_rack (rack_text r c m) ≡ Some (record { rseq = r; cseq = c; method = m })
   unfolding read_rack rack_text
   rack_reads = rw (three_words, reads 32 r hr, reads 32 c hc, name_reads m (method_range m hm).0 (method_range m hm).1)
 
@@ -117,22 +117,22 @@ module _ (r c m : ℕ) (hr : r < 2 ^ 32) (hc : c < 2 ^ 32) (hm : is_method m ≡
   fits : length (spaced (decimal_of r) (decimal_of c) (name_of m)) ≤ 31
   fits = omega (arith, spaced_length (decimal_of r) (decimal_of c) (name_of m), ten_digits r hr, ten_digits c hc, short.short)
 
-  pub rack_parses : (L : LimitSet) → 31 ≤ L.text → parse_rack L (rack_text r c m) ≡ given (record { rseq = r; cseq = c; method = m })
+  pub rack_parses : (L : LimitSet) → 31 ≤ L.text → parse_rack L (rack_text r c m) ≡ Ok (record { rseq = r; cseq = c; method = m })
   unfolding parse_rack value_cause rack_text
   rack_parses L l = rw (le-ltb L.text (length (rack_text r c m)) (omega (arith, fits)), all_printable, rack_reads)
 
 -- what was written is its text
-written : (r c m room : ℕ) (s : List ℕ) → format_rack r c m room ≡ given s → (is_method m ≡ true) × (rack_text r c m ≡ s)
+written : (r c m room : ℕ) (s : List ℕ) → format_rack r c m room ≡ Ok s → (is_method m ≡ true) × (rack_text r c m ≡ s)
 written r c m room s e = by (is_method m) refl (ltb room (length (rack_text r c m))) refl e
   where
     by : (t : Bool) → is_method m ≡ t → (u : Bool) → ltb room (length (rack_text r c m)) ≡ u
-        → refuse_by (cause_if (not t) InvalidMethod) (refuse_by (cause_if u NoRoom) (given (rack_text r c m))) ≡ given s → (is_method m ≡ true) × (rack_text r c m ≡ s)
+        → refuse_by (cause_if (not t) InvalidMethod) (refuse_by (cause_if u NoRoom) (Ok (rack_text r c m))) ≡ Ok s → (is_method m ≡ true) × (rack_text r c m ≡ s)
     by true p false q e = (p, (cc))
     by true p true q e = absurd (let z : ◌≡◌ {A = ℕ} 0 1 = cc in omega arith)
     by false p u q e = absurd (let z : ◌≡◌ {A = ℕ} 0 1 = cc in omega arith)
 
 -- parse after format: the three numbers again
-pub parse_format : (L : LimitSet) → 31 ≤ L.text → (r c m room : ℕ) (s : List ℕ) → r < 2 ^ 32 → c < 2 ^ 32 → format_rack r c m room ≡ given s → parse_rack L s ≡ given (record { rseq = r; cseq = c; method = m })
+pub parse_format : (L : LimitSet) → 31 ≤ L.text → (r c m room : ℕ) (s : List ℕ) → r < 2 ^ 32 → c < 2 ^ 32 → format_rack r c m room ≡ Ok s → parse_rack L s ≡ Ok (record { rseq = r; cseq = c; method = m })
 parse_format L l r c m room s hr hc e =
     let w = written r c m room s e in
     rw (← w.1) (rack_parses r c m hr hc w.0 L l)

@@ -8,10 +8,8 @@ ghost use Rattle.output.specs.Output.{leaves, written_from};
 ghost use Rattle.rack.specs.RAck.{spaced, read_rack, parse_rack, format_rack, rack_from, rack_answer};
 
 use edit::put;
-use limits::{Check, Refusal};
-use methods::{Method, is_method, method_of, name_of};
-use output::Written;
-use text::Number;
+use limits::Refusal;
+use methods::{is_method, method_of, name_of};
 use words::{after_word, word};
 
 #[derive(Clone, Copy)]
@@ -21,40 +19,24 @@ pub struct RAck {
     pub method: u8,
 }
 
-// A reading without refusals.
-#[derive(Clone, Copy)]
-pub enum RAckReading {
-    Of(RAck),
-    Unreadable,
-}
-
-// What `parse_rack` answers.
-#[derive(Clone, Copy)]
-pub enum RAckAnswer {
-    Of(RAck),
-    Refused(Refusal),
-}
-
 // RAck::parse: 1, 2, 19.
-pub fn parse_rack(value: &[u8]) -> RAckAnswer
+pub fn parse_rack(value: &[u8]) -> Result<RAck, Refusal>
     ensures { result ≡ rack_answer (parse_rack rust_limits value.now) }
 {
-    if let Check::Refused(x) = text::check_value(value) {
-        return RAckAnswer::Refused(x);
-    }
-    let RAckReading::Of(r) = read_rack(value) else {
-        return RAckAnswer::Refused(Refusal::InvalidRAck);
+    text::check_value(value)?;
+    let Some(r) = read_rack(value) else {
+        return Err(Refusal::InvalidRAck);
     };
-    RAckAnswer::Of(r)
+    Ok(r)
 }
 
 // RAck::format, at the front of out: 28, 18.
-pub fn format_rack(rseq: u32, cseq: u32, method: u8, out: &mut [u8]) -> Written
+pub fn format_rack(rseq: u32, cseq: u32, method: u8, out: &mut [u8]) -> Result<usize, Refusal>
     ensures value { result ≡ written_from (format_rack rseq cseq method (length out.old)) }
     ensures out_after { out.new ≡ leaves (format_rack rseq cseq method (length out.old)) out.old }
 {
     if !is_method(method) {
-        return Written::Refused(Refusal::InvalidMethod);
+        return Err(Refusal::InvalidMethod);
     }
     let name = name_of(method);
     let bytes = name.bytes;
@@ -65,10 +47,10 @@ pub fn format_rack(rseq: u32, cseq: u32, method: u8, out: &mut [u8]) -> Written
     let m = io::decimal(cseq as u64, &mut second);
     let length = k + m + n + 2;
     if out.len() < length {
-        return Written::Refused(Refusal::NoRoom);
+        return Err(Refusal::NoRoom);
     }
     write_spaced(&first[..k], &second[..m], &bytes[..n], out);
-    Written::Length(length)
+    Ok(length)
 }
 
 // Three parts at the front of out, with a space between them.
@@ -86,23 +68,21 @@ fn write_spaced(a: &[u8], b: &[u8], c: &[u8], out: &mut [u8])
 }
 
 // Exactly three words: a number, a number and a method.
-pub fn read_rack(value: &[u8]) -> RAckReading
+pub fn read_rack(value: &[u8]) -> Option<RAck>
     ensures { result ≡ rack_from (read_rack value.now) }
 {
-    let Number::Value(rseq) = text::read_u32(word(value)) else {
-        return RAckReading::Unreadable;
+    let Some(rseq) = text::read_u32(word(value)) else {
+        return None;
     };
     let second = after_word(value);
-    let Number::Value(cseq) = text::read_u32(word(second)) else {
-        return RAckReading::Unreadable;
+    let Some(cseq) = text::read_u32(word(second)) else {
+        return None;
     };
     let third = after_word(second);
-    let Method::Of(method) = method_of(word(third)) else {
-        return RAckReading::Unreadable;
-    };
+    let method = method_of(word(third))?;
     let fourth = text::first_word(after_word(third));
     if fourth.length != 0 {
-        return RAckReading::Unreadable;
+        return None;
     }
-    RAckReading::Of(RAck { rseq, cseq, method })
+    Some(RAck { rseq, cseq, method })
 }

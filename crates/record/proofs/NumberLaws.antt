@@ -2,7 +2,7 @@
 use Prim.Native.Nat.{ℕ, ◌+◌, ◌-◌, ◌^◌, ◌<◌, min}
 use native.Mathlib.Omega.{arith}
 use mathlib.Core.Path.{◌≡◌, refl, sym, ap}
-use mathlib.Core.Option.{Option, none, some}
+use Rattle.std.specs.Prelude.{None, Option, Some}
 use Rattle.record.specs.NumbersForm.{meaning, state_in, number_in, side_in, state_from, number_from, side_from, numbers_from}
 use Rattle.record.specs.Record.{State, early, confirmed, terminated, Side, uac, uas, Numbers}
 use Rattle.record.specs.Rules.{confirmed_state, with_state, confirm_step, local_step}
@@ -30,13 +30,13 @@ state_same confirmed = refl
 state_same terminated = refl
 
 pub number_same : (o : Option ℕ) → number_in (number_from o) ≡ o
-number_same none = refl
-number_same (some n) = refl
+number_same None = refl
+number_same (Some n) = refl
 
 pub side_same : (o : Option Side) → side_in (side_from o) ≡ o
-side_same none = refl
-side_same (some uac) = refl
-side_same (some uas) = refl
+side_same None = refl
+side_same (Some uac) = refl
+side_same (Some uas) = refl
 
 pub meaning_same : (x : Numbers) → meaning (numbers_from x) ≡ x
 meaning_same x = rw (state_same x.state, number_same x.last_ack, number_same x.seconds, side_same x.refresher)

@@ -4,10 +4,10 @@ use native.Mathlib.Omega.{arith}
 use mathlib.Core.Path.{◌≡◌, refl, sym, ap, subst}
 use mathlib.Core.Bool.{Bool, true, false, ◌&&◌, ◌||◌, beq, false≢true}
 use mathlib.Core.List.{List, []}
-use mathlib.Core.Option.{Option, none, some}
 use lib.ListN.{length}
 use lib.Dec.{leb, ltb, eqb}
 use borrow.Author.Tests.{eqb-true, eqb-false, ltb-true}
+use Rattle.std.specs.Prelude.{None, Option, Some}
 use Rattle.text.specs.Text.{is_value, all}
 use Rattle.text.specs.Number.{non_empty}
 use Rattle.record.specs.Record.{State, early, confirmed, terminated, Side, uac, uas, Record, is_readable, is_sips, id_text, uri_text, number, value_or, optional, side_number, side_of, refresher_field, routes_field, bit_of, state_number, state_of, StateByte, state_byte_number, state_byte_of, state_byte, stands, Fields, fields, map_of, fields_of, record_of, secure_right, image}
@@ -34,27 +34,27 @@ number_exact : (flag : Bool) → Exact (number flag) (GoodFlag flag 0 GoodNumber
 number_exact flag = flagged_exact flag 0 (such_exact four_exact (λ n. ltb 0 n))
 
 abbrev pub GoodOptional : Option ℕ → Type 0
-GoodOptional none = ⊥
-GoodOptional (some n) = n < 4294967296
+GoodOptional None = ⊥
+GoodOptional (Some n) = n < 4294967296
 
-optional_exact : (flag : Bool) → Exact (optional flag) (GoodFlag flag none GoodOptional)
-optional_exact flag = flagged_exact flag none (mapped_exact four_exact GoodOptional some value_or there (λ a g. (refl, g)))
+optional_exact : (flag : Bool) → Exact (optional flag) (GoodFlag flag None GoodOptional)
+optional_exact flag = flagged_exact flag None (mapped_exact four_exact GoodOptional Some value_or there (λ a g. (refl, g)))
   where
-    there : (o : Option ℕ) → GoodOptional o → (some (value_or o) ≡ o) × (value_or o < 4294967296)
-    there none g = absurd g
-    there (some n) g = (refl, g)
+    there : (o : Option ℕ) → GoodOptional o → (Some (value_or o) ≡ o) × (value_or o < 4294967296)
+    there None g = absurd g
+    there (Some n) g = (refl, g)
 
 abbrev pub GoodSide : Option Side → Type 0
-GoodSide none = ⊥
-GoodSide (some s) = Unit {0}
+GoodSide None = ⊥
+GoodSide (Some s) = Unit {0}
 
-side_exact : (flag : Bool) → Exact (refresher_field flag) (GoodFlag flag none GoodSide)
-side_exact flag = flagged_exact flag none (mapped_exact (such_exact four_exact (λ n. eqb n 1 || eqb n 2)) GoodSide side_of side_number there again)
+side_exact : (flag : Bool) → Exact (refresher_field flag) (GoodFlag flag None GoodSide)
+side_exact flag = flagged_exact flag None (mapped_exact (such_exact four_exact (λ n. eqb n 1 || eqb n 2)) GoodSide side_of side_number there again)
   where
     there : (o : Option Side) → GoodSide o → (side_of (side_number o) ≡ o) × ((side_number o < 4294967296) × ((eqb (side_number o) 1 || eqb (side_number o) 2) ≡ true))
-    there none g = absurd g
-    there (some uac) g = (refl, (omega arith, refl))
-    there (some uas) g = (refl, (omega arith, refl))
+    there None g = absurd g
+    there (Some uac) g = (refl, (omega arith, refl))
+    there (Some uas) g = (refl, (omega arith, refl))
 
     one_or_two : (t u : Bool) (n : ℕ) → eqb n 1 ≡ t → eqb n 2 ≡ u → (t || u) ≡ true → (side_number (side_of n) ≡ n) × GoodSide (side_of n)
     one_or_two true u n p q e = rw p (sym (eqb-true n 1 p), tt)
@@ -138,9 +138,9 @@ GoodFields m f =
     × ((GoodUri f.second.second.first.first × (GoodUri f.second.second.first.second.first × GoodUri f.second.second.first.second.second))
     × (GoodFlag (stands 7 m) 0 GoodNumber f.second.second.second.first
     × (GoodFlag (stands 8 m) 0 GoodNumber f.second.second.second.second.first
-    × (GoodFlag (stands 9 m) none GoodOptional f.second.second.second.second.second.first
-    × (GoodFlag (stands 10 m) none GoodOptional f.second.second.second.second.second.second.first
-    × (GoodFlag (stands 11 m) none GoodSide f.second.second.second.second.second.second.second.first
+    × (GoodFlag (stands 9 m) None GoodOptional f.second.second.second.second.second.first
+    × (GoodFlag (stands 10 m) None GoodOptional f.second.second.second.second.second.second.first
+    × (GoodFlag (stands 11 m) None GoodSide f.second.second.second.second.second.second.second.first
     × GoodFlag (stands 12 m) [] GoodRoutes f.second.second.second.second.second.second.second.second)))))))
 
 fields_exact : (m : ℕ) → Exact (fields m) (GoodFields m)

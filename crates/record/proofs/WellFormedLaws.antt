@@ -4,10 +4,10 @@ use native.Mathlib.Omega.{arith}
 use mathlib.Core.Path.{◌≡◌, refl, sym, subst, ◌∙◌}
 use mathlib.Core.Bool.{Bool, true, false, ◌&&◌, false≢true}
 use mathlib.Core.List.{List, [], ◌∷◌, ◌++◌}
-use mathlib.Core.Option.{Option, none, some}
 use lib.ListN.{length}
 use lib.Dec.{leb, ltb}
 use borrow.Author.Tests.{lt-ltb, ltb-false, le-leb, leb-true}
+use Rattle.std.specs.Prelude.{None, Option, Some}
 use Rattle.text.specs.Text.{all}
 use Rattle.codec.specs.Codec.{Reading}
 use Rattle.record.specs.Record.{Record, Side, IdPart, OptionalPart, EachUri, WellFormed, is_filled, is_given, fields_of, image}
@@ -41,17 +41,17 @@ module _ (flag : Bool) where
       by true t = (subst (λ (f : Bool). GoodFlag f 0 GoodNumber n) (e ∙ t) g).0
       by false t = let k : n ≤ 0 = ltb-false _ _ t in omega arith
 
-  optional_good : (o : Option ℕ) → flag ≡ is_given o → OptionalPart o → GoodFlag flag none GoodOptional o
-  optional_good none e p = subst (λ (f : Bool). GoodFlag f none GoodOptional none) (sym e) refl
-  optional_good (some n) e p = subst (λ (f : Bool). GoodFlag f none GoodOptional (some n)) (sym e) p
+  optional_good : (o : Option ℕ) → flag ≡ is_given o → OptionalPart o → GoodFlag flag None GoodOptional o
+  optional_good None e p = subst (λ (f : Bool). GoodFlag f None GoodOptional None) (sym e) refl
+  optional_good (Some n) e p = subst (λ (f : Bool). GoodFlag f None GoodOptional (Some n)) (sym e) p
 
-  optional_back : (o : Option ℕ) → flag ≡ is_given o → GoodFlag flag none GoodOptional o → OptionalPart o
-  optional_back none e g = tt
-  optional_back (some n) e g = subst (λ (f : Bool). GoodFlag f none GoodOptional (some n)) e g
+  optional_back : (o : Option ℕ) → flag ≡ is_given o → GoodFlag flag None GoodOptional o → OptionalPart o
+  optional_back None e g = tt
+  optional_back (Some n) e g = subst (λ (f : Bool). GoodFlag f None GoodOptional (Some n)) e g
 
-  side_good : (o : Option Side) → flag ≡ is_given o → GoodFlag flag none GoodSide o
-  side_good none e = subst (λ (f : Bool). GoodFlag f none GoodSide none) (sym e) refl
-  side_good (some s) e = subst (λ (f : Bool). GoodFlag f none GoodSide (some s)) (sym e) tt
+  side_good : (o : Option Side) → flag ≡ is_given o → GoodFlag flag None GoodSide o
+  side_good None e = subst (λ (f : Bool). GoodFlag f None GoodSide None) (sym e) refl
+  side_good (Some s) e = subst (λ (f : Bool). GoodFlag f None GoodSide (Some s)) (sym e) tt
 
   each_good : (l : List (List ℕ)) → EachUri l → GoodAll GoodUri l
   each_good [] p = tt
@@ -130,9 +130,9 @@ formed r g =
 -- ---- the laws of the image
 
 -- the image of a well-formed record, then other bytes, is read as that record and the other bytes
-pub image_round : (r : Record) → WellFormed r → (rest : List ℕ) → image.read (image.write r ++ rest) ≡ some (record { value = r; rest = rest })
+pub image_round : (r : Record) → WellFormed r → (rest : List ℕ) → image.read (image.write r ++ rest) ≡ Some (record { value = r; rest = rest })
 image_round r w rest = image_exact.round r (good r w) rest
 
 -- what is read from bytes is a well-formed record, and the bytes were its image and the rest
-pub image_back : (s : List ℕ) (x : Reading Record) → Bytes s → image.read s ≡ some x → (s ≡ image.write x.value ++ x.rest) × WellFormed x.value
+pub image_back : (s : List ℕ) (x : Reading Record) → Bytes s → image.read s ≡ Some x → (s ≡ image.write x.value ++ x.rest) × WellFormed x.value
 image_back s x h e = let k = image_exact.back s x h e in (k.0, formed x.value k.1)

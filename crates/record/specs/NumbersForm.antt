@@ -1,35 +1,30 @@
 -- The definitions' numbers and the code's: field by field, and the answer of a step case by case. Document 01, "The shape of each place": the record's
 -- numbers are a struct of the code, whose methods are the steps.
-use Rattle.std.specs.Prelude.{ℕ}
-use Rattle.std.proofs.Math.Option.{Option, none, some}
-use Rattle.limits.specs.Outcome.{Outcome, refused, given}
+use Rattle.limits.specs.declared.Refusal.{Refusal}
+use Rattle.std.specs.Prelude.{ℕ, Err, None, Ok, Option, Result, Some}
 use Rattle.record.specs.Record.{State, early, confirmed, terminated, Side, uac, uas, Numbers}
 use Rattle.record.specs.Rules.{Kind, ack, other}
 use Rattle.record.specs.declared.numbers.State.{State as CodeState}
 use Rattle.record.specs.declared.numbers.State.TheVariants as state
-use Rattle.record.specs.declared.numbers.Optional.{Optional}
-use Rattle.record.specs.declared.numbers.Optional.TheVariants as optional
 use Rattle.record.specs.declared.numbers.Refresher.{Refresher}
 use Rattle.record.specs.declared.numbers.Refresher.TheVariants as refresher
 use Rattle.record.specs.declared.numbers.Numbers.{Numbers as CodeNumbers}
 use Rattle.record.specs.declared.numbers.Method.{Method}
 use Rattle.record.specs.declared.numbers.Method.TheVariants as method
-use Rattle.record.specs.declared.numbers.Step.{Step}
-use Rattle.record.specs.declared.numbers.Step.TheVariants as step
 
 abbrev pub state_in : CodeState → State
 state_in state.Early = early
 state_in state.Confirmed = confirmed
 state_in state.Terminated = terminated
 
-abbrev pub number_in : Optional → Option ℕ
-number_in (optional.Number n) = some n
-number_in optional.Absent = none
+abbrev pub number_in : Option ℕ → Option ℕ
+number_in (Some n) = Some n
+number_in None = None
 
 abbrev pub side_in : Refresher → Option Side
-side_in refresher.Uac = some uac
-side_in refresher.Uas = some uas
-side_in refresher.Unspecified = none
+side_in refresher.Uac = Some uac
+side_in refresher.Uas = Some uas
+side_in refresher.Unspecified = None
 
 -- what the code's numbers say
 abbrev pub meaning : CodeNumbers → Numbers
@@ -47,9 +42,9 @@ kind_in method.Ack = ack
 kind_in method.Other = other
 
 -- what a step answers
-abbrev pub outcome_in : Step → Outcome Numbers
-outcome_in (step.Taken x) = given (meaning x)
-outcome_in (step.Refused cause) = refused cause
+abbrev pub outcome_in : Result CodeNumbers Refusal → Result Numbers Refusal
+outcome_in (Ok x) = Ok (meaning x)
+outcome_in (Err cause) = Err cause
 
 -- ---- the code's numbers for given ones
 
@@ -58,14 +53,14 @@ state_from early = state.Early
 state_from confirmed = state.Confirmed
 state_from terminated = state.Terminated
 
-abbrev pub number_from : Option ℕ → Optional
-number_from none = optional.Absent
-number_from (some n) = optional.Number n
+abbrev pub number_from : Option ℕ → Option ℕ
+number_from None = None
+number_from (Some n) = Some n
 
 abbrev pub side_from : Option Side → Refresher
-side_from none = refresher.Unspecified
-side_from (some uac) = refresher.Uac
-side_from (some uas) = refresher.Uas
+side_from None = refresher.Unspecified
+side_from (Some uac) = refresher.Uac
+side_from (Some uas) = refresher.Uas
 
 abbrev pub numbers_from : Numbers → CodeNumbers
 numbers_from x = record {

@@ -1,8 +1,7 @@
 -- A dialog record as data, and its image. Document 01, "Record image": big-endian; two bytes of bit map, bit 0 lowest, then the
 -- fields whose bit stands, in bit order.
-use Rattle.std.specs.Prelude.{ℕ, ◌+◌, ◌*◌, ◌/◌, ◌%◌, ◌^◌, ◌≤◌, ◌<◌, ◌≡◌, Bool, true, false, cond, ◌&&◌, ◌||◌, List, [], ◌∷◌, length, take, leb, ltb, eqb}
+use Rattle.std.specs.Prelude.{ℕ, ◌+◌, ◌*◌, ◌/◌, ◌%◌, ◌^◌, ◌≤◌, ◌<◌, ◌≡◌, Bool, true, false, cond, ◌&&◌, ◌||◌, List, [], ◌∷◌, length, take, leb, ltb, eqb, None, Option, Some}
 use Rattle.std.specs.Bool.{beq}
-use Rattle.std.proofs.Math.Option.{Option, none, some}
 use Rattle.text.specs.Text.{is_value, all, same}
 use Rattle.text.specs.Number.{non_empty}
 use Rattle.uri.specs.SipUri.{UriParts, sip_uri, sips}
@@ -44,8 +43,8 @@ pub record Record : Type 0 where
 
 -- a URI can be read
 abbrev pub is_read : Option UriParts → Bool
-is_read none = false
-is_read (some u) = true
+is_read None = false
+is_read (Some u) = true
 
 abbrev pub is_readable : List ℕ → Bool
 is_readable t = is_read (sip_uri t)
@@ -68,23 +67,23 @@ number flag = flagged flag 0 (such four (λ n. ltb 0 n))
 
 -- a number that may be absent, and may be 0
 abbrev pub value_or : Option ℕ → ℕ
-value_or none = 0
-value_or (some n) = n
+value_or None = 0
+value_or (Some n) = n
 
 abbrev pub optional : Bool → Codec (Option ℕ)
-optional flag = flagged flag none (mapped some value_or four)
+optional flag = flagged flag None (mapped Some value_or four)
 
 -- 1 uac, 2 uas
 abbrev pub side_number : Option Side → ℕ
-side_number none = 0
-side_number (some uac) = 1
-side_number (some uas) = 2
+side_number None = 0
+side_number (Some uac) = 1
+side_number (Some uas) = 2
 
 abbrev pub side_of : ℕ → Option Side
-side_of n = cond (eqb n 1) (some uac) (some uas)
+side_of n = cond (eqb n 1) (Some uac) (Some uas)
 
 abbrev pub refresher_field : Bool → Codec (Option Side)
-refresher_field flag = flagged flag none (mapped side_of side_number (such four (λ n. eqb n 1 || eqb n 2)))
+refresher_field flag = flagged flag None (mapped side_of side_number (such four (λ n. eqb n 1 || eqb n 2)))
 
 -- a count byte, 1 to 50, then texts
 abbrev pub routes_field : Bool → Codec (List (List ℕ))
@@ -161,8 +160,8 @@ is_filled [] = false
 is_filled (a ∷ l) = true
 
 abbrev pub is_given : {A : Type 0} → Option A → Bool
-is_given none = false
-is_given (some a) = true
+is_given None = false
+is_given (Some a) = true
 
 -- bits 3 to 6 always stand; 0 to 2 if not empty; 7 and 8 if not 0; 9 to 11 if present; 12 if not empty; no others
 abbrev pub tail_map : Tail → ℕ
@@ -251,8 +250,8 @@ abbrev pub UriPart : List ℕ → Type 0
 UriPart t = (length t < 65536) × (is_readable t ≡ true)
 
 abbrev pub OptionalPart : Option ℕ → Type 0
-OptionalPart none = Unit {0}
-OptionalPart (some n) = n < 2 ^ 32
+OptionalPart None = Unit {0}
+OptionalPart (Some n) = n < 2 ^ 32
 
 abbrev pub EachUri : List (List ℕ) → Type 0
 EachUri [] = Unit {0}

@@ -2,10 +2,10 @@
 -- Document 01, "CSeq": 0 is refused; ACK must equal a non-zero remote number, and is remembered; others are at most
 -- 2,147,483,647, then, if the remote number isn't 0, 1 to 1,000 above it. RFC 3261 section 12.2.2 asks only that a request's
 -- number is higher; the two limits are the Rust's. Local numbers rise by one and stop at 4,294,967,295.
-use Rattle.std.specs.Prelude.{ℕ, ◌+◌, ◌-◌, ◌^◌, min, cond, not, ◌||◌, leb, ltb, eqb}
-use Rattle.std.proofs.Math.Option.{some}
+use Rattle.limits.specs.declared.Refusal.{Refusal}
+use Rattle.std.specs.Prelude.{ℕ, ◌+◌, ◌-◌, ◌^◌, min, cond, not, ◌||◌, leb, ltb, eqb, Ok, Result, Some}
 use Rattle.limits.specs.Limits.{LimitSet}
-use Rattle.limits.specs.Outcome.{Outcome, given, refuse_by, refuse_if}
+use Rattle.limits.specs.Outcome.{refuse_by, refuse_if}
 use Rattle.limits.specs.declared.Refusal.TheVariants.{CSeqZero, CSeqTooLarge, InvalidCSeq, CSeqJumpTooLarge}
 use Rattle.session_seconds.specs.Seconds.{seconds_cause}
 use Rattle.record.specs.Record.{State, early, confirmed, terminated, Numbers}
@@ -21,28 +21,28 @@ abbrev pub with_remote : ℕ → Numbers → Numbers
 with_remote n x = record { state = x.state; local = x.local; remote = n; last_ack = x.last_ack; seconds = x.seconds; refresher = x.refresher }
 
 abbrev pub with_ack : ℕ → Numbers → Numbers
-with_ack n x = record { state = x.state; local = x.local; remote = x.remote; last_ack = some n; seconds = x.seconds; refresher = x.refresher }
+with_ack n x = record { state = x.state; local = x.local; remote = x.remote; last_ack = Some n; seconds = x.seconds; refresher = x.refresher }
 
 -- a number above the remote one: 11, then 12
-abbrev pub increment : LimitSet → ℕ → Numbers → Outcome Numbers
+abbrev pub increment : LimitSet → ℕ → Numbers → Result Numbers Refusal
 increment L n x =
     refuse_if (leb n x.remote) InvalidCSeq
-    (refuse_if (ltb L.cseq_jump (n - x.remote)) CSeqJumpTooLarge (given (with_remote n x)))
+    (refuse_if (ltb L.cseq_jump (n - x.remote)) CSeqJumpTooLarge (Ok (with_remote n x)))
 
 -- any request but ACK: 10, then 11, 12
-abbrev pub other_step : LimitSet → ℕ → Numbers → Outcome Numbers
-other_step L n x = refuse_if (ltb L.cseq n) CSeqTooLarge (cond (eqb x.remote 0) (given (with_remote n x)) (increment L n x))
+abbrev pub other_step : LimitSet → ℕ → Numbers → Result Numbers Refusal
+other_step L n x = refuse_if (ltb L.cseq n) CSeqTooLarge (cond (eqb x.remote 0) (Ok (with_remote n x)) (increment L n x))
 
 -- ACK: 11
-abbrev pub ack_step : ℕ → Numbers → Outcome Numbers
-ack_step n x = refuse_if (not (eqb n x.remote) || eqb x.remote 0) InvalidCSeq (given (with_ack n x))
+abbrev pub ack_step : ℕ → Numbers → Result Numbers Refusal
+ack_step n x = refuse_if (not (eqb n x.remote) || eqb x.remote 0) InvalidCSeq (Ok (with_ack n x))
 
-abbrev pub step_of : LimitSet → Kind → ℕ → Numbers → Outcome Numbers
+abbrev pub step_of : LimitSet → Kind → ℕ → Numbers → Result Numbers Refusal
 step_of L ack n x = ack_step n x
 step_of L other n x = other_step L n x
 
 -- 9 first of all
-unfoldable pub request_step : LimitSet → Kind → ℕ → Numbers → Outcome Numbers
+unfoldable pub request_step : LimitSet → Kind → ℕ → Numbers → Result Numbers Refusal
 request_step L kind n x = refuse_if (eqb n 0) CSeqZero (step_of L kind n x)
 
 -- ---- the others
@@ -66,8 +66,8 @@ abbrev pub local_step : Numbers → Numbers
 local_step x = record { state = x.state; local = min (x.local + 1) (2 ^ 32 - 1); remote = x.remote; last_ack = x.last_ack; seconds = x.seconds; refresher = x.refresher }
 
 abbrev pub with_seconds : ℕ → Numbers → Numbers
-with_seconds n x = record { state = x.state; local = x.local; remote = x.remote; last_ack = x.last_ack; seconds = some n; refresher = x.refresher }
+with_seconds n x = record { state = x.state; local = x.local; remote = x.remote; last_ack = x.last_ack; seconds = Some n; refresher = x.refresher }
 
 -- 13 with the least, then 14
-unfoldable pub interval_step : LimitSet → ℕ → Numbers → Outcome Numbers
-interval_step L n x = refuse_by (seconds_cause L n) (given (with_seconds n x))
+unfoldable pub interval_step : LimitSet → ℕ → Numbers → Result Numbers Refusal
+interval_step L n x = refuse_by (seconds_cause L n) (Ok (with_seconds n x))

@@ -1,6 +1,5 @@
 -- The used bytes of a store: records one after another, one per identifier (document 01, "Record image" and refusal 3).
-use Rattle.std.specs.Prelude.{ℕ, zero, suc, ◌+◌, Bool, true, cond, not, ◌&&◌, List, [], ◌∷◌, length}
-use Rattle.std.proofs.Math.Option.{Option, none, some}
+use Rattle.std.specs.Prelude.{ℕ, zero, suc, ◌+◌, Bool, true, cond, not, ◌&&◌, List, [], ◌∷◌, length, None, Option, Some}
 use Rattle.text.specs.Text.{equal}
 use Rattle.codec.specs.Codec.{Reading, write_all}
 use Rattle.record.specs.Record.{Record, image}
@@ -27,26 +26,26 @@ abbrev pub encode_all : List Record → List ℕ
 encode_all rs = write_all image rs
 
 abbrev pub record_before : Record → Option (List Record) → Option (List Record)
-record_before r none = none
-record_before r (some rs) = some (r ∷ rs)
+record_before r None = None
+record_before r (Some rs) = Some (r ∷ rs)
 
 abbrev pub read_on : Option (Reading Record) → (List ℕ → Option (List Record)) → Option (List Record)
-read_on none more = none
-read_on (some x) more = record_before x.value (more x.rest)
+read_on None more = None
+read_on (Some x) more = record_before x.value (more x.rest)
 
 -- no records where there are no bytes left
 abbrev pub unless_done : List ℕ → Option (List Record) → Option (List Record)
-unless_done [] more = some []
+unless_done [] more = Some []
 unless_done (b ∷ s) more = more
 
 -- records up to the end, at most `fuel` of them
 unfoldable pub records_in : ℕ → List ℕ → Option (List Record)
-records_in zero s = unless_done s none
+records_in zero s = unless_done s None
 records_in (suc fuel) s = unless_done s (read_on (image.read s) (λ t. records_in fuel t))
 
 abbrev pub only_distinct : Option (List Record) → Option (List Record)
-only_distinct none = none
-only_distinct (some rs) = cond (distinct rs) (some rs) none
+only_distinct None = None
+only_distinct (Some rs) = cond (distinct rs) (Some rs) None
 
 -- the records of a store's used bytes; every image has a byte, so there are no more records than bytes
 unfoldable pub decode_all : List ℕ → Option (List Record)

@@ -3,4 +3,4 @@
 
 mod numbers;
 
-pub use numbers::{Method, Numbers, Optional, Refresher, State, Step};
+pub use numbers::{Method, Numbers, Refresher, State};

@@ -5,20 +5,13 @@ ghost use Rattle.record.specs.Rules.{request_step, ack_step, other_step, confirm
 ghost use Rattle.record.specs.NumbersForm.{meaning, kind_in, outcome_in};
 
 use limits::{Limits, Refusal};
-use session_seconds::{CheckedSeconds, check_expires_seconds};
+use session_seconds::check_expires_seconds;
 
 #[derive(Clone, Copy)]
 pub enum State {
     Early,
     Confirmed,
     Terminated,
-}
-
-// A number that may be absent.
-#[derive(Clone, Copy)]
-pub enum Optional {
-    Number(u32),
-    Absent,
 }
 
 #[derive(Clone, Copy)]
@@ -40,25 +33,18 @@ pub struct Numbers {
     pub state: State,
     pub local: u32,
     pub remote: u32,
-    pub last_ack: Optional,
-    pub seconds: Optional,
+    pub last_ack: Option<u32>,
+    pub seconds: Option<u32>,
     pub refresher: Refresher,
-}
-
-// What a step that can be refused answers.
-#[derive(Clone, Copy)]
-pub enum Step {
-    Taken(Numbers),
-    Refused(Refusal),
 }
 
 impl Numbers {
     // update_from_request: 9; ACK 11; others 10, 11, 12.
-    pub fn request(self, method: Method, cseq: u32) -> Step
+    pub fn request(self, method: Method, cseq: u32) -> Result<Numbers, Refusal>
         ensures { outcome_in result ≡ request_step rust_limits (kind_in method) cseq (meaning self) }
     {
         if cseq == 0 {
-            return Step::Refused(Refusal::CSeqZero);
+            return Err(Refusal::CSeqZero);
         }
         match method {
             Method::Ack => self.acknowledge(cseq),
@@ -67,47 +53,47 @@ impl Numbers {
     }
 
     // An ACK equals a remote number that isn't 0, and is remembered.
-    fn acknowledge(self, cseq: u32) -> Step
+    fn acknowledge(self, cseq: u32) -> Result<Numbers, Refusal>
         ensures { outcome_in result ≡ ack_step cseq (meaning self) }
     {
         if cseq != self.remote {
-            return Step::Refused(Refusal::InvalidCSeq);
+            return Err(Refusal::InvalidCSeq);
         }
         if self.remote == 0 {
-            return Step::Refused(Refusal::InvalidCSeq);
+            return Err(Refusal::InvalidCSeq);
         }
         let state = self.state;
         let seconds = self.seconds;
         let refresher = self.refresher;
-        Step::Taken(Numbers {
+        Ok(Numbers {
             state,
             local: self.local,
             remote: self.remote,
-            last_ack: Optional::Number(cseq),
+            last_ack: Some(cseq),
             seconds,
             refresher,
         })
     }
 
     // Any other request becomes the remote number, within its limits.
-    fn advance(self, cseq: u32) -> Step
+    fn advance(self, cseq: u32) -> Result<Numbers, Refusal>
         ensures { outcome_in result ≡ other_step rust_limits cseq (meaning self) }
     {
         if Limits::MAX_CSEQ_VALUE < cseq {
-            return Step::Refused(Refusal::CSeqTooLarge);
+            return Err(Refusal::CSeqTooLarge);
         }
         let remote = self.remote;
         if remote != 0 {
             if cseq <= remote {
-                return Step::Refused(Refusal::InvalidCSeq);
+                return Err(Refusal::InvalidCSeq);
             }
             if Limits::MAX_CSEQ_JUMP < cseq - remote {
-                return Step::Refused(Refusal::CSeqJumpTooLarge);
+                return Err(Refusal::CSeqJumpTooLarge);
             }
         }
         let mut x = self;
         x.remote = cseq;
-        Step::Taken(x)
+        Ok(x)
     }
 
     // Early becomes Confirmed; every other state stays.
@@ -142,13 +128,11 @@ impl Numbers {
     }
 
     // set_session_expires: 13 with 90, 14.
-    pub fn set_session_expires(self, seconds: u64) -> Step
+    pub fn set_session_expires(self, seconds: u64) -> Result<Numbers, Refusal>
         ensures { outcome_in result ≡ interval_step rust_limits seconds (meaning self) }
     {
-        match check_expires_seconds(seconds) {
-            CheckedSeconds::Accepted(n) => Step::Taken(self.with_seconds(n)),
-            CheckedSeconds::Refused(cause) => Step::Refused(cause),
-        }
+        let n = check_expires_seconds(seconds)?;
+        Ok(self.with_seconds(n))
     }
 
     fn with_seconds(self, n: u32) -> Numbers
@@ -162,7 +146,7 @@ impl Numbers {
             local: self.local,
             remote: self.remote,
             last_ack,
-            seconds: Optional::Number(n),
+            seconds: Some(n),
             refresher,
         }
     }

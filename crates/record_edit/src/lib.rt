@@ -2,13 +2,12 @@
 // The caller has read the record.
 #![tactic(auto)]
 
-ghost use Rattle.std.specs.Prelude.{◌≡◌, ◌≤◌, ◌<◌, length, take};
+ghost use Rattle.std.specs.Prelude.{◌≡◌, ◌≤◌, ◌<◌, length, take, Some};
 ghost use Rattle.edit.specs.Edit.{over};
 ghost use Rattle.output.specs.Output.{fitted, leaves, written_from};
 ghost use Rattle.record.specs.Changes.{with_numbers};
 ghost use Rattle.record.specs.NumbersForm.{meaning};
 ghost use Rattle.image.specs.Places.{record_from};
-ghost use Rattle.image.specs.declared.RecordReading.TheVariants.{Whole};
 ghost use Rattle.image_edit.specs.Changes.{read_at, changed};
 ghost use Rattle.record_gaps.specs.Revised.{revised};
 
@@ -16,7 +15,6 @@ use image::RecordAt;
 use image_edit::change_numbers;
 use image_writer::{numbers_size, write_numbers};
 use limits::Refusal;
-use output::Written;
 use record::Numbers;
 use record_gaps::{open_gaps, write_head};
 
@@ -27,9 +25,9 @@ pub fn revise_numbers(
     at: usize,
     r: RecordAt,
     numbers: Numbers,
-) -> Written
+) -> Result<usize, Refusal>
     requires used_in_bounds { (used ≤ length bytes.old) × (at ≤ used) }
-    requires bytes_value { record_from at (read_at at (take used bytes.old)) ≡ Whole r }
+    requires bytes_value { record_from at (read_at at (take used bytes.old)) ≡ Some r }
     ensures value { result ≡ written_from (fitted (length bytes.old) (changed (with_numbers (meaning numbers)) at (take used bytes.old))) }
     ensures bytes_after { bytes.new ≡ leaves (fitted (length bytes.old) (changed (with_numbers (meaning numbers)) at (take used bytes.old))) bytes.old }
 {
@@ -37,9 +35,9 @@ pub fn revise_numbers(
     let old = r.routes - uris.end;
     let size = used - old + numbers_size(numbers);
     if bytes.len() < size {
-        return Written::Refused(Refusal::NoRoom);
+        return Err(Refusal::NoRoom);
     }
-    Written::Length(change_numbers(bytes, used, at, r, numbers))
+    Ok(change_numbers(bytes, used, at, r, numbers))
 }
 
 // Other numbers and another target, a text of at most 65,535 bytes: 18.
@@ -50,9 +48,9 @@ pub fn revise_numbers_and_target(
     r: RecordAt,
     numbers: Numbers,
     target: &[u8],
-) -> Written
+) -> Result<usize, Refusal>
     requires used_in_bounds { (used ≤ length bytes.old) × (at ≤ used) × (length target.now < 65536) }
-    requires bytes_value { record_from at (read_at at (take used bytes.old)) ≡ Whole r }
+    requires bytes_value { record_from at (read_at at (take used bytes.old)) ≡ Some r }
     ensures value { result ≡ written_from (fitted (length bytes.old) (changed (revised (meaning numbers) target.now) at (take used bytes.old))) }
     ensures bytes_after { bytes.new ≡ leaves (fitted (length bytes.old) (changed (revised (meaning numbers) target.now) at (take used bytes.old))) bytes.old }
 {
@@ -61,9 +59,9 @@ pub fn revise_numbers_and_target(
     let old = r.routes - uris.end;
     let result = used - text.length - old + target.len() + numbers_size(numbers);
     if bytes.len() < result {
-        return Written::Refused(Refusal::NoRoom);
+        return Err(Refusal::NoRoom);
     }
-    Written::Length(change_numbers_and_target(bytes, used, at, r, numbers, target))
+    Ok(change_numbers_and_target(bytes, used, at, r, numbers, target))
 }
 
 // The same where it fits. The new used length.
@@ -76,7 +74,7 @@ fn change_numbers_and_target(
     target: &[u8],
 ) -> usize
     requires used_in_bounds { (used ≤ length bytes.old) × (at ≤ used) × (length target.now < 65536) }
-    requires bytes_value { record_from at (read_at at (take used bytes.old)) ≡ Whole r }
+    requires bytes_value { record_from at (read_at at (take used bytes.old)) ≡ Some r }
     requires bytes_in_bounds { length (changed (revised (meaning numbers) target.now) at (take used bytes.old)) ≤ length bytes.old }
     ensures value { result ≡ length (changed (revised (meaning numbers) target.now) at (take used bytes.old)) }
     ensures bytes_after { bytes.new ≡ over (changed (revised (meaning numbers) target.now) at (take used bytes.old)) bytes.old }

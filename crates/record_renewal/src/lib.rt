@@ -2,25 +2,22 @@
 // `measure_routes` answers of the block, which was checked.
 #![tactic(auto)]
 
-ghost use Rattle.std.specs.Prelude.{◌≡◌, true, ◌++◌, ◌+◌, ◌≤◌, ◌<◌, length, take};
+ghost use Rattle.std.specs.Prelude.{◌≡◌, true, ◌++◌, ◌+◌, ◌≤◌, ◌<◌, length, take, Ok, Some};
 ghost use Rattle.limits.specs.Limits.{rust_limits};
 ghost use Rattle.route_set.specs.Routes.{routes_of};
 ghost use Rattle.edit.specs.Edit.{over, put_at};
 ghost use Rattle.output.specs.Output.{fitted, leaves, written_from};
 ghost use Rattle.record.specs.NumbersForm.{meaning};
 ghost use Rattle.image.specs.Places.{record_from};
-ghost use Rattle.image.specs.declared.RecordReading.TheVariants.{Whole};
 ghost use Rattle.image_writer.specs.Parts.{numbers_bytes};
 ghost use Rattle.image_edit.specs.Changes.{read_at, changed};
 ghost use Rattle.route_section.specs.Section.{section_in, section_from};
-ghost use Rattle.route_section.specs.declared.Section.TheVariants.{Of};
 ghost use Rattle.routes_edit.specs.Rerouted.{renewed_by};
 ghost use Rattle.record_gaps.specs.Revised.{renewed};
 
 use image::RecordAt;
 use image_writer::{numbers_size, write_numbers};
 use limits::Refusal;
-use output::Written;
 use record::Numbers;
 use record_gaps::{open_gaps, write_head};
 use route_section::write_routes;
@@ -36,10 +33,10 @@ pub fn revise_numbers_and_routes(
     block: &[u8],
     count: usize,
     size: usize,
-) -> Written
+) -> Result<usize, Refusal>
     requires used_in_bounds { (used ≤ length bytes.old) × (at ≤ used) × (length block.now ≤ 8192) × (size ≤ 500000) }
-    requires bytes_value { record_from at (read_at at (take used bytes.old)) ≡ Whole r }
-    requires block_value { section_from (routes_of rust_limits block.now) ≡ Of count size }
+    requires bytes_value { record_from at (read_at at (take used bytes.old)) ≡ Some r }
+    requires block_value { section_from (routes_of rust_limits block.now) ≡ Ok (count, size) }
     ensures value { result ≡ written_from (fitted (length bytes.old) (changed (renewed_by (meaning numbers) (routes_of rust_limits block.now)) at (take used bytes.old))) }
     ensures bytes_after { bytes.new ≡ leaves (fitted (length bytes.old) (changed (renewed_by (meaning numbers) (routes_of rust_limits block.now)) at (take used bytes.old))) bytes.old }
 {
@@ -47,9 +44,9 @@ pub fn revise_numbers_and_routes(
     let old = r.end - uris.end;
     let result = used - old + (numbers_size(numbers) + size);
     if bytes.len() < result {
-        return Written::Refused(Refusal::NoRoom);
+        return Err(Refusal::NoRoom);
     }
-    Written::Length(change_numbers_and_routes(bytes, used, at, r, numbers, block, count, size))
+    Ok(change_numbers_and_routes(bytes, used, at, r, numbers, block, count, size))
 }
 
 // Other numbers, other routes and another target, a text of at most 65,535 bytes: 18.
@@ -63,10 +60,10 @@ pub fn revise_all(
     count: usize,
     size: usize,
     target: &[u8],
-) -> Written
+) -> Result<usize, Refusal>
     requires used_in_bounds { (used ≤ length bytes.old) × (at ≤ used) × (length block.now ≤ 8192) × (size ≤ 500000) × (length target.now < 65536) }
-    requires bytes_value { record_from at (read_at at (take used bytes.old)) ≡ Whole r }
-    requires block_value { section_from (routes_of rust_limits block.now) ≡ Of count size }
+    requires bytes_value { record_from at (read_at at (take used bytes.old)) ≡ Some r }
+    requires block_value { section_from (routes_of rust_limits block.now) ≡ Ok (count, size) }
     ensures value { result ≡ written_from (fitted (length bytes.old) (changed (renewed (meaning numbers) (routes_of rust_limits block.now) target.now) at (take used bytes.old))) }
     ensures bytes_after { bytes.new ≡ leaves (fitted (length bytes.old) (changed (renewed (meaning numbers) (routes_of rust_limits block.now) target.now) at (take used bytes.old))) bytes.old }
 {
@@ -75,9 +72,9 @@ pub fn revise_all(
     let old = r.end - uris.end;
     let result = used - text.length - old + target.len() + (numbers_size(numbers) + size);
     if bytes.len() < result {
-        return Written::Refused(Refusal::NoRoom);
+        return Err(Refusal::NoRoom);
     }
-    Written::Length(change_all(bytes, used, at, r, numbers, block, count, size, target))
+    Ok(change_all(bytes, used, at, r, numbers, block, count, size, target))
 }
 
 // The same where it fits. The new used length.
@@ -93,8 +90,8 @@ fn change_all(
     target: &[u8],
 ) -> usize
     requires used_in_bounds { (used ≤ length bytes.old) × (at ≤ used) × (length block.now ≤ 8192) × (size ≤ 500000) × (length target.now < 65536) }
-    requires bytes_value { record_from at (read_at at (take used bytes.old)) ≡ Whole r }
-    requires block_value { section_from (routes_of rust_limits block.now) ≡ Of count size }
+    requires bytes_value { record_from at (read_at at (take used bytes.old)) ≡ Some r }
+    requires block_value { section_from (routes_of rust_limits block.now) ≡ Ok (count, size) }
     requires bytes_in_bounds { length (changed (renewed (meaning numbers) (routes_of rust_limits block.now) target.now) at (take used bytes.old)) ≤ length bytes.old }
     ensures value { result ≡ length (changed (renewed (meaning numbers) (routes_of rust_limits block.now) target.now) at (take used bytes.old)) }
     ensures bytes_after { bytes.new ≡ over (changed (renewed (meaning numbers) (routes_of rust_limits block.now) target.now) at (take used bytes.old)) bytes.old }

@@ -4,10 +4,10 @@ use native.Mathlib.Omega.{arith}
 use mathlib.Core.Path.{◌≡◌, refl, sym, ap, subst, ◌∙◌}
 use mathlib.Core.Bool.{Bool, true, false}
 use mathlib.Core.List.{List, [], ◌∷◌, ◌++◌, append_assoc}
-use mathlib.Core.Option.{Option}
 use lib.ListN.{length, get_or}
 use lib.Dec.{eqb}
 use borrow.Author.Tests.{eq-eqb, ne_eqb, eqb-true, eqb-false}
+use Rattle.std.specs.Prelude.{Option}
 use Rattle.codec.specs.Codec.{text, write_all}
 use Rattle.record.specs.Record.{Record, Side, bit_of, stands, uri_text, number, optional, refresher_field, routes_field, tail_field, state_byte_number, Tail, map_of, fields_of, image}
 use Rattle.codec.proofs.CodecLaws.{Bytes}

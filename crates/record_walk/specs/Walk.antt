@@ -1,13 +1,12 @@
 -- Steps of the code: the record at a place of bytes that are whole records, where its parts lie and where its image ends.
-use Rattle.std.specs.Prelude.{ℕ, zero, suc, ◌+◌, ◌*◌, ◌≡◌, Bool, true, false, List, [], ◌++◌, length, drop, get_or}
-use Rattle.std.proofs.Math.Option.{Option, none, some}
+use Rattle.std.specs.Prelude.{ℕ, zero, suc, ◌+◌, ◌*◌, ◌≡◌, Bool, true, false, List, [], ◌++◌, length, drop, get_or, None, Option, Some}
 use Rattle.codec.specs.Codec.{Reading}
 use Rattle.record.specs.Record.{Record, Ids, id_text, is_filled, fields_of, image}
 
 -- a record stands at a place
 pub record At (s : List ℕ) (p : ℕ) : Type 0 where
   pub reading : Reading Record
-  pub reads : image.read (drop p s) ≡ some reading
+  pub reads : image.read (drop p s) ≡ Some reading
 
 -- the number in the two bytes at a place
 abbrev pub two_at : List ℕ → ℕ → ℕ
@@ -30,8 +29,8 @@ ids_bytes i = id_bytes i.first ++ (id_bytes i.second.first ++ id_bytes i.second.
 
 -- those of the record that was read
 abbrev pub ids_read : Option (Reading Record) → List ℕ
-ids_read none = []
-ids_read (some x) = ids_bytes (fields_of x.value).first
+ids_read None = []
+ids_read (Some x) = ids_bytes (fields_of x.value).first
 
 -- the place past the identifier of the record at a place
 unfoldable pub ids_end : List ℕ → ℕ → ℕ
@@ -41,8 +40,8 @@ ids_end s p = p + 2 + length (ids_read (image.read (drop p s)))
 
 -- the length of the image that was read
 abbrev pub length_read : Option (Reading Record) → ℕ
-length_read none = 0
-length_read (some x) = length (image.write x.value)
+length_read None = 0
+length_read (Some x) = length (image.write x.value)
 
 -- the place past the image of the record at a place
 unfoldable pub end_at : List ℕ → ℕ → ℕ

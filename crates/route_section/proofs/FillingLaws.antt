@@ -5,16 +5,14 @@ use native.Mathlib.Omega.{arith}
 use mathlib.Core.Path.{◌≡◌, refl, sym, ap, ◌∙◌}
 use mathlib.Core.Bool.{Bool}
 use mathlib.Core.List.{List}
-use mathlib.Core.Option.{Option, none, some}
 use lib.ListN.{length, take, drop, length-drop}
 use lib.Seq.{drop-drop, take-take, length-take-le}
 use borrow.Author.Tests.{le-leb, lt-leb}
+use Rattle.std.specs.Prelude.{Err, None, Ok, Option, Result, Some}
 use Rattle.limits.specs.Limits.{rust_limits}
-use Rattle.limits.specs.Outcome.{Outcome, refused, given}
-use Rattle.limits.specs.declared.Check.{Check}
-use Rattle.limits.specs.declared.Check.TheVariants as check
 use Rattle.limits.specs.declared.Refusal.{Refusal}
 use Rattle.limits.specs.declared.Refusal.TheVariants.{UriTooLong, RouteSetTooLarge}
+use Rattle.limits.proofs.Laws.{ok_pair}
 use Rattle.text.specs.Text.{Piece, moved_piece}
 use Rattle.text.specs.Answers.{span_of}
 use Rattle.text.specs.declared.Span.{Span}
@@ -34,8 +32,6 @@ use Rattle.route_set.specs.declared.routes.Element.TheVariants as element
 use Rattle.route_set.proofs.WalkLaws.{Told, named_left, no_line_left}
 use Rattle.route_set.proofs.ScanLaws.{no_unread, is_long, is_route, same_element, ahead}
 use Rattle.route_section.specs.Filling.{Filling, place_for, text_put, with_text, fill_element, filled, Answered, Bounded}
-use Rattle.route_section.specs.declared.filling.Routes.{Routes}
-use Rattle.route_section.specs.declared.filling.Routes.TheVariants as routes
 
 -- ---- one text
 
@@ -63,19 +59,19 @@ part_stands s v p a b =
     }
 
 -- v is the value, e an element of it, o what is read of the element
-module _ (v : List ℕ) (e : Piece) (placed : Placed v e) (skipped : Outcome Filling) (more : List ℕ → Outcome Filling) where
+module _ (v : List ℕ) (e : Piece) (placed : Placed v e) (skipped : Result Filling Refusal) (more : List ℕ → Result Filling Refusal) where
   by_unread : (o : Option ReadUri) → element_from rust_limits e.place o ≡ element.Unreadable → fill_element rust_limits o skipped more ≡ skipped
-  by_unread none q = refl
-  by_unread (some r) q = absurd (no_unread (over_estimate rust_limits r.uri) (span_of (moved_piece e.place r.piece)) q)
+  by_unread None q = refl
+  by_unread (Some r) q = absurd (no_unread (over_estimate rust_limits r.uri) (span_of (moved_piece e.place r.piece)) q)
 
-  by_long : (o : Option ReadUri) → element_from rust_limits e.place o ≡ element.TooLong → fill_element rust_limits o skipped more ≡ refused UriTooLong
-  by_long none q = absurd (let z : ◌≡◌ {A = ℕ} 0 1 = cc in omega arith)
-  by_long (some r) q = rw (is_long (over_estimate rust_limits r.uri) (span_of (moved_piece e.place r.piece)) q)
+  by_long : (o : Option ReadUri) → element_from rust_limits e.place o ≡ element.TooLong → fill_element rust_limits o skipped more ≡ Err UriTooLong
+  by_long None q = absurd (let z : ◌≡◌ {A = ℕ} 0 1 = cc in omega arith)
+  by_long (Some r) q = rw (is_long (over_estimate rust_limits r.uri) (span_of (moved_piece e.place r.piece)) q)
 
   -- the text is cut out of the value where the answer says
   by_route : (o : Option ReadUri) (u : Span) → header_uri e.text ≡ o → element_from rust_limits e.place o ≡ element.Route u → fill_element rust_limits o skipped more ≡ more (take (u.start + u.length - u.start) (drop u.start v))
-  by_route none u i q = absurd (let z : ◌≡◌ {A = ℕ} 0 1 = cc in omega arith)
-  by_route (some r) u i q =
+  by_route None u i q = absurd (let z : ◌≡◌ {A = ℕ} 0 1 = cc in omega arith)
+  by_route (Some r) u i q =
       let k = is_route (over_estimate rust_limits r.uri) (span_of (moved_piece e.place r.piece)) u q in
       let w = part_bytes v (moved_piece e.place r.piece) u (part_stands v e r.piece placed (found e.text i).stands) k.1 in
       rw (k.0, w)
@@ -83,7 +79,7 @@ module _ (v : List ℕ) (e : Piece) (placed : Placed v e) (skipped : Outcome Fil
 -- ---- the inner loop: the elements of a value that stands at a, then those of later lines
 
 module _ (reversed : Bool) (f : Filling) (a : ℕ) (v : List ℕ) (from : ℕ) (rest : List Piece) (p : Span) (next : ℕ) (t : Told v from p next) where
-  pub fill_full : 50 ≤ f.count → filled rust_limits reversed f (ahead a v from rest) ≡ refused RouteSetTooLarge
+  pub fill_full : 50 ≤ f.count → filled rust_limits reversed f (ahead a v from rest) ≡ Err RouteSetTooLarge
   unfolding filled
   fill_full h = rw (t.then, le-leb 50 f.count h)
 
@@ -92,7 +88,7 @@ module _ (reversed : Bool) (f : Filling) (a : ℕ) (v : List ℕ) (from : ℕ) (
     unfolding filled
     fill_unread e = rw (t.then, lt-leb 50 f.count h) (by_unread v t.piece t.placed _ _ (header_uri t.piece.text) (sym (is ∙ same_element v from p next t) ∙ e))
 
-    pub fill_long : r ≡ element.TooLong → filled rust_limits reversed f (ahead a v from rest) ≡ refused UriTooLong
+    pub fill_long : r ≡ element.TooLong → filled rust_limits reversed f (ahead a v from rest) ≡ Err UriTooLong
     unfolding filled
     fill_long e = rw (t.then, lt-leb 50 f.count h) (by_long v t.piece t.placed _ _ (header_uri t.piece.text) (sym (is ∙ same_element v from p next t) ∙ e))
 
@@ -111,36 +107,35 @@ route_held reversed f v u bytes h e = rw (← e) (ap (λ (n : ℕ). record { cou
 
 -- ---- what is answered
 
-pub held_answered : (o : Outcome Filling) (f : Filling) → o ≡ given f → Answered o (routes.Held f.count f.size) f.bytes
+pub held_answered : (o : Result Filling Refusal) (f : Filling) → o ≡ Ok f → Answered o (Ok (f.count, f.size)) f.bytes
 held_answered o f e = rw e (refl, refl)
 
-pub refused_answered : (o : Outcome Filling) (cause : Refusal) (bytes : List ℕ) → o ≡ refused cause → Answered o (routes.Refused cause) bytes
+pub refused_answered : (o : Result Filling Refusal) (cause : Refusal) (bytes : List ℕ) → o ≡ Err cause → Answered o (Err cause) bytes
 refused_answered o cause bytes e = rw e refl
 
 -- whether the reading has ended, and by which cause
-pub not_ended : {k : Check} {cause : Refusal} → k ≡ check.Passed → k ≡ check.Refused cause → ⊥
+pub not_ended : {k : Result (Unit {0}) Refusal} {cause : Refusal} → k ≡ Ok tt → k ≡ Err cause → ⊥
 not_ended e f = let z : ◌≡◌ {A = ℕ} 0 1 = cc in omega arith
 
-pub same_cause : {k : Check} {a b : Refusal} → k ≡ check.Refused a → k ≡ check.Refused b → a ≡ b
+pub same_cause : {k : Result (Unit {0}) Refusal} {a b : Refusal} → k ≡ Err a → k ≡ Err b → a ≡ b
 same_cause e f = cc
 
 -- what an answer says of the routes
-pub answered_held : (o : Outcome Filling) (n k : ℕ) (bytes : List ℕ) (r : Routes) → Answered o r bytes → r ≡ routes.Held n k → o ≡ given (record { count = n; size = k; bytes = bytes })
-answered_held (refused cause) n k bytes r a e = absurd (let z : ◌≡◌ {A = ℕ} 0 1 = cc in omega arith)
-answered_held (given f) n k bytes r a e =
-    let i : f.count ≡ n = cc a.0 in
-    let j : f.size ≡ k = cc a.0 in
-    rw (← i, ← j, a.1)
+pub answered_held : (o : Result Filling Refusal) (n k : ℕ) (bytes : List ℕ) (r : Result (ℕ × ℕ) Refusal) → Answered o r bytes → r ≡ Ok (n, k) → o ≡ Ok (record { count = n; size = k; bytes = bytes })
+answered_held (Err cause) n k bytes r a e = absurd (let z : ◌≡◌ {A = ℕ} 0 1 = cc in omega arith)
+answered_held (Ok f) n k bytes r a e =
+    let i = ok_pair (sym a.0 ∙ e) in
+    rw (← i.0, ← i.1, a.1)
 
-pub answered_refused : (o : Outcome Filling) (cause : Refusal) (bytes : List ℕ) (r : Routes) → Answered o r bytes → r ≡ routes.Refused cause → o ≡ refused cause
-answered_refused (refused own) cause bytes r a e = let q : own ≡ cause = cc in ap refused q
-answered_refused (given f) cause bytes r a e = absurd (let z : ◌≡◌ {A = ℕ} 0 1 = cc a.0 in omega arith)
+pub answered_refused : (o : Result Filling Refusal) (cause : Refusal) (bytes : List ℕ) (r : Result (ℕ × ℕ) Refusal) → Answered o r bytes → r ≡ Err cause → o ≡ Err cause
+answered_refused (Err own) cause bytes r a e = let q : own ≡ cause = cc in ap Err q
+answered_refused (Ok f) cause bytes r a e = absurd (let z : ◌≡◌ {A = ℕ} 0 1 = cc a.0 in omega arith)
 
-pub bounded_held : (n k : ℕ) (r : Routes) → Bounded r → r ≡ routes.Held n k → (n ≤ 50) × (k ≤ n * 8194)
+pub bounded_held : (n k : ℕ) (r : Result (ℕ × ℕ) Refusal) → Bounded r → r ≡ Ok (n, k) → (n ≤ 50) × (k ≤ n * 8194)
 bounded_held n k r b e = (rw e at b)
 
 -- ---- the outer loop: the lines
 
-pub lines_done : (reversed : Bool) (f : Filling) (s : List ℕ) (at : ℕ) → first_named record_route_name (lines_left s at) ≡ none → filled rust_limits reversed f (elements_in (named_left s record_route_name at)) ≡ given f
+pub lines_done : (reversed : Bool) (f : Filling) (s : List ℕ) (at : ℕ) → first_named record_route_name (lines_left s at) ≡ None → filled rust_limits reversed f (elements_in (named_left s record_route_name at)) ≡ Ok f
 unfolding filled elements_in
 lines_done reversed f s at e = rw (no_line_left record_route_name (lines_left s at) e)

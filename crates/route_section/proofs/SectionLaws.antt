@@ -5,12 +5,12 @@ use native.Mathlib.Omega.{arith}
 use mathlib.Core.Path.{◌≡◌, refl, sym, ap, ◌∙◌}
 use mathlib.Core.Bool.{Bool, true, false}
 use mathlib.Core.List.{List, [], ◌∷◌, ◌++◌, map, reverse, reverse-cons, append_assoc, append-nil}
-use mathlib.Core.Option.{Option, none, some}
 use lib.ListN.{length, take, drop, length-append, length-map, length-reverse, length-drop, drop_of_length-le}
 use lib.Dec.{leb}
 use lib.Seq.{take-append-le, take-take, drop_at, length-take-le}
+use Rattle.std.specs.Prelude.{Err, None, Ok, Option, Result, Some}
 use Rattle.limits.specs.Limits.{rust_limits}
-use Rattle.limits.specs.Outcome.{Outcome, refused, given, refuse_if, and_then}
+use Rattle.limits.specs.Outcome.{refuse_if, and_then}
 use Rattle.limits.specs.declared.Refusal.{Refusal}
 use Rattle.limits.specs.declared.Refusal.TheVariants.{UriTooLong}
 use Rattle.text.specs.Text.{Piece, moved_piece}
@@ -23,7 +23,6 @@ use Rattle.record.specs.Record.{uri_text}
 use Rattle.codec.proofs.SizeLaws.{text_size}
 use Rattle.route_set.specs.Routes.{route_before, with_element, routes_from, routes_of, route_elements, in_order}
 use Rattle.route_section.specs.Section.{section_of, route_texts, section_in, section_from}
-use Rattle.route_section.specs.declared.Section.TheVariants as section
 use Rattle.route_section.specs.Filling.{Filling, text_put, with_text, fill_element, filled}
 use Rattle.route_section.proofs.FillingLaws.{text_put_lem}
 
@@ -94,31 +93,31 @@ with_all reversed f [] = f
 with_all reversed f (p ∷ ps) = with_all reversed (with_text reversed p.text f) ps
 
 -- one route more
-all_before : (reversed : Bool) (f : Filling) (p : Piece) (o : Outcome (List Piece)) → and_then (route_before p o) (λ ps. given (with_all reversed f ps)) ≡ and_then o (λ ps. given (with_all reversed (with_text reversed p.text f) ps))
+all_before : (reversed : Bool) (f : Filling) (p : Piece) (o : Result (List Piece) Refusal) → and_then (route_before p o) (λ ps. Ok (with_all reversed f ps)) ≡ and_then o (λ ps. Ok (with_all reversed (with_text reversed p.text f) ps))
 unfolding with_all
-all_before reversed f p (refused cause) = refl
-all_before reversed f p (given ps) = refl
+all_before reversed f p (Err cause) = refl
+all_before reversed f p (Ok ps) = refl
 
-filled_is : (reversed : Bool) (es : List Piece) (f : Filling) → filled rust_limits reversed f es ≡ and_then (routes_from rust_limits f.count es) (λ ps. given (with_all reversed f ps))
+filled_is : (reversed : Bool) (es : List Piece) (f : Filling) → filled rust_limits reversed f es ≡ and_then (routes_from rust_limits f.count es) (λ ps. Ok (with_all reversed f ps))
 unfolding filled routes_from with_all
 filled_is reversed [] f = refl
 filled_is reversed (e ∷ es) f = by (leb 50 f.count) refl (filled_is reversed es)
   where
-    by : (t : Bool) → leb 50 f.count ≡ t → ((g : Filling) → filled rust_limits reversed g es ≡ and_then (routes_from rust_limits g.count es) (λ ps. given (with_all reversed g ps)))
-        → filled rust_limits reversed f (e ∷ es) ≡ and_then (routes_from rust_limits f.count (e ∷ es)) (λ ps. given (with_all reversed f ps))
+    by : (t : Bool) → leb 50 f.count ≡ t → ((g : Filling) → filled rust_limits reversed g es ≡ and_then (routes_from rust_limits g.count es) (λ ps. Ok (with_all reversed g ps)))
+        → filled rust_limits reversed f (e ∷ es) ≡ and_then (routes_from rust_limits f.count (e ∷ es)) (λ ps. Ok (with_all reversed f ps))
     by true t ih = rw t
     by false t ih = rw t (of (header_uri e.text))
       where
         of : (o : Option ReadUri) → fill_element rust_limits o (filled rust_limits reversed f es) (λ w. filled rust_limits reversed (with_text reversed w f) es)
-            ≡ and_then (with_element rust_limits e.place o (routes_from rust_limits f.count es) (routes_from rust_limits (f.count + 1) es)) (λ ps. given (with_all reversed f ps))
-        of none = ih f
-        of (some r) = size (over_estimate rust_limits r.uri)
+            ≡ and_then (with_element rust_limits e.place o (routes_from rust_limits f.count es) (routes_from rust_limits (f.count + 1) es)) (λ ps. Ok (with_all reversed f ps))
+        of None = ih f
+        of (Some r) = size (over_estimate rust_limits r.uri)
           where
             p : Piece
             p = moved_piece e.place r.piece
 
             size : (b : Bool) → refuse_if b UriTooLong (filled rust_limits reversed (with_text reversed r.piece.text f) es)
-                ≡ and_then (refuse_if b UriTooLong (route_before p (routes_from rust_limits (f.count + 1) es))) (λ ps. given (with_all reversed f ps))
+                ≡ and_then (refuse_if b UriTooLong (route_before p (routes_from rust_limits (f.count + 1) es))) (λ ps. Ok (with_all reversed f ps))
             size true = refl
             size false = ih (with_text reversed r.piece.text f) ∙ sym (all_before reversed f p (routes_from rust_limits (f.count + 1) es))
 
@@ -220,23 +219,23 @@ nothing_written s (x ∷ after) e h = absurd (omega (arith, ap length e))
 -- the routes that were read, and what is held after them
 pub record Read (reversed : Bool) (block bytes : List ℕ) (f : Filling) : Type 0 where
   pub pieces : List Piece
-  pub is : routes_of rust_limits block ≡ given pieces
+  pub is : routes_of rust_limits block ≡ Ok pieces
   pub held : with_all reversed (record { count = 0; size = 0; bytes = bytes }) pieces ≡ f
 
 module _ (reversed : Bool) (block bytes : List ℕ) where
-  pub routes_read : (f : Filling) → filled rust_limits reversed (record { count = 0; size = 0; bytes = bytes }) (route_elements block) ≡ given f → Read reversed block bytes f
+  pub routes_read : (f : Filling) → filled rust_limits reversed (record { count = 0; size = 0; bytes = bytes }) (route_elements block) ≡ Ok f → Read reversed block bytes f
   routes_read f e = by (routes_of rust_limits block) refl (sym (filled_is reversed (route_elements block) _) ∙ e)
     where
-      by : (o : Outcome (List Piece)) → routes_of rust_limits block ≡ o → and_then o (λ ps. given (with_all reversed (record { count = 0; size = 0; bytes = bytes }) ps)) ≡ given f → Read reversed block bytes f
-      by (refused cause) q h = absurd (let z : ◌≡◌ {A = ℕ} 0 1 = cc in omega arith)
-      by (given ps) q h = record { pieces = ps; is = q; held = (cc) }
+      by : (o : Result (List Piece) Refusal) → routes_of rust_limits block ≡ o → and_then o (λ ps. Ok (with_all reversed (record { count = 0; size = 0; bytes = bytes }) ps)) ≡ Ok f → Read reversed block bytes f
+      by (Err cause) q h = absurd (let z : ◌≡◌ {A = ℕ} 0 1 = cc in omega arith)
+      by (Ok ps) q h = record { pieces = ps; is = q; held = (cc) }
 
-  pub routes_refused : (cause : Refusal) → filled rust_limits reversed (record { count = 0; size = 0; bytes = bytes }) (route_elements block) ≡ refused cause → routes_of rust_limits block ≡ refused cause
+  pub routes_refused : (cause : Refusal) → filled rust_limits reversed (record { count = 0; size = 0; bytes = bytes }) (route_elements block) ≡ Err cause → routes_of rust_limits block ≡ Err cause
   routes_refused cause e = by (routes_of rust_limits block) (sym (filled_is reversed (route_elements block) _) ∙ e)
     where
-      by : (o : Outcome (List Piece)) → and_then o (λ ps. given (with_all reversed (record { count = 0; size = 0; bytes = bytes }) ps)) ≡ refused cause → o ≡ refused cause
-      by (refused own) h = let q : own ≡ cause = cc in ap refused q
-      by (given ps) h = absurd (let z : ◌≡◌ {A = ℕ} 0 1 = cc in omega arith)
+      by : (o : Result (List Piece) Refusal) → and_then o (λ ps. Ok (with_all reversed (record { count = 0; size = 0; bytes = bytes }) ps)) ≡ Err cause → o ≡ Err cause
+      by (Err own) h = let q : own ≡ cause = cc in ap Err q
+      by (Ok ps) h = absurd (let z : ◌≡◌ {A = ℕ} 0 1 = cc in omega arith)
 
   module _ (f : Filling) (r : Read reversed block bytes f) where
     pub read_count : length r.pieces ≡ f.count
@@ -246,12 +245,12 @@ module _ (reversed : Bool) (block bytes : List ℕ) where
     read_size = sym (zero-add (length (bytes_of r.pieces))) ∙ sym (all_size reversed r.pieces _) ∙ ap (λ (g : Filling). g.size) r.held
 
     -- the measured section
-    pub measured_none : f.count ≡ 0 → section.Of 0 0 ≡ section_from (routes_of rust_limits block)
+    pub measured_none : f.count ≡ 0 → Ok (0, 0) ≡ section_from (routes_of rust_limits block)
     measured_none e =
         let k : length r.pieces ≡ 0 = read_count ∙ e in
         rw (r.is, section_none false r.pieces k, k)
 
-    pub measured_some : 0 < f.count → section.Of f.count (1 + f.size) ≡ section_from (routes_of rust_limits block)
+    pub measured_some : 0 < f.count → Ok (f.count, 1 + f.size) ≡ section_from (routes_of rust_limits block)
     measured_some h =
         let s : length (section_of (route_texts false r.pieces)) ≡ 1 + f.size = omega (arith, ap length (section_filled false r.pieces (omega (arith, read_count))), read_size) in
         rw (r.is, s, read_count)

@@ -1,17 +1,15 @@
 -- Steps of the code: lent bytes that are filled with the routes' texts while the lines are read, and what is counted meanwhile. Reversed they are filled from
 -- the end. A text that finds no room is counted all the same.
-use Rattle.std.specs.Prelude.{ℕ, ◌+◌, ◌-◌, ◌*◌, ◌≤◌, ◌≡◌, Bool, true, false, cond, List, [], ◌∷◌, length, leb}
-use Rattle.std.proofs.Math.Option.{Option, none, some}
+use Rattle.std.specs.Prelude.{ℕ, ◌+◌, ◌-◌, ◌*◌, ◌≤◌, ◌≡◌, Bool, true, false, cond, List, [], ◌∷◌, length, leb, Err, None, Ok, Option, Result, Some}
 use Rattle.limits.specs.Limits.{LimitSet}
-use Rattle.limits.specs.Outcome.{Outcome, refused, given, refuse_if}
+use Rattle.limits.specs.Outcome.{refuse_if}
+use Rattle.limits.specs.declared.Refusal.{Refusal}
 use Rattle.limits.specs.declared.Refusal.TheVariants.{UriTooLong, RouteSetTooLarge}
 use Rattle.text.specs.Text.{Piece}
 use Rattle.uri.specs.SipUri.{over_estimate}
 use Rattle.uri.specs.HeaderUri.{ReadUri, header_uri}
 use Rattle.edit.specs.Edit.{put_at}
 use Rattle.codec.specs.Codec.{text}
-use Rattle.route_section.specs.declared.filling.Routes.{Routes}
-use Rattle.route_section.specs.declared.filling.Routes.TheVariants.{Held, Refused}
 
 -- how many routes are held, the bytes of their texts with the length bytes, and the lent bytes
 pub record Filling : Type 0 where
@@ -32,23 +30,23 @@ abbrev pub with_text : Bool → List ℕ → Filling → Filling
 with_text reversed t f = record { count = f.count + 1; size = f.size + (2 + length t); bytes = text_put reversed f.size t f.bytes }
 
 -- r is the URI of an element, if it is readable; then the rest, without it or with its text
-abbrev pub fill_element : LimitSet → Option ReadUri → Outcome Filling → (List ℕ → Outcome Filling) → Outcome Filling
-fill_element L none skipped more = skipped
-fill_element L (some r) skipped more = refuse_if (over_estimate L r.uri) UriTooLong (more r.piece.text)
+abbrev pub fill_element : LimitSet → Option ReadUri → Result Filling Refusal → (List ℕ → Result Filling Refusal) → Result Filling Refusal
+fill_element L None skipped more = skipped
+fill_element L (Some r) skipped more = refuse_if (over_estimate L r.uri) UriTooLong (more r.piece.text)
 
 -- what is held after the elements
-unfoldable pub filled : LimitSet → Bool → Filling → List Piece → Outcome Filling
-filled L reversed f [] = given f
+unfoldable pub filled : LimitSet → Bool → Filling → List Piece → Result Filling Refusal
+filled L reversed f [] = Ok f
 filled L reversed f (e ∷ es) =
     refuse_if (leb L.routes f.count) RouteSetTooLarge
     (fill_element L (header_uri e.text) (filled L reversed f es) (λ t. filled L reversed (with_text reversed t f) es))
 
 -- what the code answers, and the lent bytes after it: nothing is said of them where the routes are refused
-abbrev pub Answered : Outcome Filling → Routes → List ℕ → Type 0
-Answered (refused cause) r bytes = r ≡ Refused cause
-Answered (given f) r bytes = (r ≡ Held f.count f.size) × (bytes ≡ f.bytes)
+abbrev pub Answered : Result Filling Refusal → Result (ℕ × ℕ) Refusal → List ℕ → Type 0
+Answered (Err cause) r bytes = r ≡ Err cause
+Answered (Ok f) r bytes = (r ≡ Ok (f.count, f.size)) × (bytes ≡ f.bytes)
 
 -- each text is a part of a block
-abbrev pub Bounded : Routes → Type 0
-Bounded (Held count size) = (count ≤ 50) × (size ≤ count * 8194)
-Bounded (Refused cause) = Unit {0}
+abbrev pub Bounded : Result (ℕ × ℕ) Refusal → Type 0
+Bounded (Ok (count, size)) = (count ≤ 50) × (size ≤ count * 8194)
+Bounded (Err cause) = Unit {0}

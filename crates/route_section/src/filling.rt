@@ -5,20 +5,12 @@ ghost use Rattle.route_set.specs.Routes.{route_elements};
 ghost use Rattle.route_section.specs.Filling.{text_put, filled, Answered, Bounded};
 
 use codec::write_text;
-use limits::{Check, Limits, Refusal};
-use msg::Found;
-use route_set::{Element, Part, next_part, read_element};
-
-// How many routes are held, and the bytes of their texts with the length bytes; or 7 or 8.
-#[derive(Clone, Copy)]
-pub enum Routes {
-    Held(usize, usize),
-    Refused(Refusal),
-}
+use limits::{Limits, Refusal};
+use route_set::{Element, next_part, read_element};
 
 // The routes of all Record-Route lines, their elements one after another: one met when 50 are held ends the whole reading at once, and so does
 // one that is too long.
-pub fn fill_routes(out: &mut [u8], block: &[u8], reversed: bool) -> Routes
+pub fn fill_routes(out: &mut [u8], block: &[u8], reversed: bool) -> Result<(usize, usize), Refusal>
     requires { length block.now ≤ 8192 }
     ensures answered { Answered (filled rust_limits reversed (record { count = 0; size = 0; bytes = out.old }) (route_elements block.now)) result out.new }
     ensures bounded { Bounded result }
@@ -26,27 +18,27 @@ pub fn fill_routes(out: &mut [u8], block: &[u8], reversed: bool) -> Routes
     let mut count = 0;
     let mut size = 0;
     let mut at = 0;
-    let mut ended = Check::Passed;
+    let mut ended = Ok(());
     'lines: while at < block.len() {
-        let Found::At(v, next) = msg::find_from(block, at, b"Record-Route") else {
-            return Routes::Held(count, size);
+        let Some((v, next)) = msg::find_from(block, at, b"Record-Route") else {
+            return Ok((count, size));
         };
         let a = v.start;
         let e = a + v.length;
         let value = &block[a..e];
         let mut from = 0;
         while from <= value.len() {
-            let Part::At(p, after) = next_part(value, from) else {
+            let Some((p, after)) = next_part(value, from) else {
                 break;
             };
             if Limits::MAX_ROUTE_SET_SIZE <= count {
-                ended = Check::Refused(Refusal::RouteSetTooLarge);
+                ended = Err(Refusal::RouteSetTooLarge);
                 break 'lines;
             }
             match read_element(value, p) {
                 Element::Unreadable => {}
                 Element::TooLong => {
-                    ended = Check::Refused(Refusal::UriTooLong);
+                    ended = Err(Refusal::UriTooLong);
                     break 'lines;
                 }
                 Element::Route(u) => {
@@ -60,10 +52,8 @@ pub fn fill_routes(out: &mut [u8], block: &[u8], reversed: bool) -> Routes
         }
         at = next;
     }
-    if let Check::Refused(x) = ended {
-        return Routes::Refused(x);
-    }
-    Routes::Held(count, size)
+    ended?;
+    Ok((count, size))
 }
 
 // One text with its length bytes, if there is room for it: after those that are held, or, reversed, before them.

@@ -6,34 +6,23 @@ ghost use Rattle.limits.specs.Limits.{rust_limits};
 ghost use Rattle.route_set.specs.Routes.{routes_of};
 ghost use Rattle.route_section.specs.Section.{section_in, section_from, Small};
 
-use crate::filling::{Routes, fill_routes};
+use crate::filling::fill_routes;
 use codec::write_byte;
 use limits::Refusal;
 
 mod filling;
 
-// What `measure_routes` answers: how many routes there are, and the bytes of their section; or 7 or 8.
-#[derive(Clone, Copy)]
-pub enum Section {
-    Of(usize, usize),
-    Refused(Refusal),
-}
-
 // How many routes the block gives, and how many bytes their section has, in either order.
-pub fn measure_routes(block: &[u8]) -> Section
+pub fn measure_routes(block: &[u8]) -> Result<(usize, usize), Refusal>
     requires { length block.now ≤ 8192 }
     ensures value { result ≡ section_from (routes_of rust_limits block.now) }
     ensures small { Small result }
 {
-    match fill_routes(&mut [], block, false) {
-        Routes::Refused(x) => Section::Refused(x),
-        Routes::Held(count, size) => {
-            if count == 0 {
-                return Section::Of(0, 0);
-            }
-            Section::Of(count, 1 + size)
-        }
+    let (count, size) = fill_routes(&mut [], block, false)?;
+    if count == 0 {
+        return Ok((0, 0));
     }
+    Ok((count, 1 + size))
 }
 
 // The section over lent bytes that are as long as it is, its routes as received or reversed.
@@ -41,7 +30,7 @@ pub fn write_routes(out: &mut [u8], block: &[u8], reversed: bool)
     requires { (length block.now ≤ 8192) × (length out.old ≡ length (section_in reversed (routes_of rust_limits block.now))) }
     ensures { out.new ≡ section_in reversed (routes_of rust_limits block.now) }
 {
-    let Routes::Held(count, _) = fill_routes(out, block, reversed) else {
+    let Ok((count, _)) = fill_routes(out, block, reversed) else {
         return;
     };
     if 0 < count {

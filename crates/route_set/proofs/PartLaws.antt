@@ -6,21 +6,19 @@ use native.Mathlib.Omega.{arith}
 use mathlib.Core.Path.{◌≡◌, refl, ap}
 use mathlib.Core.Bool.{Bool, true, false, cond}
 use mathlib.Core.List.{List, [], ◌∷◌}
-use mathlib.Core.Option.{Option, none, some}
 use lib.ListN.{length, get_or, take, drop, drop_of_length-le, length-drop}
 use lib.Seq.{drop-cons, take_all, drop-drop, length-take-le}
 use lib.Dec.{ltb}
 use borrow.Author.Tests.{le-leb, lt-leb, ltb-true, ltb-false}
+use Rattle.std.specs.Prelude.{None, Ok, Option, Some}
+use Rattle.limits.proofs.Laws.{some_pair}
 use Rattle.text.specs.Text.{trimmed, trimmed_span}
 use Rattle.text.specs.Number.{non_empty}
-use Rattle.limits.specs.Outcome.{given}
-use Rattle.text.specs.Answers.{Stop, span_of, next_of}
-use Rattle.text.specs.declared.Next.TheVariants as answer
+use Rattle.text.specs.Answers.{Stop, next_of}
 use Rattle.text.specs.declared.Span.{Span}
 use Rattle.text.proofs.Runs.{drop_part, part_length}
 use Rattle.route_set.specs.Parts.{is_cut, quote_after, depth_after, segments, segments_from, first_element, part_from}
 use Rattle.route_set.specs.Cuts.{cut_length}
-use Rattle.route_set.specs.declared.parts.Part.TheVariants.{At, Nothing}
 
 -- ---- the bytes before the first cut
 
@@ -97,7 +95,7 @@ module _ (v : List ℕ) (at n : ℕ) (h : at ≤ length v) (hn : n ≡ cut_lengt
 
   -- s is what `trim_span` answers of the segment
   pub element_here : (s : Span) → s ≡ trimmed_span (take n (take (length v - at) (drop at v))) → 0 < s.length
-      → At (record { start = at + s.start; length = s.length }) (at + n + 1) ≡ part_from (first_element at (segments_from v at))
+      → Some (record { start = at + s.start; length = s.length }, at + n + 1) ≡ part_from (first_element at (segments_from v at))
   unfolding first_element
   element_here s e k = rw (from_cons, filled (trimmed (take n (take (length v - at) (drop at v)))) (omega (arith, ap (λ (x : Span). x.length) e)), segment_length, e)
     where
@@ -114,19 +112,16 @@ module _ (v : List ℕ) (at n : ℕ) (h : at ≤ length v) (hn : n ≡ cut_lengt
       none_here [] h = refl
       none_here (b ∷ t) h = absurd (omega arith)
 
-pub element_done : (v : List ℕ) (at : ℕ) → length v < at → first_element at (segments_from v at) ≡ none
+pub element_done : (v : List ℕ) (at : ℕ) → length v < at → first_element at (segments_from v at) ≡ None
 unfolding first_element
 element_done v at h = rw (lt-leb at (length v) h)
 
 -- ---- the answer with refusals by the one without
 
-pub no_element : (o : Option Stop) → part_from o ≡ Nothing → answer.Nothing ≡ next_of (given o)
-no_element none e = refl
-no_element (some p) e = absurd (let z : ◌≡◌ {A = ℕ} 0 1 = cc in omega arith)
+pub no_element : (o : Option Stop) → part_from o ≡ None → Ok None ≡ next_of (Ok o)
+no_element None e = refl
+no_element (Some p) e = absurd (let z : ◌≡◌ {A = ℕ} 0 1 = cc in omega arith)
 
-pub some_element : (o : Option Stop) (s : Span) (next : ℕ) → part_from o ≡ At s next → answer.At s next ≡ next_of (given o)
-some_element none s next e = absurd (let z : ◌≡◌ {A = ℕ} 0 1 = cc in omega arith)
-some_element (some p) s next e =
-    let q : span_of p.piece ≡ s = cc in
-    let r : p.next ≡ next = cc in
-    rw (q, r)
+pub some_element : (o : Option Stop) (s : Span) (next : ℕ) → part_from o ≡ Some (s, next) → Ok (Some (s, next)) ≡ next_of (Ok o)
+some_element None s next e = absurd (let z : ◌≡◌ {A = ℕ} 0 1 = cc in omega arith)
+some_element (Some p) s next e = rw ((some_pair e).0, (some_pair e).1)

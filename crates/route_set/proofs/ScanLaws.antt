@@ -4,9 +4,9 @@ use native.Mathlib.Omega.{arith}
 use mathlib.Core.Path.{◌≡◌, refl, sym, ap, subst, ◌∙◌}
 use mathlib.Core.Bool.{Bool, true, false, cond}
 use mathlib.Core.List.{List, [], ◌∷◌, ◌++◌, map}
-use mathlib.Core.Option.{Option, none, some}
 use lib.ListN.{length, take, drop}
 use borrow.Author.Tests.{le-leb, lt-leb, eq-eqb, ne_eqb}
+use Rattle.std.specs.Prelude.{None, Option, Some}
 use Rattle.limits.specs.Limits.{rust_limits}
 use Rattle.text.specs.Text.{Piece, moved_piece}
 use Rattle.text.specs.Answers.{span_of}
@@ -41,23 +41,23 @@ is_route false s u e = (refl, (cc))
 -- at is where the element stands in the block, and b where it stands in the value
 module _ (w held a b : ℕ) (s m : Scan) where
   by_unread : (o : Option ReadUri) → element_from rust_limits b o ≡ element.Unreadable → scan_element rust_limits w held (a + b) o s m ≡ s
-  by_unread none e = refl
-  by_unread (some r) e = absurd (no_unread (over_estimate rust_limits r.uri) (span_of (moved_piece b r.piece)) e)
+  by_unread None e = refl
+  by_unread (Some r) e = absurd (no_unread (over_estimate rust_limits r.uri) (span_of (moved_piece b r.piece)) e)
 
   by_long : (o : Option ReadUri) → element_from rust_limits b o ≡ element.TooLong → scan_element rust_limits w held (a + b) o s m ≡ TooLong
-  by_long none e = absurd (let z : ◌≡◌ {A = ℕ} 0 1 = cc in omega arith)
-  by_long (some r) e = rw (is_long (over_estimate rust_limits r.uri) (span_of (moved_piece b r.piece)) e)
+  by_long None e = absurd (let z : ◌≡◌ {A = ℕ} 0 1 = cc in omega arith)
+  by_long (Some r) e = rw (is_long (over_estimate rust_limits r.uri) (span_of (moved_piece b r.piece)) e)
 
   by_hit : (o : Option ReadUri) (u : Span) → element_from rust_limits b o ≡ element.Route u → held ≡ w → scan_element rust_limits w held (a + b) o s m ≡ Route (moved_span a u)
-  by_hit none u e h = absurd (let z : ◌≡◌ {A = ℕ} 0 1 = cc in omega arith)
-  by_hit (some r) u e h =
+  by_hit None u e h = absurd (let z : ◌≡◌ {A = ℕ} 0 1 = cc in omega arith)
+  by_hit (Some r) u e h =
       let q = is_route (over_estimate rust_limits r.uri) (span_of (moved_piece b r.piece)) u e in
       let k : a + b + r.piece.place ≡ a + (b + r.piece.place) = omega arith in
       rw (q.0, eq-eqb held w h, ← q.1, k)
 
   by_more : (o : Option ReadUri) (u : Span) → element_from rust_limits b o ≡ element.Route u → (held ≡ w → ⊥) → scan_element rust_limits w held (a + b) o s m ≡ m
-  by_more none u e h = absurd (let z : ◌≡◌ {A = ℕ} 0 1 = cc in omega arith)
-  by_more (some r) u e h =
+  by_more None u e h = absurd (let z : ◌≡◌ {A = ℕ} 0 1 = cc in omega arith)
+  by_more (Some r) u e h =
       let q = is_route (over_estimate rust_limits r.uri) (span_of (moved_piece b r.piece)) u e in
       rw (q.0, ne_eqb held w h)
 
@@ -113,7 +113,7 @@ value_done a v from rest e = rw e
 
 -- ---- the outer loop
 
-pub lines_none : (w held : ℕ) (s asked : List ℕ) (at : ℕ) → first_named asked (lines_left s at) ≡ none → scan rust_limits w held (elements_in (named_left s asked at)) ≡ All held
+pub lines_none : (w held : ℕ) (s asked : List ℕ) (at : ℕ) → first_named asked (lines_left s at) ≡ None → scan rust_limits w held (elements_in (named_left s asked at)) ≡ All held
 unfolding scan elements_in
 lines_none w held s asked at e = rw (no_line_left asked (lines_left s at) e)
 

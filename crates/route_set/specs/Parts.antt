@@ -1,15 +1,14 @@
 -- The elements of a header value that commas separate (RFC 3261 section 7.3.1), as the Rust's `split_header_values` cuts them:
 -- a comma cuts outside quotes and angle brackets; every `"` opens or closes quotes, also after a backslash and in brackets;
 -- `<` and `>` count in quotes too, which RFC 3261 section 25.1 would not have. Elements are trimmed, and empty ones are none.
-use Rattle.std.specs.Prelude.{ℕ, ◌+◌, ◌-◌, Bool, false, cond, not, ◌&&◌, List, [], ◌∷◌, length, drop, leb, eqb}
-use Rattle.std.proofs.Math.Option.{Option, none, some}
+use Rattle.std.specs.Prelude.{ℕ, ◌+◌, ◌-◌, Bool, false, cond, not, ◌&&◌, List, [], ◌∷◌, length, drop, leb, eqb, None, Ok, Option, Result, Some}
 use Rattle.limits.specs.Limits.{LimitSet}
-use Rattle.limits.specs.Outcome.{Outcome, given, refuse_by}
+use Rattle.limits.specs.Outcome.{refuse_by}
+use Rattle.limits.specs.declared.Refusal.{Refusal}
 use Rattle.text.specs.Text.{on_head, trimmed, Piece, trimmed_piece}
 use Rattle.text.specs.Number.{non_empty}
 use Rattle.text.specs.Answers.{value_cause, Stop, span_of}
-use Rattle.route_set.specs.declared.parts.Part.{Part}
-use Rattle.route_set.specs.declared.parts.Part.TheVariants.{At, Nothing}
+use Rattle.text.specs.declared.Span.{Span}
 
 -- ---- where a comma cuts
 
@@ -47,19 +46,19 @@ segments_from v at = cond (leb at (length v)) (segments false 0 (drop at v)) []
 
 -- the first element, and the place after the comma that ends it
 unfoldable pub first_element : ℕ → List (List ℕ) → Option Stop
-first_element at [] = none
+first_element at [] = None
 first_element at (g ∷ gs) =
-    cond (non_empty (trimmed g)) (some (record { piece = trimmed_piece at g; next = at + length g + 1 })) (first_element (at + length g + 1) gs)
+    cond (non_empty (trimmed g)) (Some (record { piece = trimmed_piece at g; next = at + length g + 1 })) (first_element (at + length g + 1) gs)
 
 -- the first element of a value from a place on
 abbrev pub element_from : List ℕ → ℕ → Option Stop
 element_from v from = first_element from (segments_from v from)
 
 -- 1, 2; then the next element from a place on, or nothing
-unfoldable pub next_header_value : LimitSet → List ℕ → ℕ → Outcome (Option Stop)
-next_header_value L v from = refuse_by (value_cause L v) (given (element_from v from))
+unfoldable pub next_header_value : LimitSet → List ℕ → ℕ → Result (Option Stop) Refusal
+next_header_value L v from = refuse_by (value_cause L v) (Ok (element_from v from))
 
 -- the answer of the reading without refusals
-abbrev pub part_from : Option Stop → Part
-part_from none = Nothing
-part_from (some e) = At (span_of e.piece) e.next
+abbrev pub part_from : Option Stop → Option (Span × ℕ)
+part_from None = None
+part_from (Some e) = Some (span_of e.piece, e.next)

@@ -4,8 +4,7 @@
 mod parts;
 mod routes;
 
-pub use parts::{Part, next_header_value, next_part};
+pub use parts::{next_header_value, next_part};
 pub use routes::{
-    Contact, Count, Element, Scan, contact_at, find_contact, read_contact, read_element, route,
-    route_count,
+    Element, Scan, contact_at, find_contact, read_contact, read_element, route, route_count,
 };

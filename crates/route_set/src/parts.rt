@@ -5,32 +5,23 @@ ghost use Rattle.text.specs.Answers.{next_of};
 ghost use Rattle.route_set.specs.Parts.{is_cut, quote_after, depth_after, element_from, next_header_value, part_from};
 ghost use Rattle.route_set.specs.Cuts.{cut_length};
 
-use limits::Check;
-use text::{Next, Span};
-
-// Where an element stands, and from where the next is asked for.
-#[derive(Clone, Copy)]
-pub enum Part {
-    At(Span, usize),
-    Nothing,
-}
+use limits::Refusal;
+use text::Span;
 
 // The next element of a value from a place on: 1, 2. All elements are had by asking from 0 on, and then from each answered
 // next place on.
-pub fn next_header_value(value: &[u8], from: usize) -> Next
+pub fn next_header_value(value: &[u8], from: usize) -> Result<Option<(Span, usize)>, Refusal>
     ensures { result ≡ next_of (next_header_value rust_limits value.now from) }
 {
-    if let Check::Refused(x) = text::check_value(value) {
-        return Next::Refused(x);
-    }
-    let Part::At(p, next) = next_part(value, from) else {
-        return Next::Nothing;
+    text::check_value(value)?;
+    let Some((p, next)) = next_part(value, from) else {
+        return Ok(None);
     };
-    Next::At(p, next)
+    Ok(Some((p, next)))
 }
 
 // The same of a value that was checked.
-pub fn next_part(value: &[u8], from: usize) -> Part
+pub fn next_part(value: &[u8], from: usize) -> Option<(Span, usize)>
     ensures { result ≡ part_from (element_from value.now from) }
 {
     let mut at = from;
@@ -39,17 +30,17 @@ pub fn next_part(value: &[u8], from: usize) -> Part
         let n = part_length(rest);
         let p = text::trim_span(&rest[..n]);
         if 0 < p.length {
-            return Part::At(
+            return Some((
                 Span {
                     start: at + p.start,
                     length: p.length,
                 },
                 at + n + 1,
-            );
+            ));
         }
         at = at + n + 1;
     }
-    Part::Nothing
+    None
 }
 
 // How many bytes stand before the first comma that cuts.

@@ -7,25 +7,9 @@ ghost use Rattle.route_set.specs.Routes.{contact, contact_of, uri_in, contact_fr
 ghost use Rattle.route_set.specs.Scan.{scan, element_from, route_in, moved_span, InValue};
 ghost use Rattle.uri.specs.HeaderUri.{header_uri};
 
-use crate::parts::{Part, next_part};
-use limits::{Check, Limits, Refusal};
-use msg::Found;
-use text::{Lookup, Span};
-use uri::HeaderUri;
-
-// Where the Contact's URI stands.
-#[derive(Clone, Copy)]
-pub enum Contact {
-    At(Span),
-    Nothing,
-}
-
-// What `route_count` answers.
-#[derive(Clone, Copy)]
-pub enum Count {
-    Routes(usize),
-    Refused(Refusal),
-}
+use crate::parts::next_part;
+use limits::{Limits, Refusal};
+use text::Span;
 
 // One element of a Record-Route line.
 #[derive(Clone, Copy)]
@@ -45,20 +29,18 @@ pub enum Scan {
 }
 
 // The URI of the first Contact line, if it is readable: 1, 2.
-pub fn read_contact(block: &[u8]) -> Lookup
+pub fn read_contact(block: &[u8]) -> Result<Option<Span>, Refusal>
     ensures { result ≡ lookup_of (contact rust_limits block.now) }
 {
-    if let Check::Refused(x) = msg::check_block(block) {
-        return Lookup::Refused(x);
-    }
-    let Contact::At(c) = find_contact(block) else {
-        return Lookup::Nothing;
+    msg::check_block(block)?;
+    let Some(c) = find_contact(block) else {
+        return Ok(None);
     };
-    Lookup::At(c)
+    Ok(Some(c))
 }
 
 // The same of a block that was checked.
-pub fn find_contact(block: &[u8]) -> Contact
+pub fn find_contact(block: &[u8]) -> Option<Span>
     ensures { result ≡ contact_from (contact_of block.now) }
 {
     let line = msg::find(block, b"Contact");
@@ -66,67 +48,56 @@ pub fn find_contact(block: &[u8]) -> Contact
 }
 
 // The URI of a line that was looked up.
-pub fn contact_at(block: &[u8], line: Found) -> Contact
+pub fn contact_at(block: &[u8], line: Option<(Span, usize)>) -> Option<Span>
     requires { end_of line ≤ length block.now }
     ensures { result ≡ contact_from (uri_in (value_at line block.now)) }
 {
-    let Found::At(v, _) = line else {
-        return Contact::Nothing;
-    };
+    let (v, _) = line?;
     let a = v.start;
     let e = a + v.length;
-    let HeaderUri::At(u, _) = uri::header_uri(&block[a..e]) else {
-        return Contact::Nothing;
-    };
-    Contact::At(Span {
+    let (u, _) = uri::header_uri(&block[a..e])?;
+    Some(Span {
         start: a + u.start,
         length: u.length,
     })
 }
 
 // How many routes the Record-Route lines give: 1, 2, then 7 or 8.
-pub fn route_count(block: &[u8]) -> Count
+pub fn route_count(block: &[u8]) -> Result<usize, Refusal>
     ensures { result ≡ count_of (route_count rust_limits block.now) }
 {
-    if let Check::Refused(x) = msg::check_block(block) {
-        return Count::Refused(x);
-    }
+    msg::check_block(block)?;
     match scan_routes(block, Limits::MAX_ROUTE_SET_SIZE) {
-        Scan::All(n) => Count::Routes(n),
-        Scan::Route(_) => Count::Routes(0),
-        Scan::TooMany => Count::Refused(Refusal::RouteSetTooLarge),
-        Scan::TooLong => Count::Refused(Refusal::UriTooLong),
+        Scan::All(n) => Ok(n),
+        Scan::Route(_) => Ok(0),
+        Scan::TooMany => Err(Refusal::RouteSetTooLarge),
+        Scan::TooLong => Err(Refusal::UriTooLong),
     }
 }
 
 // The route at an index, as received or reversed: 1, 2, then 7 or 8 of the whole set.
-pub fn route(block: &[u8], reversed: bool, index: usize) -> Lookup
+pub fn route(block: &[u8], reversed: bool, index: usize) -> Result<Option<Span>, Refusal>
     ensures { result ≡ lookup_of (route_at rust_limits reversed block.now index) }
 {
-    let counted = route_count(block);
-    match counted {
-        Count::Refused(x) => Lookup::Refused(x),
-        Count::Routes(n) => {
-            if n <= index {
-                return Lookup::Nothing;
-            }
-            if reversed {
-                return nth_route(block, n - index - 1);
-            }
-            nth_route(block, index)
-        }
+    let n = route_count(block)?;
+    if n <= index {
+        return Ok(None);
     }
+    if reversed {
+        return nth_route(block, n - index - 1);
+    }
+    nth_route(block, index)
 }
 
 // The route at an index, as received, where the routes up to it can be read.
-fn nth_route(block: &[u8], index: usize) -> Lookup
+fn nth_route(block: &[u8], index: usize) -> Result<Option<Span>, Refusal>
     ensures { result ≡ route_in (scan rust_limits index 0 (route_elements block.now)) }
 {
     match scan_routes(block, index) {
-        Scan::Route(r) => Lookup::At(r),
-        Scan::All(_) => Lookup::Nothing,
-        Scan::TooMany => Lookup::Nothing,
-        Scan::TooLong => Lookup::Nothing,
+        Scan::Route(r) => Ok(Some(r)),
+        Scan::All(_) => Ok(None),
+        Scan::TooMany => Ok(None),
+        Scan::TooLong => Ok(None),
     }
 }
 
@@ -138,7 +109,7 @@ fn scan_routes(block: &[u8], wanted: usize) -> Scan
     let mut at = 0;
     let mut full = false;
     'lines: while at < block.len() {
-        let Found::At(v, next) = msg::find_from(block, at, b"Record-Route") else {
+        let Some((v, next)) = msg::find_from(block, at, b"Record-Route") else {
             return Scan::All(held);
         };
         let a = v.start;
@@ -146,7 +117,7 @@ fn scan_routes(block: &[u8], wanted: usize) -> Scan
         let value = &block[a..e];
         let mut from = 0;
         while from <= value.len() {
-            let Part::At(p, after) = next_part(value, from) else {
+            let Some((p, after)) = next_part(value, from) else {
                 break;
             };
             if Limits::MAX_ROUTE_SET_SIZE <= held {
@@ -183,7 +154,7 @@ pub fn read_element(value: &[u8], p: Span) -> Element
 {
     let a = p.start;
     let e = a + p.length;
-    let HeaderUri::At(u, parts) = uri::header_uri(&value[a..e]) else {
+    let Some((u, parts)) = uri::header_uri(&value[a..e]) else {
         return Element::Unreadable;
     };
     if uri::over_estimate(parts) {

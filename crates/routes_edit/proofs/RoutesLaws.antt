@@ -1,6 +1,6 @@
 -- Other numbers and other routes for a record: three edits in the used bytes, the first of which replaces the two sections at once. Assumes nothing.
 use mathlib.Core.Path.{◌≡◌, refl, sym, ap, ◌∙◌}
-use mathlib.Core.Bool.{true, false, ◌||◌}
+use mathlib.Core.Bool.{true, ◌||◌}
 use mathlib.Core.List.{List, [], ◌∷◌, ◌++◌, append-nil}
 use Prim.Native.Nat.{ℕ, ◌+◌, ◌-◌, ◌≤◌}
 use native.Mathlib.Nat.{add-sub_cancel_left}
@@ -8,8 +8,10 @@ use native.Mathlib.Omega.{arith}
 use borrow.Rule.Slice.PartMut.{put_mid}
 use lib.ListN.{length, take, length-append}
 use lib.Seq.{drop-drop}
+use Rattle.limits.specs.declared.Refusal.{Refusal}
+use Rattle.std.specs.Prelude.{Err, Ok, Result}
 use Rattle.limits.specs.Limits.{rust_limits}
-use Rattle.limits.specs.Outcome.{Outcome, refused, given}
+use Rattle.limits.proofs.Laws.{ok_pair}
 use Rattle.text.specs.Text.{Piece}
 use Rattle.edit.specs.Edit.{over, put_at, spliced, tail_moved}
 use Rattle.edit.proofs.EditLaws.{put_put, replace_law}
@@ -29,7 +31,6 @@ use Rattle.image_edit.proofs.ImageCuts.{Held, changed_held}
 use Rattle.image_edit.proofs.NumbersLaws.{filled_bit, routes_bit, image_cut, sized, state_is, end_is}
 use Rattle.route_set.specs.Routes.{routes_of}
 use Rattle.route_section.specs.Section.{section_of, route_texts, section_from}
-use Rattle.route_section.specs.declared.Section.TheVariants as section
 use Rattle.route_section.proofs.SectionLaws.{texts_count, section_size}
 
 -- ---- the two sections written
@@ -56,19 +57,18 @@ sections_put bytes used at old a b {k} {m} {n} {moved} {first} {last} h i j size
 
 pub record Measured (block : List ℕ) (count size : ℕ) : Type 0 where
   pub pieces : List Piece
-  pub is : routes_of rust_limits block ≡ given pieces
+  pub is : routes_of rust_limits block ≡ Ok pieces
   pub count_is : count ≡ length (route_texts true pieces)
   pub size_is : size ≡ length (section_of (route_texts true pieces))
 
-pub measured : (block : List ℕ) (count size : ℕ) → section_from (routes_of rust_limits block) ≡ section.Of count size → Measured block count size
+pub measured : (block : List ℕ) (count size : ℕ) → section_from (routes_of rust_limits block) ≡ Ok (count, size) → Measured block count size
 measured block count size e = by (routes_of rust_limits block) refl e
   where
-    by : (o : Outcome (List Piece)) → routes_of rust_limits block ≡ o → section_from o ≡ section.Of count size → Measured block count size
-    by (refused cause) q h = absurd (let z : ◌≡◌ {A = ℕ} 0 1 = cc in omega arith)
-    by (given ps) q h =
-        let n : length ps ≡ count = cc in
-        let k : length (section_of (route_texts false ps)) ≡ size = cc in
-        record { pieces = ps; is = q; count_is = sym n ∙ sym (texts_count true ps); size_is = sym k ∙ sym (section_size true ps) }
+    by : (o : Result (List Piece) Refusal) → routes_of rust_limits block ≡ o → section_from o ≡ Ok (count, size) → Measured block count size
+    by (Err cause) q h = absurd (let z : ◌≡◌ {A = ℕ} 0 1 = cc in omega arith)
+    by (Ok ps) q h =
+        let n = ok_pair h in
+        record { pieces = ps; is = q; count_is = sym n.0 ∙ sym (texts_count true ps); size_is = sym n.1 ∙ sym (section_size true ps) }
 
 -- ---- the record
 

@@ -2,17 +2,15 @@
 // has read the record, has measured the routes, and has measured that the change fits.
 #![tactic(auto)]
 
-ghost use Rattle.std.specs.Prelude.{◌≡◌, true, ◌++◌, ◌+◌, ◌-◌, ◌≤◌, length, take};
+ghost use Rattle.std.specs.Prelude.{◌≡◌, true, ◌++◌, ◌+◌, ◌-◌, ◌≤◌, length, take, Ok, Some};
 ghost use Rattle.limits.specs.Limits.{rust_limits};
 ghost use Rattle.route_set.specs.Routes.{routes_of};
 ghost use Rattle.edit.specs.Edit.{over, spliced};
 ghost use Rattle.record.specs.NumbersForm.{meaning};
 ghost use Rattle.image.specs.Places.{record_from};
-ghost use Rattle.image.specs.declared.RecordReading.TheVariants.{Whole};
 ghost use Rattle.image_writer.specs.Parts.{numbers_bytes};
 ghost use Rattle.image_edit.specs.Changes.{read_at, changed};
 ghost use Rattle.route_section.specs.Section.{section_in, section_from};
-ghost use Rattle.route_section.specs.declared.Section.TheVariants.{Of};
 ghost use Rattle.routes_edit.specs.Rerouted.{renewed_by};
 
 use codec::{write_byte, write_two};
@@ -36,8 +34,8 @@ pub fn change_numbers_and_routes(
     size: usize,
 ) -> usize
     requires used_in_bounds { (used ≤ length bytes.old) × (at ≤ used) × (length block.now ≤ 8192) }
-    requires bytes_value { record_from at (read_at at (take used bytes.old)) ≡ Whole r }
-    requires block_value { section_from (routes_of rust_limits block.now) ≡ Of count size }
+    requires bytes_value { record_from at (read_at at (take used bytes.old)) ≡ Some r }
+    requires block_value { section_from (routes_of rust_limits block.now) ≡ Ok (count, size) }
     requires bytes_in_bounds { length (changed (renewed_by (meaning numbers) (routes_of rust_limits block.now)) at (take used bytes.old)) ≤ length bytes.old }
     ensures value { result ≡ length (changed (renewed_by (meaning numbers) (routes_of rust_limits block.now)) at (take used bytes.old)) }
     ensures bytes_after { bytes.new ≡ over (changed (renewed_by (meaning numbers) (routes_of rust_limits block.now)) at (take used bytes.old)) bytes.old }

@@ -3,9 +3,9 @@ use Prim.Native.Nat.{ℕ, ◌+◌, ◌≤◌}
 use native.Mathlib.Omega.{arith}
 use mathlib.Core.Path.{◌≡◌, refl, sym, ap, ap₂, ◌∙◌}
 use mathlib.Core.List.{List, [], ◌∷◌, ◌++◌, append_assoc}
-use mathlib.Core.Option.{Option, none, some}
 use lib.ListN.{length, take, drop, length-append, length-drop}
 use lib.Seq.{drop-drop, take-append_seam, drop-append_seam}
+use Rattle.std.specs.Prelude.{None, Option, Some}
 use Rattle.codec.specs.Codec.{Reading, four, text}
 use Rattle.ordered_store.specs.Slot.{held}
 use Rattle.ordered_store.proofs.PlaceLaws.{Layout, Here}
@@ -13,8 +13,6 @@ use Rattle.codec.specs.Places.{text_end}
 use Rattle.rseq_entries.specs.Entries.{Entry, key_of, entry_form, WellFormed}
 use Rattle.rseq_entries.specs.Places.{entry_at, reading_of, key_at, Within, slot_of}
 use Rattle.rseq_entries.specs.declared.entries.EntryAt.{EntryAt}
-use Rattle.rseq_entries.specs.declared.entries.EntryReading.{EntryReading}
-use Rattle.rseq_entries.specs.declared.entries.EntryReading.TheVariants as entries
 use Rattle.rseq_entries.specs.declared.finding.Slot.TheVariants as slots
 use Rattle.rseq_entries.proofs.FormLaws.{form_exact, entry_size_lem, filled}
 
@@ -49,13 +47,13 @@ lies s at e rest starts =
     (same_key f.0 g.0 k.0, (omega (arith, w), omega (arith, w), omega (arith, w)))
 
 -- what the answer of a reading says
-pub whole_says : (at : ℕ) (o : Option (Reading Entry)) (p : EntryAt) → reading_of at o ≡ entries.Whole p → (x : Reading Entry) × ((o ≡ some x) × (entry_at at x.value ≡ p))
-whole_says at none p e = absurd (let z : ◌≡◌ {A = ℕ} 0 1 = cc in omega arith)
-whole_says at (some x) p e = (x, (refl, (cc)))
+pub whole_says : (at : ℕ) (o : Option (Reading Entry)) (p : EntryAt) → reading_of at o ≡ Some p → (x : Reading Entry) × ((o ≡ Some x) × (entry_at at x.value ≡ p))
+whole_says at None p e = absurd (let z : ◌≡◌ {A = ℕ} 0 1 = cc in omega arith)
+whole_says at (Some x) p e = (x, (refl, (cc)))
 
-pub broken_says : (at : ℕ) (o : Option (Reading Entry)) → reading_of at o ≡ entries.Broken → o ≡ none
-broken_says at none e = refl
-broken_says at (some x) e = absurd (let z : ◌≡◌ {A = ℕ} 0 1 = cc in omega arith)
+pub broken_says : (at : ℕ) (o : Option (Reading Entry)) → reading_of at o ≡ None → o ≡ None
+broken_says at None e = refl
+broken_says at (Some x) e = absurd (let z : ◌≡◌ {A = ℕ} 0 1 = cc in omega arith)
 
 abbrev pub layout : Layout Entry
 layout = record {
@@ -71,14 +69,14 @@ layout = record {
   Within = Within;
   ends = ends;
   lies = lies;
-  Answer = EntryReading;
+  Answer = Option EntryAt;
   answer_of = reading_of;
-  whole = entries.Whole;
-  broken = entries.Broken;
+  whole = Some;
+  broken = None;
   whole_says = whole_says;
   broken_says = broken_says;
 }
 
 -- the answer of a search that met its entry
-pub held_told : {s : List ℕ} {at : ℕ} {p : EntryAt} {e : Entry} → Here layout s at p e → slots.Held at p.number p.end ≡ slot_of (some (held at e))
+pub held_told : {s : List ℕ} {at : ℕ} {p : EntryAt} {e : Entry} → Here layout s at p e → slots.Held at p.number p.end ≡ slot_of (Some (held at e))
 held_told {s} {at} h = ap₂ (λ (n m : ℕ). slots.Held at n m) (ap (λ (z : EntryAt). z.number) h.placed) h.ends

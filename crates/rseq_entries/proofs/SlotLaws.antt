@@ -2,8 +2,8 @@
 use Prim.Native.Nat.{ℕ, ◌+◌}
 use mathlib.Core.Path.{◌≡◌, refl, subst}
 use mathlib.Core.List.{List}
-use mathlib.Core.Option.{Option, none, some}
 use lib.ListN.{length}
+use Rattle.std.specs.Prelude.{None, Option, Some}
 use Rattle.ordered_store.specs.Entries.{Key}
 use Rattle.ordered_store.specs.Slot.{Slot, held, free, slot_used}
 use Rattle.ordered_store.proofs.SlotLaws.{Among, Unreadable, Says, says}
@@ -33,9 +33,9 @@ module _ (k : Key) (bytes : List ℕ) (used : ℕ) where
   told = by (slot_used entry_form key_of k bytes used) (says entry_form key_of k bytes used)
     where
       by : (o : Option (Slot Entry)) → Says entry_form key_of k bytes used o → Told (slot_of o)
-      by none w = w
-      by (some (held place e)) w = record { entry = e; among = w; number_is = refl; end_is = refl }
-      by (some (free place)) w = w
+      by None w = w
+      by (Some (held place e)) w = record { entry = e; among = w; number_is = refl; end_is = refl }
+      by (Some (free place)) w = w
 
   pub holds : {at number end : ℕ} → slot_for k bytes used ≡ slots.Held at number end → Holds at number end
   holds e = subst Told e told

@@ -1,6 +1,5 @@
 -- Steps of the code: where the parts of an entry lie that is read at a place, and what is answered of it. The entries themselves are `decode_entries` alone.
-use Rattle.std.specs.Prelude.{ℕ, ◌+◌, List, [], ◌∷◌, length}
-use Rattle.std.proofs.Math.Option.{Option, none, some}
+use Rattle.std.specs.Prelude.{ℕ, ◌+◌, List, [], ◌∷◌, length, None, Option, Some}
 use Rattle.codec.specs.Codec.{Reading}
 use Rattle.ordered_store.specs.Entries.{Key}
 use Rattle.text.specs.Spans.{part_in, PartWithin}
@@ -8,8 +7,6 @@ use Rattle.ordered_store.specs.Slot.{Slot, held, free, slot_used}
 use Rattle.codec.specs.Places.{text_span, text_end}
 use Rattle.rseq_entries.specs.Entries.{Entry, key_of, entry_form}
 use Rattle.rseq_entries.specs.declared.entries.EntryAt.{EntryAt}
-use Rattle.rseq_entries.specs.declared.entries.EntryReading.{EntryReading}
-use Rattle.rseq_entries.specs.declared.entries.EntryReading.TheVariants as entries
 use Rattle.rseq_entries.specs.declared.finding.Slot.{Slot as SlotAt}
 use Rattle.rseq_entries.specs.declared.finding.Slot.TheVariants as slots
 
@@ -24,9 +21,9 @@ entry_at at e = record {
   end = text_end (text_end (text_end at e.id.call_id) e.id.local_tag) e.id.remote_tag + 4;
 }
 
-abbrev pub reading_of : ℕ → Option (Reading Entry) → EntryReading
-reading_of at none = entries.Broken
-reading_of at (some r) = entries.Whole (entry_at at r.value)
+abbrev pub reading_of : ℕ → Option (Reading Entry) → Option EntryAt
+reading_of at None = None
+reading_of at (Some r) = Some (entry_at at r.value)
 
 -- ---- its key
 
@@ -39,9 +36,9 @@ Within s e = PartWithin s e.call_id × PartWithin s e.local_tag × PartWithin s 
 -- ---- its slot
 
 abbrev pub slot_of : Option (Slot Entry) → SlotAt
-slot_of none = slots.Broken
-slot_of (some (held place e)) = slots.Held place e.number (place + length (entry_form.write e))
-slot_of (some (free place)) = slots.Free place
+slot_of None = slots.Broken
+slot_of (Some (held place e)) = slots.Held place e.number (place + length (entry_form.write e))
+slot_of (Some (free place)) = slots.Free place
 
 -- in lent bytes of which so many are used
 abbrev pub slot_for : Key → List ℕ → ℕ → SlotAt

@@ -3,7 +3,6 @@ ghost use Rattle.std.specs.Prelude.{◌≡◌, ◌≤◌, length, drop};
 ghost use Rattle.rseq_entries.specs.Entries.{entry_form};
 ghost use Rattle.rseq_entries.specs.Places.{reading_of};
 
-use codec::Text;
 use text::Span;
 
 // Where its texts lie, its number, and the place after it.
@@ -16,35 +15,23 @@ pub struct EntryAt {
     pub end: usize,
 }
 
-#[derive(Clone, Copy)]
-pub enum EntryReading {
-    Whole(EntryAt),
-    Broken,
-}
-
 // The entry that begins at a place.
-pub fn read_entry(bytes: &[u8], at: usize) -> EntryReading
+pub fn read_entry(bytes: &[u8], at: usize) -> Option<EntryAt>
     requires { at ≤ length bytes.now }
     ensures { result ≡ reading_of at (entry_form.read (drop at bytes.now)) }
 {
-    let Text::At(call_id) = codec::read_text(bytes, at) else {
-        return EntryReading::Broken;
-    };
-    let Text::At(local_tag) = codec::read_text(bytes, call_id.start + call_id.length) else {
-        return EntryReading::Broken;
-    };
-    let Text::At(remote_tag) = codec::read_text(bytes, local_tag.start + local_tag.length) else {
-        return EntryReading::Broken;
-    };
+    let call_id = codec::read_text(bytes, at)?;
+    let local_tag = codec::read_text(bytes, call_id.start + call_id.length)?;
+    let remote_tag = codec::read_text(bytes, local_tag.start + local_tag.length)?;
     let place = remote_tag.start + remote_tag.length;
     if bytes.len() - place < 4 {
-        return EntryReading::Broken;
+        return None;
     }
     let number = codec::read_four(bytes, place);
     if number == 0 {
-        return EntryReading::Broken;
+        return None;
     }
-    EntryReading::Whole(EntryAt {
+    Some(EntryAt {
         call_id,
         local_tag,
         remote_tag,

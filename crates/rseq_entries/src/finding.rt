@@ -9,8 +9,8 @@ ghost use Rattle.dialog_id.specs.Ident.{ident};
 ghost use Rattle.rseq_entries.specs.Entries.{key_of_ident, key_of, entry_form};
 ghost use Rattle.rseq_entries.specs.Places.{key_at, Within, slot_of, slot_for};
 
-use crate::entries::{EntryAt, EntryReading, read_entry};
-use ordered_store::{Count, Order};
+use crate::entries::{EntryAt, read_entry};
+use std::cmp::Ordering;
 
 // The place of an entry's first byte, its number and the place after it; or the place where it would go.
 #[derive(Clone, Copy)]
@@ -27,35 +27,31 @@ pub fn find(call_id: &[u8], local_tag: &[u8], remote_tag: &[u8], bytes: &[u8], u
     if bytes.len() < used {
         return Slot::Broken;
     }
-    let Count::Entries(_) = count_entries(&bytes[..used]) else {
+    let Some(_) = count_entries(&bytes[..used]) else {
         return Slot::Broken;
     };
     search(call_id, local_tag, remote_tag, &bytes[..used])
 }
 
 // The entries from the front to the end, each before the next.
-pub fn count_entries(bytes: &[u8]) -> Count
+pub fn count_entries(bytes: &[u8]) -> Option<usize>
     ensures { result ≡ count_of (decode_entries entry_form key_of bytes.now) }
 {
     if bytes.len() == 0 {
-        return Count::Entries(0);
+        return Some(0);
     }
-    let EntryReading::Whole(first) = read_entry(bytes, 0) else {
-        return Count::Broken;
-    };
+    let first = read_entry(bytes, 0)?;
     let mut last = first;
     let mut n = 1;
     while last.end < bytes.len() {
-        let EntryReading::Whole(e) = read_entry(bytes, last.end) else {
-            return Count::Broken;
-        };
+        let e = read_entry(bytes, last.end)?;
         if !ascends(bytes, last, e) {
-            return Count::Broken;
+            return None;
         }
         last = e;
         n += 1;
     }
-    Count::Entries(n)
+    Some(n)
 }
 
 // The first entry whose key isn't before the identifier's. The bytes are those of a store that was read.
@@ -65,17 +61,17 @@ fn search(call_id: &[u8], local_tag: &[u8], remote_tag: &[u8], bytes: &[u8]) -> 
 {
     let mut at = 0;
     while at < bytes.len() {
-        let EntryReading::Whole(e) = read_entry(bytes, at) else {
+        let Some(e) = read_entry(bytes, at) else {
             return Slot::Broken;
         };
         match compare_key(bytes, e, call_id, local_tag, remote_tag) {
-            Order::Before => {
+            Ordering::Less => {
                 at = e.end;
             }
-            Order::Same => {
+            Ordering::Equal => {
                 return Slot::Held(at, e.number, e.end);
             }
-            Order::After => {
+            Ordering::Greater => {
                 return Slot::Free(at);
             }
         }
@@ -93,9 +89,9 @@ fn ascends(bytes: &[u8], e: EntryAt, f: EntryAt) -> bool
     let l = text::part(bytes, f.local_tag);
     let r = text::part(bytes, f.remote_tag);
     match compare_key(bytes, e, c, l, r) {
-        Order::Before => true,
-        Order::Same => false,
-        Order::After => false,
+        Ordering::Less => true,
+        Ordering::Equal => false,
+        Ordering::Greater => false,
     }
 }
 
@@ -106,25 +102,25 @@ fn compare_key(
     call_id: &[u8],
     local_tag: &[u8],
     remote_tag: &[u8],
-) -> Order
+) -> Ordering
     requires { Within bytes.now e }
     ensures { result ≡ key_order (key_at bytes.now e) (key_of_ident (ident call_id.now local_tag.now remote_tag.now)) }
 {
     match ordered_store::compare(text::part(bytes, e.call_id), call_id) {
-        Order::Before => Order::Before,
-        Order::Same => compare_tags(bytes, e, local_tag, remote_tag),
-        Order::After => Order::After,
+        Ordering::Less => Ordering::Less,
+        Ordering::Equal => compare_tags(bytes, e, local_tag, remote_tag),
+        Ordering::Greater => Ordering::Greater,
     }
 }
 
 // The tags of an entry against two texts.
-fn compare_tags(bytes: &[u8], e: EntryAt, local_tag: &[u8], remote_tag: &[u8]) -> Order
+fn compare_tags(bytes: &[u8], e: EntryAt, local_tag: &[u8], remote_tag: &[u8]) -> Ordering
     requires { Within bytes.now e }
     ensures { result ≡ key_order (part_in bytes.now e.local_tag ∷ part_in bytes.now e.remote_tag ∷ []) (local_tag.now ∷ remote_tag.now ∷ []) }
 {
     match ordered_store::compare(text::part(bytes, e.local_tag), local_tag) {
-        Order::Before => Order::Before,
-        Order::Same => ordered_store::compare(text::part(bytes, e.remote_tag), remote_tag),
-        Order::After => Order::After,
+        Ordering::Less => Ordering::Less,
+        Ordering::Equal => ordered_store::compare(text::part(bytes, e.remote_tag), remote_tag),
+        Ordering::Greater => Ordering::Greater,
     }
 }

@@ -5,66 +5,56 @@ use mathlib.Core.Path.{◌≡◌, refl, sym, ap, ap₂, subst, ◌∙◌}
 use mathlib.Core.Logic.{inl, inr}
 use mathlib.Core.Bool.{Bool, true, false, cond}
 use mathlib.Core.List.{List, []}
-use mathlib.Core.Option.{Option, none, some}
 use lib.ListN.{length, take}
 use lib.Dec.{ltb}
 use borrow.Author.Tests.{ltb-false, eq-eqb, ne_eqb}
+use Rattle.std.specs.Prelude.{Err, None, Ok, Option, Result, Some}
 use Rattle.limits.specs.Limits.{rust_limits}
-use Rattle.limits.specs.Outcome.{Outcome, refused, given, cause_if, or_else, check_of}
+use Rattle.limits.specs.Outcome.{cause_if, or_else, check_of}
 use Rattle.limits.specs.declared.Refusal.{Refusal}
 use Rattle.limits.specs.declared.Refusal.TheVariants.{BadStore, NotFound, TextTooLong}
-use Rattle.limits.specs.declared.Check.TheVariants as check
 use Rattle.text.specs.Answers.{length_cause}
 use Rattle.edit.specs.Edit.{over, put_at, spliced}
 use Rattle.output.specs.Output.{fitted, leaves}
-use Rattle.output.specs.declared.Written.{Written}
-use Rattle.output.specs.declared.Written.TheVariants as written
 use Rattle.codec.specs.Codec.{four}
 use Rattle.codec.proofs.CodecLaws.{Bytes}
 use Rattle.ordered_store.specs.Answers.{written_in, used_written}
 use Rattle.ordered_store.specs.Entries.{decode_entries}
 use Rattle.ordered_store.specs.Places.{count_of}
 use Rattle.ordered_store.specs.Run.{Left}
-use Rattle.ordered_store.specs.declared.Count.TheVariants as counts
 use Rattle.ordered_store.proofs.SlotLaws.{not_read}
 use Rattle.dialog_id.specs.Ident.{Ident, ident_cause}
 use Rattle.rseq_entries.specs.Entries.{key_of_ident, Entry, key_of, entry_form}
 use Rattle.rseq_manager.specs.RSeq.{first_number, next_number, next, current, remove, len, action_cause, numbered, judge, ran}
 use Rattle.rseq_manager.specs.Answers.{numbered_in, used_after, numbered_from, current_of, counted_of, emptiness}
 use Rattle.rseq_entries.specs.Places.{slot_for}
-use Rattle.rseq_manager.specs.declared.Numbered.{Numbered}
-use Rattle.rseq_manager.specs.declared.Numbered.TheVariants as numbers
-use Rattle.rseq_manager.specs.declared.Current.{Current}
-use Rattle.rseq_manager.specs.declared.Current.TheVariants as currents
-use Rattle.rseq_manager.specs.declared.Counted.{Counted}
-use Rattle.rseq_manager.specs.declared.Counted.TheVariants as counteds
 use Rattle.rseq_entries.specs.declared.finding.Slot.TheVariants as slots
 use Rattle.rseq_entries.proofs.SlotLaws.{holds, lacks, unreadable}
 use Rattle.rseq_manager.proofs.OperationLaws.{accepted, by_arguments, by_store, by_keeping, current_held, current_free, remove_held, remove_free, next_held, next_free, left_by}
 
 -- ---- the arguments
 
-pub passed : (o : Option Refusal) → check_of o ≡ check.Passed → o ≡ none
-passed none e = refl
-passed (some x) e = absurd (let z : ◌≡◌ {A = ℕ} 0 1 = cc in omega arith)
+pub passed : (o : Option Refusal) → check_of o ≡ Ok tt → o ≡ None
+passed None e = refl
+passed (Some x) e = absurd (let z : ◌≡◌ {A = ℕ} 0 1 = cc in omega arith)
 
-turned : (o : Option Refusal) {x : Refusal} → check_of o ≡ check.Refused x → o ≡ some x
-turned none e = absurd (let z : ◌≡◌ {A = ℕ} 0 1 = cc in omega arith)
-turned (some y) {x} e = let z : y ≡ x = cc in ap some z
+turned : (o : Option Refusal) {x : Refusal} → check_of o ≡ Err x → o ≡ Some x
+turned None e = absurd (let z : ◌≡◌ {A = ℕ} 0 1 = cc in omega arith)
+turned (Some y) {x} e = let z : y ≡ x = cc in ap Some z
 
-none_first : (o p : Option Refusal) → or_else o p ≡ none → (o ≡ none) × (p ≡ none)
-none_first none p e = (refl, e)
-none_first (some x) p e = absurd (let z : ◌≡◌ {A = ℕ} 0 1 = cc in omega arith)
+none_first : (o p : Option Refusal) → or_else o p ≡ None → (o ≡ None) × (p ≡ None)
+none_first None p e = (refl, e)
+none_first (Some x) p e = absurd (let z : ◌≡◌ {A = ℕ} 0 1 = cc in omega arith)
 
-short : (t : List ℕ) → length_cause rust_limits t ≡ none → length t < 65536
+short : (t : List ℕ) → length_cause rust_limits t ≡ None → length t < 65536
 short t e = by (ltb 8192 (length t)) refl e
   where
-    by : (b : Bool) → ltb 8192 (length t) ≡ b → cause_if b TextTooLong ≡ none → length t < 65536
+    by : (b : Bool) → ltb 8192 (length t) ≡ b → cause_if b TextTooLong ≡ None → length t < 65536
     by true q e = absurd (let z : ◌≡◌ {A = ℕ} 0 1 = cc in omega arith)
     by false q e = omega (arith, ltb-false 8192 (length t) q)
 
 -- the texts of an identifier that is taken have an image
-pub shorts : (i : Ident) → ident_cause rust_limits i ≡ none → (length i.call_id < 65536) × (length i.local_tag < 65536) × (length i.remote_tag < 65536)
+pub shorts : (i : Ident) → ident_cause rust_limits i ≡ None → (length i.call_id < 65536) × (length i.local_tag < 65536) × (length i.remote_tag < 65536)
 shorts i e =
     let p = none_first (length_cause rust_limits i.call_id) (or_else (length_cause rust_limits i.local_tag) (length_cause rust_limits i.remote_tag)) e in
     let q = none_first (length_cause rust_limits i.local_tag) (length_cause rust_limits i.remote_tag) p.1 in
@@ -84,22 +74,22 @@ module _ (i : Ident) (n : ℕ) {o : Option Refusal} (e : ident_cause rust_limits
   unfolding action_cause
   remove_cause = e
 
-len_cause : action_cause rust_limits len ≡ none
+len_cause : action_cause rust_limits len ≡ None
 unfolding action_cause
 len_cause = refl
 
 -- ---- what is left, as each call answers it
 
-abbrev DoneNext : ℕ → Left ℕ → Numbered → List ℕ → Type 0
+abbrev DoneNext : ℕ → Left ℕ → Result (ℕ × ℕ) Refusal → List ℕ → Type 0
 DoneNext used l r after = (r ≡ numbered_in l) × ((after ≡ l.bytes) × (used_after r used ≡ l.used))
 
-abbrev DoneRemove : ℕ → Left ℕ → Written → List ℕ → Type 0
+abbrev DoneRemove : ℕ → Left ℕ → Result ℕ Refusal → List ℕ → Type 0
 DoneRemove used l r after = (r ≡ written_in l) × ((after ≡ l.bytes) × (used_written r used ≡ l.used))
 
-abbrev DoneCurrent : List ℕ → ℕ → Left ℕ → Current → Type 0
+abbrev DoneCurrent : List ℕ → ℕ → Left ℕ → Result ℕ Refusal → Type 0
 DoneCurrent bytes used l r = (r ≡ current_of l.answer) × ((bytes ≡ l.bytes) × (used ≡ l.used))
 
-abbrev DoneLen : List ℕ → ℕ → Left ℕ → Counted → Type 0
+abbrev DoneLen : List ℕ → ℕ → Left ℕ → Result ℕ Refusal → Type 0
 DoneLen bytes used l r = (r ≡ counted_of l.answer) × ((bytes ≡ l.bytes) × (used ≡ l.used))
 
 module _ (i : Ident) (bytes : List ℕ) (used : ℕ) (b : Bytes bytes) where
@@ -109,30 +99,30 @@ module _ (i : Ident) (bytes : List ℕ) (used : ℕ) (b : Bytes bytes) where
     abbrev next_left : Left ℕ
     next_left = ran rust_limits (next i n) bytes used
 
-    pub next_refused : {x : Refusal} → check_of (ident_cause rust_limits i) ≡ check.Refused x → DoneNext used next_left (numbers.Refused x) bytes
+    pub next_refused : {x : Refusal} → check_of (ident_cause rust_limits i) ≡ Err x → DoneNext used next_left (Err x) bytes
     next_refused {x} e =
-        subst (λ (l : Left ℕ). DoneNext used l (numbers.Refused x) bytes) (sym (by_arguments rust_limits bytes used (next i n) (next_cause i n (turned (ident_cause rust_limits i) e)))) (refl, (refl, refl))
+        subst (λ (l : Left ℕ). DoneNext used l (Err x) bytes) (sym (by_arguments rust_limits bytes used (next i n) (next_cause i n (turned (ident_cause rust_limits i) e)))) (refl, (refl, refl))
 
-    module _ (p : check_of (ident_cause rust_limits i) ≡ check.Passed) where
-      next_clear : action_cause rust_limits (next i n) ≡ none
+    module _ (p : check_of (ident_cause rust_limits i) ≡ Ok tt) where
+      next_clear : action_cause rust_limits (next i n) ≡ None
       next_clear = next_cause i n (passed (ident_cause rust_limits i) p)
 
-      pub next_broken : slot_for (key_of_ident i) bytes used ≡ slots.Broken → DoneNext used next_left (numbers.Refused BadStore) bytes
+      pub next_broken : slot_for (key_of_ident i) bytes used ≡ slots.Broken → DoneNext used next_left (Err BadStore) bytes
       next_broken s =
-          subst (λ (l : Left ℕ). DoneNext used l (numbers.Refused BadStore) bytes)
+          subst (λ (l : Left ℕ). DoneNext used l (Err BadStore) bytes)
           (sym (by_store rust_limits bytes used (next i n) next_clear (key_of_ident i) (unreadable (key_of_ident i) bytes used s))) (refl, (refl, refl))
 
       -- a held number: its four bytes
       pub next_raised : {at number end m : ℕ} {after : List ℕ} → slot_for (key_of_ident i) bytes used ≡ slots.Held at number end → m ≡ next_number number
-          → after ≡ put_at (end - 4) (four.write m) bytes → DoneNext used next_left (numbers.Is m used) after
+          → after ≡ put_at (end - 4) (four.write m) bytes → DoneNext used next_left (Ok (m, used)) after
       next_raised {at} {number} {end} {m} {after} s q w =
           let e : next_left ≡ accepted after used m =
           next_held bytes used b i (holds (key_of_ident i) bytes used s) rust_limits n next_clear
           ∙ ap₂ (λ (x : List ℕ) (k : ℕ). accepted x used k) (sym (w ∙ ap (λ (k : ℕ). put_at (end - 4) (four.write k) bytes) q)) (sym q) in
-          subst (λ (l : Left ℕ). DoneNext used l (numbers.Is m used) after) (sym e) (refl, (refl, refl))
+          subst (λ (l : Left ℕ). DoneNext used l (Ok (m, used)) after) (sym e) (refl, (refl, refl))
 
       -- a new one
-      pub next_new : {at m : ℕ} {r : Numbered} {after : List ℕ} → slot_for (key_of_ident i) bytes used ≡ slots.Free at → m ≡ first_number n
+      pub next_new : {at m : ℕ} {r : Result (ℕ × ℕ) Refusal} {after : List ℕ} → slot_for (key_of_ident i) bytes used ≡ slots.Free at → m ≡ first_number n
           → (r ≡ numbered_from m (fitted (length bytes) (spliced at 0 (entry_form.write (numbered i m)) (take used bytes))))
           × (after ≡ leaves (fitted (length bytes) (spliced at 0 (entry_form.write (numbered i m)) (take used bytes))) bytes)
           → DoneNext used next_left r after
@@ -143,67 +133,67 @@ module _ (i : Ident) (bytes : List ℕ) (used : ℕ) (b : Bytes bytes) where
           ∙ ap (λ (k : ℕ). left_by bytes used b i f rust_limits k (fitted (length bytes) (spliced at 0 (entry_form.write (numbered i k)) (take used bytes)))) (sym q) in
           subst (λ (l : Left ℕ). DoneNext used l r after) (sym e) (by (fitted (length bytes) (spliced at 0 (entry_form.write (numbered i m)) (take used bytes))) w)
         where
-          by : (o : Outcome (List ℕ)) → (r ≡ numbered_from m o) × (after ≡ leaves o bytes) → DoneNext used (left_by bytes used b i (lacks (key_of_ident i) bytes used s) rust_limits m o) r after
-          by (refused cause) w = (w.0, (w.1, ap (λ (x : Numbered). used_after x used) w.0))
-          by (given t) w = (w.0, (w.1, ap (λ (x : Numbered). used_after x used) w.0))
+          by : (o : Result (List ℕ) Refusal) → (r ≡ numbered_from m o) × (after ≡ leaves o bytes) → DoneNext used (left_by bytes used b i (lacks (key_of_ident i) bytes used s) rust_limits m o) r after
+          by (Err cause) w = (w.0, (w.1, ap (λ (x : Result (ℕ × ℕ) Refusal). used_after x used) w.0))
+          by (Ok t) w = (w.0, (w.1, ap (λ (x : Result (ℕ × ℕ) Refusal). used_after x used) w.0))
 
   -- ---- current_rseq
 
   abbrev current_left : Left ℕ
   current_left = ran rust_limits (current i) bytes used
 
-  pub current_refused : {x : Refusal} → check_of (ident_cause rust_limits i) ≡ check.Refused x → DoneCurrent bytes used current_left (currents.Refused x)
+  pub current_refused : {x : Refusal} → check_of (ident_cause rust_limits i) ≡ Err x → DoneCurrent bytes used current_left (Err x)
   current_refused {x} e =
-      subst (λ (l : Left ℕ). DoneCurrent bytes used l (currents.Refused x)) (sym (by_arguments rust_limits bytes used (current i) (current_cause i 0 (turned (ident_cause rust_limits i) e)))) (refl, (refl, refl))
+      subst (λ (l : Left ℕ). DoneCurrent bytes used l (Err x)) (sym (by_arguments rust_limits bytes used (current i) (current_cause i 0 (turned (ident_cause rust_limits i) e)))) (refl, (refl, refl))
 
-  module _ (p : check_of (ident_cause rust_limits i) ≡ check.Passed) where
-    current_clear : action_cause rust_limits (current i) ≡ none
+  module _ (p : check_of (ident_cause rust_limits i) ≡ Ok tt) where
+    current_clear : action_cause rust_limits (current i) ≡ None
     current_clear = current_cause i 0 (passed (ident_cause rust_limits i) p)
 
-    pub current_broken : slot_for (key_of_ident i) bytes used ≡ slots.Broken → DoneCurrent bytes used current_left (currents.Refused BadStore)
+    pub current_broken : slot_for (key_of_ident i) bytes used ≡ slots.Broken → DoneCurrent bytes used current_left (Err BadStore)
     current_broken s =
-        subst (λ (l : Left ℕ). DoneCurrent bytes used l (currents.Refused BadStore))
+        subst (λ (l : Left ℕ). DoneCurrent bytes used l (Err BadStore))
         (sym (by_store rust_limits bytes used (current i) current_clear (key_of_ident i) (unreadable (key_of_ident i) bytes used s))) (refl, (refl, refl))
 
-    pub current_is : {at number end : ℕ} → slot_for (key_of_ident i) bytes used ≡ slots.Held at number end → DoneCurrent bytes used current_left (currents.Is number)
+    pub current_is : {at number end : ℕ} → slot_for (key_of_ident i) bytes used ≡ slots.Held at number end → DoneCurrent bytes used current_left (Ok number)
     current_is {at} {number} {end} s =
-        subst (λ (l : Left ℕ). DoneCurrent bytes used l (currents.Is number)) (sym (current_held bytes used b i (holds (key_of_ident i) bytes used s) rust_limits current_clear)) (refl, (refl, refl))
+        subst (λ (l : Left ℕ). DoneCurrent bytes used l (Ok number)) (sym (current_held bytes used b i (holds (key_of_ident i) bytes used s) rust_limits current_clear)) (refl, (refl, refl))
 
     -- 15
-    pub current_none : {at : ℕ} → slot_for (key_of_ident i) bytes used ≡ slots.Free at → DoneCurrent bytes used current_left (currents.Refused NotFound)
+    pub current_none : {at : ℕ} → slot_for (key_of_ident i) bytes used ≡ slots.Free at → DoneCurrent bytes used current_left (Err NotFound)
     current_none s =
-        subst (λ (l : Left ℕ). DoneCurrent bytes used l (currents.Refused NotFound)) (sym (current_free bytes used b i (lacks (key_of_ident i) bytes used s) rust_limits current_clear)) (refl, (refl, refl))
+        subst (λ (l : Left ℕ). DoneCurrent bytes used l (Err NotFound)) (sym (current_free bytes used b i (lacks (key_of_ident i) bytes used s) rust_limits current_clear)) (refl, (refl, refl))
 
   -- ---- remove
 
   abbrev remove_left : Left ℕ
   remove_left = ran rust_limits (remove i) bytes used
 
-  pub remove_refused : {x : Refusal} → check_of (ident_cause rust_limits i) ≡ check.Refused x → DoneRemove used remove_left (written.Refused x) bytes
+  pub remove_refused : {x : Refusal} → check_of (ident_cause rust_limits i) ≡ Err x → DoneRemove used remove_left (Err x) bytes
   remove_refused {x} e =
-      subst (λ (l : Left ℕ). DoneRemove used l (written.Refused x) bytes) (sym (by_arguments rust_limits bytes used (remove i) (remove_cause i 0 (turned (ident_cause rust_limits i) e)))) (refl, (refl, refl))
+      subst (λ (l : Left ℕ). DoneRemove used l (Err x) bytes) (sym (by_arguments rust_limits bytes used (remove i) (remove_cause i 0 (turned (ident_cause rust_limits i) e)))) (refl, (refl, refl))
 
-  module _ (p : check_of (ident_cause rust_limits i) ≡ check.Passed) where
-    remove_clear : action_cause rust_limits (remove i) ≡ none
+  module _ (p : check_of (ident_cause rust_limits i) ≡ Ok tt) where
+    remove_clear : action_cause rust_limits (remove i) ≡ None
     remove_clear = remove_cause i 0 (passed (ident_cause rust_limits i) p)
 
-    pub remove_broken : slot_for (key_of_ident i) bytes used ≡ slots.Broken → DoneRemove used remove_left (written.Refused BadStore) bytes
+    pub remove_broken : slot_for (key_of_ident i) bytes used ≡ slots.Broken → DoneRemove used remove_left (Err BadStore) bytes
     remove_broken s =
-        subst (λ (l : Left ℕ). DoneRemove used l (written.Refused BadStore) bytes)
+        subst (λ (l : Left ℕ). DoneRemove used l (Err BadStore) bytes)
         (sym (by_store rust_limits bytes used (remove i) remove_clear (key_of_ident i) (unreadable (key_of_ident i) bytes used s))) (refl, (refl, refl))
 
     -- its bytes cut out
     pub remove_cut : {at number end n : ℕ} {after : List ℕ} → slot_for (key_of_ident i) bytes used ≡ slots.Held at number end → n ≡ used - (end - at) + 0
-        → after ≡ over (spliced at (end - at) [] (take used bytes)) bytes → DoneRemove used remove_left (written.Length n) after
+        → after ≡ over (spliced at (end - at) [] (take used bytes)) bytes → DoneRemove used remove_left (Ok n) after
     remove_cut {at} {number} {end} {n} {after} s q w =
         let e : remove_left ≡ accepted after n 0 =
         remove_held bytes used b i (holds (key_of_ident i) bytes used s) rust_limits remove_clear ∙ ap₂ (λ (x : List ℕ) (k : ℕ). accepted x k 0) (sym w) (sym q) in
-        subst (λ (l : Left ℕ). DoneRemove used l (written.Length n) after) (sym e) (refl, (refl, refl))
+        subst (λ (l : Left ℕ). DoneRemove used l (Ok n) after) (sym e) (refl, (refl, refl))
 
     -- nothing to remove
-    pub remove_nothing : {at : ℕ} → slot_for (key_of_ident i) bytes used ≡ slots.Free at → DoneRemove used remove_left (written.Length used) bytes
+    pub remove_nothing : {at : ℕ} → slot_for (key_of_ident i) bytes used ≡ slots.Free at → DoneRemove used remove_left (Ok used) bytes
     remove_nothing s =
-        subst (λ (l : Left ℕ). DoneRemove used l (written.Length used) bytes) (sym (remove_free bytes used b i (lacks (key_of_ident i) bytes used s) rust_limits remove_clear)) (refl, (refl, refl))
+        subst (λ (l : Left ℕ). DoneRemove used l (Ok used) bytes) (sym (remove_free bytes used b i (lacks (key_of_ident i) bytes used s) rust_limits remove_clear)) (refl, (refl, refl))
 
 -- ---- len, is_empty
 
@@ -211,33 +201,33 @@ module _ (bytes : List ℕ) (used : ℕ) where
   abbrev len_left : Left ℕ
   len_left = ran rust_limits len bytes used
 
-  pub len_over : length bytes < used → DoneLen bytes used len_left (counteds.Refused BadStore)
-  len_over h = subst (λ (l : Left ℕ). DoneLen bytes used l (counteds.Refused BadStore)) (sym (by_store rust_limits bytes used len len_cause [] (inl h))) (refl, (refl, refl))
+  pub len_over : length bytes < used → DoneLen bytes used len_left (Err BadStore)
+  len_over h = subst (λ (l : Left ℕ). DoneLen bytes used l (Err BadStore)) (sym (by_store rust_limits bytes used len len_cause [] (inl h))) (refl, (refl, refl))
 
   module _ (h : used ≤ length bytes) where
-    pub len_broken : count_of (decode_entries entry_form key_of (take used bytes)) ≡ counts.Broken → DoneLen bytes used len_left (counteds.Refused BadStore)
+    pub len_broken : count_of (decode_entries entry_form key_of (take used bytes)) ≡ None → DoneLen bytes used len_left (Err BadStore)
     len_broken e =
-        subst (λ (l : Left ℕ). DoneLen bytes used l (counteds.Refused BadStore)) (sym (by_store rust_limits bytes used len len_cause [] (inr (h, not_read entry_form key_of (take used bytes) e)))) (refl, (refl, refl))
+        subst (λ (l : Left ℕ). DoneLen bytes used l (Err BadStore)) (sym (by_store rust_limits bytes used len len_cause [] (inr (h, not_read entry_form key_of (take used bytes) e)))) (refl, (refl, refl))
 
-    pub len_is : Bytes bytes → {n : ℕ} → count_of (decode_entries entry_form key_of (take used bytes)) ≡ counts.Entries n → DoneLen bytes used len_left (counteds.Is n)
+    pub len_is : Bytes bytes → {n : ℕ} → count_of (decode_entries entry_form key_of (take used bytes)) ≡ Some n → DoneLen bytes used len_left (Ok n)
     unfolding judge
     len_is b {n} e = by (decode_entries entry_form key_of (take used bytes)) refl e
       where
-        by : (o : Option (List Entry)) → decode_entries entry_form key_of (take used bytes) ≡ o → count_of o ≡ counts.Entries n → DoneLen bytes used len_left (counteds.Is n)
-        by none q e = absurd (let z : ◌≡◌ {A = ℕ} 0 1 = cc in omega arith)
-        by (some es) q e =
+        by : (o : Option (List Entry)) → decode_entries entry_form key_of (take used bytes) ≡ o → count_of o ≡ Some n → DoneLen bytes used len_left (Ok n)
+        by None q e = absurd (let z : ◌≡◌ {A = ℕ} 0 1 = cc in omega arith)
+        by (Some es) q e =
             let k : length es ≡ n = cc in
-            subst (λ (l : Left ℕ). DoneLen bytes used l (counteds.Is n)) (sym (by_keeping rust_limits bytes used len len_cause b h es q (length es) refl ∙ ap (accepted bytes used) k)) (refl, (refl, refl))
+            subst (λ (l : Left ℕ). DoneLen bytes used l (Ok n)) (sym (by_keeping rust_limits bytes used len len_cause b h es q (length es) refl ∙ ap (accepted bytes used) k)) (refl, (refl, refl))
 
 -- the flag of a length
-pub empty_is : (o : Outcome ℕ) {n : ℕ} → counted_of o ≡ counteds.Is n → n ≡ 0 → counteds.Is 1 ≡ counted_of (emptiness o)
-empty_is (refused cause) e h = absurd (let z : ◌≡◌ {A = ℕ} 0 1 = cc in omega arith)
-empty_is (given m) {n} e h = let k : m ≡ n = cc in sym (ap (λ t. counteds.Is (cond t 1 0)) (eq-eqb m 0 (k ∙ h)))
+pub empty_is : (o : Result ℕ Refusal) {n : ℕ} → counted_of o ≡ Ok n → n ≡ 0 → Ok 1 ≡ counted_of (emptiness o)
+empty_is (Err cause) e h = absurd (let z : ◌≡◌ {A = ℕ} 0 1 = cc in omega arith)
+empty_is (Ok m) {n} e h = let k : m ≡ n = cc in sym (ap (λ t. Ok (cond t 1 0)) (eq-eqb m 0 (k ∙ h)))
 
-pub filled_is : (o : Outcome ℕ) {n : ℕ} → counted_of o ≡ counteds.Is n → (n ≡ 0 → ⊥) → counteds.Is 0 ≡ counted_of (emptiness o)
-filled_is (refused cause) e h = absurd (let z : ◌≡◌ {A = ℕ} 0 1 = cc in omega arith)
-filled_is (given m) {n} e h = let k : m ≡ n = cc in sym (ap (λ t. counteds.Is (cond t 1 0)) (ne_eqb m 0 (λ z. h (sym k ∙ z))))
+pub filled_is : (o : Result ℕ Refusal) {n : ℕ} → counted_of o ≡ Ok n → (n ≡ 0 → ⊥) → Ok 0 ≡ counted_of (emptiness o)
+filled_is (Err cause) e h = absurd (let z : ◌≡◌ {A = ℕ} 0 1 = cc in omega arith)
+filled_is (Ok m) {n} e h = let k : m ≡ n = cc in sym (ap (λ t. Ok (cond t 1 0)) (ne_eqb m 0 (λ z. h (sym k ∙ z))))
 
-pub refused_is : (o : Outcome ℕ) {cause : Refusal} → counted_of o ≡ counteds.Refused cause → counteds.Refused cause ≡ counted_of (emptiness o)
-refused_is (refused one) {cause} e = let k : one ≡ cause = cc in ap counteds.Refused (sym k)
-refused_is (given m) e = absurd (let z : ◌≡◌ {A = ℕ} 0 1 = cc in omega arith)
+pub refused_is : (o : Result ℕ Refusal) {cause : Refusal} → counted_of o ≡ Err cause → Err cause ≡ counted_of (emptiness o)
+refused_is (Err one) {cause} e = let k : one ≡ cause = cc in ap Err (sym k)
+refused_is (Ok m) e = absurd (let z : ◌≡◌ {A = ℕ} 0 1 = cc in omega arith)

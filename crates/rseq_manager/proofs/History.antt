@@ -4,9 +4,9 @@ use Prim.Native.Nat.{ℕ, ◌<◌}
 use native.Mathlib.Omega.{arith}
 use mathlib.Core.Path.{◌≡◌, ap, subst}
 use mathlib.Core.List.{List, [], ◌∷◌}
-use mathlib.Core.Option.{Option, none, some}
+use Rattle.std.specs.Prelude.{None, Ok, Option, Some}
 use Rattle.limits.specs.Limits.{rust_limits}
-use Rattle.limits.specs.Outcome.{given, and_then, or_refuse}
+use Rattle.limits.specs.Outcome.{and_then, or_refuse}
 use Rattle.limits.specs.declared.Refusal.TheVariants.{NotFound}
 use Rattle.ordered_store.specs.Entries.{entry_of}
 use Rattle.ordered_store.specs.Run.{Decided}
@@ -21,21 +21,21 @@ use Rattle.rseq_manager.proofs.AnswerLaws.{shorts}
 
 -- a number that a call gives is never 0, and has four bytes
 pub number_fits : (n : ℕ) (o : Option Entry) → (0 < number_after n o) × (number_after n o < 4294967296)
-number_fits n none = (omega arith, omega arith)
-number_fits n (some e) = (omega arith, omega arith)
+number_fits n None = (omega arith, omega arith)
+number_fits n (Some e) = (omega arith, omega arith)
 
-new_formed : (id : Ident) (n : ℕ) (o : Option Entry) → ident_cause rust_limits id ≡ none → WellFormed (numbered id (number_after n o))
+new_formed : (id : Ident) (n : ℕ) (o : Option Entry) → ident_cause rust_limits id ≡ None → WellFormed (numbered id (number_after n o))
 new_formed id n o e =
     let s = shorts id e in
     let k = number_fits n o in
     record { call_short = s.0; local_short = s.1; remote_short = s.2; positive = k.0; fits = k.1 }
 
 -- what was decided
-decided : {es : List Entry} {n : ℕ} {d : Decided Entry ℕ} → deciding es n ≡ given d → es ≡ d.entries
-decided {es} {n} {d} e = let k : record { entries = es; answer = given n } ≡ d = cc in ap (λ (x : Decided Entry ℕ). x.entries) k
+decided : {es : List Entry} {n : ℕ} {d : Decided Entry ℕ} → deciding es n ≡ Ok d → es ≡ d.entries
+decided {es} {n} {d} e = let k : record { entries = es; answer = Ok n } ≡ d = cc in ap (λ (x : Decided Entry ℕ). x.entries) k
 
 -- each call keeps well-formed, ascending entries so
-action_keeps : (a : Action) (es : List Entry) (d : Decided Entry ℕ) → action_cause rust_limits a ≡ none → judge a es ≡ given d → Sound key_of WellFormed es → Sound key_of WellFormed d.entries
+action_keeps : (a : Action) (es : List Entry) (d : Decided Entry ℕ) → action_cause rust_limits a ≡ None → judge a es ≡ Ok d → Sound key_of WellFormed es → Sound key_of WellFormed d.entries
 unfolding action_cause judge
 action_keeps (next id n) es d c j s =
     let o : Option Entry = entry_of key_of (key_of_ident id) es in
@@ -43,9 +43,9 @@ action_keeps (next id n) es d c j s =
     subst (Sound key_of WellFormed) (decided j) (set_good key_of WellFormed a es (new_formed id n o c) s.0, set_ascends key_of a es s.1)
 action_keeps (current id) es d c j s = by (entry_of key_of (key_of_ident id) es) j
   where
-    by : (o : Option Entry) → and_then (or_refuse NotFound o) (λ e. deciding es e.number) ≡ given d → Sound key_of WellFormed d.entries
-    by none j = absurd (let z : ◌≡◌ {A = ℕ} 0 1 = cc in omega arith)
-    by (some e) j = subst (Sound key_of WellFormed) (decided j) s
+    by : (o : Option Entry) → and_then (or_refuse NotFound o) (λ e. deciding es e.number) ≡ Ok d → Sound key_of WellFormed d.entries
+    by None j = absurd (let z : ◌≡◌ {A = ℕ} 0 1 = cc in omega arith)
+    by (Some e) j = subst (Sound key_of WellFormed) (decided j) s
 action_keeps (remove id) es d c j s =
     subst (Sound key_of WellFormed) (decided j) (without_good key_of WellFormed (key_of_ident id) es s.0, without_ascends key_of (key_of_ident id) es s.1)
 action_keeps len es d c j s = subst (Sound key_of WellFormed) (decided j) s
@@ -68,5 +68,5 @@ held_sound cs = sound entry_form key_of (calls rust_limits) WellFormed form_exac
     typed (c ∷ cs) = (tt, typed cs)
 
 -- no number held is 0
-pub never_zero : (cs : List (Call Action)) (id : Ident) (e : Entry) → entry_of key_of (key_of_ident id) (content entry_form key_of (calls rust_limits) cs) ≡ some e → 0 < e.number
+pub never_zero : (cs : List (Call Action)) (id : Ident) (e : Entry) → entry_of key_of (key_of_ident id) (content entry_form key_of (calls rust_limits) cs) ≡ Some e → 0 < e.number
 never_zero cs id e q = (found_good key_of WellFormed (key_of_ident id) (content entry_form key_of (calls rust_limits) cs) e (held_sound cs).0 q).positive

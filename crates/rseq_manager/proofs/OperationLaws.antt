@@ -5,13 +5,13 @@ use mathlib.Core.Path.{◌≡◌, refl, sym, ap, ap₂, subst, ◌∙◌}
 use mathlib.Core.Logic.{⊎_elim}
 use mathlib.Core.Bool.{Bool, true, false}
 use mathlib.Core.List.{List, [], ◌++◌, append_assoc}
-use mathlib.Core.Option.{none, some}
 use lib.ListN.{length, take, drop, length-append, length-drop, take-append-drop}
 use lib.Seq.{length-take-le, drop-drop}
 use lib.Dec.{ltb}
 use borrow.Author.Tests.{ltb-true, ltb-false}
+use Rattle.std.specs.Prelude.{Err, None, Ok, Result, Some}
 use Rattle.limits.specs.Limits.{LimitSet}
-use Rattle.limits.specs.Outcome.{Outcome, refused, given, cause_if, refuse_by, and_then, or_refuse}
+use Rattle.limits.specs.Outcome.{cause_if, refuse_by, and_then, or_refuse}
 use Rattle.limits.specs.declared.Refusal.{Refusal}
 use Rattle.limits.specs.declared.Refusal.TheVariants.{BadStore, NotFound, NoRoom}
 use Rattle.edit.specs.Edit.{over, put_at, spliced, tail_moved}
@@ -82,13 +82,13 @@ same_texts i j e =
 
 -- what is left where the call is accepted, or refused
 abbrev pub accepted : List ℕ → ℕ → ℕ → Left ℕ
-accepted bytes used n = record { bytes = bytes; used = used; answer = given n }
+accepted bytes used n = record { bytes = bytes; used = used; answer = Ok n }
 
 module _ (L : LimitSet) (bytes : List ℕ) (used : ℕ) (a : Action) where
-  pub by_arguments : {cause : Refusal} → action_cause L a ≡ some cause → ran L a bytes used ≡ kept_with bytes used cause
+  pub by_arguments : {cause : Refusal} → action_cause L a ≡ Some cause → ran L a bytes used ≡ kept_with bytes used cause
   by_arguments {cause} e = way_arguments entry_form key_of (action_cause L a) (judge a) bytes used cause e
 
-  module _ (clear : action_cause L a ≡ none) where
+  module _ (clear : action_cause L a ≡ None) where
     -- 3
     pub by_store : (k : Key) → Unreadable entry_form key_of k bytes used → ran L a bytes used ≡ kept_with bytes used BadStore
     by_store k u =
@@ -96,14 +96,14 @@ module _ (L : LimitSet) (bytes : List ℕ) (used : ℕ) (a : Action) where
         (λ h. way_unread entry_form key_of (action_cause L a) (judge a) bytes used clear h.0 h.1) u
 
     -- the entries stay: so does every byte
-    pub by_keeping : Bytes bytes → used ≤ length bytes → (es : List Entry) → decode_entries entry_form key_of (take used bytes) ≡ some es → (n : ℕ) → judge a es ≡ deciding es n
+    pub by_keeping : Bytes bytes → used ≤ length bytes → (es : List Entry) → decode_entries entry_form key_of (take used bytes) ≡ Some es → (n : ℕ) → judge a es ≡ deciding es n
         → ran L a bytes used ≡ accepted bytes used n
     by_keeping b h es r n j =
         let d = decoded entry_form key_of WellFormed form_exact (take used bytes) es (bytes_take used bytes b) r in
         let e : encode_entries entry_form es ≡ take used bytes = sym d.0 in
         let l : length (encode_entries entry_form es) ≡ used = ap length e ∙ length-take-le used bytes h in
-        way_taken entry_form key_of (action_cause L a) (judge a) bytes used clear h es r (record { entries = es; answer = given n }) j (omega (arith, l))
-        ∙ ap₂ (λ (x : List ℕ) (m : ℕ). record { bytes = x; used = m; answer = given n }) (ap (λ (t : List ℕ). over t bytes) e ∙ over_itself bytes used h) l
+        way_taken entry_form key_of (action_cause L a) (judge a) bytes used clear h es r (record { entries = es; answer = Ok n }) j (omega (arith, l))
+        ∙ ap₂ (λ (x : List ℕ) (m : ℕ). record { bytes = x; used = m; answer = Ok n }) (ap (λ (t : List ℕ). over t bytes) e ∙ over_itself bytes used h) l
 
 -- ---- what was found
 
@@ -121,7 +121,7 @@ module _ (bytes : List ℕ) (used : ℕ) (b : Bytes bytes) (id : Ident) where
     size : length (encode_entries entry_form w.among.list) ≡ used
     size = ap length were ∙ length-take-le used bytes w.among.within
 
-    found : entry_of key_of k w.among.list ≡ some w.entry
+    found : entry_of key_of k w.among.list ≡ Some w.entry
     found = held_entry entry_form key_of k w.among.list at w.entry h
 
     -- the entry lies in the used bytes
@@ -132,13 +132,13 @@ module _ (bytes : List ℕ) (used : ℕ) (b : Bytes bytes) (id : Ident) where
     number_within = omega (arith, w.end_is, entry_size_lem w.entry)
 
     module _ (L : LimitSet) where
-      pub current_held : action_cause L (current id) ≡ none → ran L (current id) bytes used ≡ accepted bytes used number
+      pub current_held : action_cause L (current id) ≡ None → ran L (current id) bytes used ≡ accepted bytes used number
       unfolding judge
       current_held clear =
           by_keeping L bytes used (current id) clear b w.among.within w.among.list w.among.are number
           (ap (λ o. and_then (or_refuse NotFound o) (λ e. deciding w.among.list e.number)) found ∙ ap (deciding w.among.list) (sym w.number_is))
 
-      pub remove_held : action_cause L (remove id) ≡ none
+      pub remove_held : action_cause L (remove id) ≡ None
           → ran L (remove id) bytes used ≡ accepted (over (spliced at (end - at) [] (take used bytes)) bytes) (used - (end - at) + 0) 0
       unfolding judge
       remove_held clear =
@@ -146,14 +146,14 @@ module _ (bytes : List ℕ) (used : ℕ) (b : Bytes bytes) (id : Ident) where
           let new : encode_entries entry_form (without_entry key_of k w.among.list) ≡ spliced at (end - at) [] (take used bytes) =
           held_without entry_form key_of k w.among.list at w.entry h ∙ ap₂ (λ (m : ℕ) (t : List ℕ). spliced at m [] t) (sym n) were in
           let l : length (encode_entries entry_form (without_entry key_of k w.among.list)) ≡ used - (end - at) + 0 = ap length new ∙ cut_length_lem in
-          way_taken entry_form key_of (action_cause L (remove id)) (judge (remove id)) bytes used clear w.among.within w.among.list w.among.are (record { entries = without_entry key_of k w.among.list; answer = given 0 }) refl (omega (arith, l, w.among.within))
+          way_taken entry_form key_of (action_cause L (remove id)) (judge (remove id)) bytes used clear w.among.within w.among.list w.among.are (record { entries = without_entry key_of k w.among.list; answer = Ok 0 }) refl (omega (arith, l, w.among.within))
           ∙ ap₂ (λ (x : List ℕ) (m : ℕ). accepted x m 0) (ap (λ (t : List ℕ). over t bytes) new) l
         where
           cut_length_lem : length (spliced at (end - at) [] (take used bytes)) ≡ used - (end - at) + 0
           cut_length_lem =
               omega (arith, length-append (take at (take used bytes)) (drop (at + (end - at)) (take used bytes)), length-take-le used bytes w.among.within, length-take-le at (take used bytes) (omega (arith, length-take-le used bytes w.among.within, end_within, number_within)), length-drop (at + (end - at)) (take used bytes), end_within, number_within)
 
-      pub next_held : (n : ℕ) → action_cause L (next id n) ≡ none → ran L (next id n) bytes used ≡ accepted (put_at (end - 4) (four.write (next_number number)) bytes) used (next_number number)
+      pub next_held : (n : ℕ) → action_cause L (next id n) ≡ None → ran L (next id n) bytes used ≡ accepted (put_at (end - 4) (four.write (next_number number)) bytes) used (next_number number)
       unfolding judge
       next_held n clear =
           let m : ℕ = next_number number in
@@ -174,7 +174,7 @@ module _ (bytes : List ℕ) (used : ℕ) (b : Bytes bytes) (id : Ident) where
           ∙ new_number front (texts e.id) back e.number m
           ∙ ap₂ (λ (i : ℕ) (t : List ℕ). spliced i 4 (four.write m) t) place (sym old) in
           let l : length (encode_entries entry_form (set_entry key_of (numbered id m) w.among.list)) ≡ used = ap length new ∙ stays_long m in
-          way_taken entry_form key_of (action_cause L (next id n)) (judge (next id n)) bytes used clear w.among.within w.among.list w.among.are (record { entries = set_entry key_of (numbered id m) w.among.list; answer = given m }) j (omega (arith, l, w.among.within))
+          way_taken entry_form key_of (action_cause L (next id n)) (judge (next id n)) bytes used clear w.among.within w.among.list w.among.are (record { entries = set_entry key_of (numbered id m) w.among.list; answer = Ok m }) j (omega (arith, l, w.among.within))
           ∙ ap₂ (λ (x : List ℕ) (q : ℕ). accepted x q m) (ap (λ (t : List ℕ). over t bytes) new ∙ sym (put_within bytes (four.write m) used (end - 4) (omega (arith, end_within, number_within)) w.among.within)) l
         where
           stays_long : (m : ℕ) → length (spliced (end - 4) 4 (four.write m) (take used bytes)) ≡ used
@@ -193,24 +193,24 @@ module _ (bytes : List ℕ) (used : ℕ) (b : Bytes bytes) (id : Ident) where
     place_within = omega (arith, free_within entry_form key_of k w.list at f read.2, ap length read.0, length-take-le used bytes w.within)
 
     module _ (L : LimitSet) where
-      pub current_free : action_cause L (current id) ≡ none → ran L (current id) bytes used ≡ kept_with bytes used NotFound
+      pub current_free : action_cause L (current id) ≡ None → ran L (current id) bytes used ≡ kept_with bytes used NotFound
       unfolding judge
       current_free clear =
           way_judged entry_form key_of (action_cause L (current id)) (judge (current id)) bytes used clear w.within w.list w.are NotFound
           (ap (λ o. and_then (or_refuse NotFound o) (λ e. deciding w.list e.number)) (free_entry entry_form key_of k w.list at f read.2))
 
-      pub remove_free : action_cause L (remove id) ≡ none → ran L (remove id) bytes used ≡ accepted bytes used 0
+      pub remove_free : action_cause L (remove id) ≡ None → ran L (remove id) bytes used ≡ accepted bytes used 0
       unfolding judge
       remove_free clear =
           by_keeping L bytes used (remove id) clear b w.within w.list w.are 0
           (ap (λ es. deciding es 0) (free_without entry_form key_of k w.list at f read.2))
 
       -- what is left by a new entry, where it fits and where it doesn't
-      abbrev pub left_by : ℕ → Outcome (List ℕ) → Left ℕ
-      left_by m (refused cause) = kept_with bytes used cause
-      left_by m (given s) = accepted (over s bytes) (length s) m
+      abbrev pub left_by : ℕ → Result (List ℕ) Refusal → Left ℕ
+      left_by m (Err cause) = kept_with bytes used cause
+      left_by m (Ok s) = accepted (over s bytes) (length s) m
 
-      pub next_free : (n : ℕ) → action_cause L (next id n) ≡ none
+      pub next_free : (n : ℕ) → action_cause L (next id n) ≡ None
           → ran L (next id n) bytes used ≡ left_by (first_number n) (fitted (length bytes) (spliced at 0 (entry_form.write (numbered id (first_number n))) (take used bytes)))
       unfolding judge
       next_free n clear = subst (λ (t : List ℕ). ran L (next id n) bytes used ≡ left_by (first_number n) (fitted (length bytes) t)) new (by (ltb (length bytes) (length (encode_entries entry_form (set_entry key_of a w.list)))) refl)
@@ -225,6 +225,6 @@ module _ (bytes : List ℕ) (used : ℕ) (b : Bytes bytes) (id : Ident) where
           j = ap (λ o. deciding (set_entry key_of (numbered id (number_after n o)) w.list) (number_after n o)) (free_entry entry_form key_of k w.list at f read.2)
 
           by : (t : Bool) → ltb (length bytes) (length (encode_entries entry_form (set_entry key_of a w.list))) ≡ t
-              → ran L (next id n) bytes used ≡ left_by (first_number n) (refuse_by (cause_if t NoRoom) (given (encode_entries entry_form (set_entry key_of a w.list))))
-          by true t = way_full entry_form key_of (action_cause L (next id n)) (judge (next id n)) bytes used clear w.within w.list w.are (record { entries = set_entry key_of a w.list; answer = given (first_number n) }) j (ltb-true (length bytes) (length (encode_entries entry_form (set_entry key_of a w.list))) t)
-          by false t = way_taken entry_form key_of (action_cause L (next id n)) (judge (next id n)) bytes used clear w.within w.list w.are (record { entries = set_entry key_of a w.list; answer = given (first_number n) }) j (ltb-false (length bytes) (length (encode_entries entry_form (set_entry key_of a w.list))) t)
+              → ran L (next id n) bytes used ≡ left_by (first_number n) (refuse_by (cause_if t NoRoom) (Ok (encode_entries entry_form (set_entry key_of a w.list))))
+          by true t = way_full entry_form key_of (action_cause L (next id n)) (judge (next id n)) bytes used clear w.within w.list w.are (record { entries = set_entry key_of a w.list; answer = Ok (first_number n) }) j (ltb-true (length bytes) (length (encode_entries entry_form (set_entry key_of a w.list))) t)
+          by false t = way_taken entry_form key_of (action_cause L (next id n)) (judge (next id n)) bytes used clear w.within w.list w.are (record { entries = set_entry key_of a w.list; answer = Ok (first_number n) }) j (ltb-false (length bytes) (length (encode_entries entry_form (set_entry key_of a w.list))) t)

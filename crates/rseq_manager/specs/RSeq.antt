@@ -1,10 +1,9 @@
 -- RSeqManager: the RSeq number of each dialog, in a lent store of their own. (By RFC 3262 section 3 RSeq numbers are counted within one request.) Document 01,
 -- "Intervals, PRACK, RSeq": "RSeq starts at (n's low 31 bits, at least 1) for a caller's n, then rises by one and stops at 4,294,967,295". What the store holds is in
 -- rseq_entries/specs/Entries.antt.
-use Rattle.std.specs.Prelude.{ℕ, ◌+◌, ◌%◌, min, max, cond, List, length, eqb}
-use Rattle.std.proofs.Math.Option.{Option, none, some}
+use Rattle.std.specs.Prelude.{ℕ, ◌+◌, ◌%◌, min, max, cond, List, length, eqb, None, Ok, Option, Result, Some}
 use Rattle.limits.specs.Limits.{LimitSet}
-use Rattle.limits.specs.Outcome.{Outcome, given, and_then, or_refuse}
+use Rattle.limits.specs.Outcome.{and_then, or_refuse}
 use Rattle.limits.specs.declared.Refusal.{Refusal}
 use Rattle.limits.specs.declared.Refusal.TheVariants.{NotFound}
 use Rattle.dialog_id.specs.Ident.{ident_cause, Ident}
@@ -24,8 +23,8 @@ abbrev pub next_number : ℕ → ℕ
 next_number n = min (n + 1) 4294967295
 
 abbrev pub number_after : ℕ → Option Entry → ℕ
-number_after n none = first_number n
-number_after n (some e) = next_number e.number
+number_after n None = first_number n
+number_after n (Some e) = next_number e.number
 
 -- ---- the calls
 
@@ -41,16 +40,16 @@ unfoldable pub action_cause : LimitSet → Action → Option Refusal
 action_cause L (next id n) = ident_cause L id
 action_cause L (current id) = ident_cause L id
 action_cause L (remove id) = ident_cause L id
-action_cause L len = none
+action_cause L len = None
 
 -- an accepted call: the entries afterwards, and the number that it answers (a removal: 0)
-abbrev pub deciding : List Entry → ℕ → Outcome (Decided Entry ℕ)
-deciding es n = given (record { entries = es; answer = given n })
+abbrev pub deciding : List Entry → ℕ → Result (Decided Entry ℕ) Refusal
+deciding es n = Ok (record { entries = es; answer = Ok n })
 
 abbrev pub numbered : Ident → ℕ → Entry
 numbered id n = record { id = id; number = n }
 
-unfoldable pub judge : Action → List Entry → Outcome (Decided Entry ℕ)
+unfoldable pub judge : Action → List Entry → Result (Decided Entry ℕ) Refusal
 judge (next id n) es = deciding (set_entry key_of (numbered id (number_after n (entry_of key_of (key_of_ident id) es))) es) (number_after n (entry_of key_of (key_of_ident id) es))
 judge (current id) es = and_then (or_refuse NotFound (entry_of key_of (key_of_ident id) es)) (λ e. deciding es e.number)
 judge (remove id) es = deciding (without_entry key_of (key_of_ident id) es) 0

@@ -11,33 +11,13 @@ ghost use Rattle.rseq_manager.specs.Answers.{numbered_in, used_after, current_of
 use crate::writing::insert;
 use codec::write_four;
 use dialog_id::check_lengths;
-use limits::{Check, Refusal};
-use ordered_store::Count;
-use output::Written;
+use limits::Refusal;
 use rseq_entries::{Slot, count_entries, find};
 
 mod writing;
 
-// The number, and the new used length.
-#[derive(Clone, Copy)]
-pub enum Numbered {
-    Is(u32, usize),
-    Refused(Refusal),
-}
-
-#[derive(Clone, Copy)]
-pub enum Current {
-    Is(u32),
-    Refused(Refusal),
-}
-
-#[derive(Clone, Copy)]
-pub enum Counted {
-    Is(usize),
-    Refused(Refusal),
-}
-
 // RSeqManager::next_rseq: 1, 3, 18. A new identifier starts at n's low 31 bits, at least 1; a held number rises by one.
+// The number, and the new used length.
 pub fn next_rseq(
     call_id: &[u8],
     local_tag: &[u8],
@@ -45,19 +25,17 @@ pub fn next_rseq(
     n: u32,
     bytes: &mut [u8],
     used: usize,
-) -> Numbered
+) -> Result<(u32, usize), Refusal>
     ensures value { result ≡ numbered_in (ran rust_limits (next (ident call_id.now local_tag.now remote_tag.now) n) bytes.old used) }
     ensures bytes_after { bytes.new ≡ (ran rust_limits (next (ident call_id.now local_tag.now remote_tag.now) n) bytes.old used).bytes }
     ensures used_value { used_after result used ≡ (ran rust_limits (next (ident call_id.now local_tag.now remote_tag.now) n) bytes.old used).used }
 {
-    if let Check::Refused(x) = check_lengths(call_id, local_tag, remote_tag) {
-        return Numbered::Refused(x);
-    }
+    check_lengths(call_id, local_tag, remote_tag)?;
     match find(call_id, local_tag, remote_tag, bytes, used) {
         Slot::Held(_, number, end) => {
             let m = raised(number);
             write_four(bytes, end - 4, m);
-            Numbered::Is(m, used)
+            Ok((m, used))
         }
         Slot::Free(at) => insert(
             call_id,
@@ -68,7 +46,7 @@ pub fn next_rseq(
             used,
             at,
         ),
-        Slot::Broken => Numbered::Refused(Refusal::BadStore),
+        Slot::Broken => Err(Refusal::BadStore),
     }
 }
 
@@ -79,18 +57,16 @@ pub fn current_rseq(
     remote_tag: &[u8],
     bytes: &[u8],
     used: usize,
-) -> Current
+) -> Result<u32, Refusal>
     ensures value { result ≡ current_of (ran rust_limits (current (ident call_id.now local_tag.now remote_tag.now)) bytes.now used).answer }
     ensures bytes_value { bytes.now ≡ (ran rust_limits (current (ident call_id.now local_tag.now remote_tag.now)) bytes.now used).bytes }
     ensures used_value { used ≡ (ran rust_limits (current (ident call_id.now local_tag.now remote_tag.now)) bytes.now used).used }
 {
-    if let Check::Refused(x) = check_lengths(call_id, local_tag, remote_tag) {
-        return Current::Refused(x);
-    }
+    check_lengths(call_id, local_tag, remote_tag)?;
     match find(call_id, local_tag, remote_tag, bytes, used) {
-        Slot::Held(_, number, _) => Current::Is(number),
-        Slot::Free(_) => Current::Refused(Refusal::NotFound),
-        Slot::Broken => Current::Refused(Refusal::BadStore),
+        Slot::Held(_, number, _) => Ok(number),
+        Slot::Free(_) => Err(Refusal::NotFound),
+        Slot::Broken => Err(Refusal::BadStore),
     }
 }
 
@@ -101,51 +77,45 @@ pub fn remove(
     remote_tag: &[u8],
     bytes: &mut [u8],
     used: usize,
-) -> Written
+) -> Result<usize, Refusal>
     ensures value { result ≡ written_in (ran rust_limits (remove (ident call_id.now local_tag.now remote_tag.now)) bytes.old used) }
     ensures bytes_after { bytes.new ≡ (ran rust_limits (remove (ident call_id.now local_tag.now remote_tag.now)) bytes.old used).bytes }
     ensures used_value { used_written result used ≡ (ran rust_limits (remove (ident call_id.now local_tag.now remote_tag.now)) bytes.old used).used }
 {
-    if let Check::Refused(x) = check_lengths(call_id, local_tag, remote_tag) {
-        return Written::Refused(x);
-    }
+    check_lengths(call_id, local_tag, remote_tag)?;
     match find(call_id, local_tag, remote_tag, bytes, used) {
-        Slot::Held(at, _, end) => Written::Length(edit::replace(bytes, used, at, end - at, b"")),
-        Slot::Free(_) => Written::Length(used),
-        Slot::Broken => Written::Refused(Refusal::BadStore),
+        Slot::Held(at, _, end) => Ok(edit::replace(bytes, used, at, end - at, b"")),
+        Slot::Free(_) => Ok(used),
+        Slot::Broken => Err(Refusal::BadStore),
     }
 }
 
 // RSeqManager::len: 3. How many dialogs have a number.
-pub fn len(bytes: &[u8], used: usize) -> Counted
+pub fn len(bytes: &[u8], used: usize) -> Result<usize, Refusal>
     ensures value { result ≡ counted_of (ran rust_limits len bytes.now used).answer }
     ensures bytes_value { bytes.now ≡ (ran rust_limits len bytes.now used).bytes }
     ensures used_value { used ≡ (ran rust_limits len bytes.now used).used }
 {
     if bytes.len() < used {
-        return Counted::Refused(Refusal::BadStore);
+        return Err(Refusal::BadStore);
     }
     match count_entries(&bytes[..used]) {
-        Count::Entries(n) => Counted::Is(n),
-        Count::Broken => Counted::Refused(Refusal::BadStore),
+        Some(n) => Ok(n),
+        None => Err(Refusal::BadStore),
     }
 }
 
 // RSeqManager::is_empty: 3. 1 where no dialog has a number, otherwise 0.
-pub fn is_empty(bytes: &[u8], used: usize) -> Counted
+pub fn is_empty(bytes: &[u8], used: usize) -> Result<usize, Refusal>
     ensures value { result ≡ counted_of (emptiness (ran rust_limits len bytes.now used).answer) }
     ensures bytes_value { bytes.now ≡ (ran rust_limits len bytes.now used).bytes }
     ensures used_value { used ≡ (ran rust_limits len bytes.now used).used }
 {
-    match len(bytes, used) {
-        Counted::Is(n) => {
-            if n == 0 {
-                return Counted::Is(1);
-            }
-            Counted::Is(0)
-        }
-        Counted::Refused(cause) => Counted::Refused(cause),
+    let n = len(bytes, used)?;
+    if n == 0 {
+        return Ok(1);
     }
+    Ok(0)
 }
 
 // The number that a new identifier starts at: n's low 31 bits, at least 1.

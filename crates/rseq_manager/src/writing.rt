@@ -7,7 +7,6 @@ ghost use Rattle.rseq_entries.specs.Entries.{entry_form};
 ghost use Rattle.rseq_manager.specs.RSeq.{numbered};
 ghost use Rattle.rseq_manager.specs.Answers.{numbered_from};
 
-use crate::Numbered;
 use limits::Refusal;
 
 // A new entry put in at a place of the used bytes: 18. The number, and the new used length.
@@ -19,7 +18,7 @@ pub fn insert(
     bytes: &mut [u8],
     used: usize,
     at: usize,
-) -> Numbered
+) -> Result<(u32, usize), Refusal>
     requires call_id_len_bound { (length call_id.now < 65536) × (length local_tag.now < 65536) × (length remote_tag.now < 65536) }
     requires at_le_used { (at ≤ used) × (used ≤ length bytes.old) }
     ensures value { result ≡ numbered_from number (fitted (length bytes.old) (spliced at 0 (entry_form.write (numbered (ident call_id.now local_tag.now remote_tag.now) number)) (take used bytes.old))) }
@@ -27,11 +26,11 @@ pub fn insert(
 {
     let size = 2 + call_id.len() + (2 + local_tag.len()) + (2 + remote_tag.len()) + 4;
     if bytes.len() - used < size {
-        return Numbered::Refused(Refusal::NoRoom);
+        return Err(Refusal::NoRoom);
     }
     let n = edit::move_tail(bytes, used, at, 0, size);
     write_entry(call_id, local_tag, remote_tag, number, bytes, at);
-    Numbered::Is(number, n)
+    Ok((number, n))
 }
 
 // Three texts with their length bytes, and the number, at a place.

@@ -1,9 +1,8 @@
 -- The check of a session interval in whole seconds: lib.rs's own `validate_session_expires`, a step of creation and of `set_session_expires`.
 -- RFC 4028, sections 4 and 5: an interval is at least 90 s. A departure of the Rust, kept: it is at most 86,400 s, where the RFC has no such limit.
-use Rattle.std.specs.Prelude.{ℕ, ltb}
-use Rattle.std.proofs.Math.Option.{Option}
+use Rattle.std.specs.Prelude.{ℕ, ltb, Ok, Option, Result}
 use Rattle.limits.specs.Limits.{LimitSet}
-use Rattle.limits.specs.Outcome.{Outcome, given, cause_if, or_else, refuse_by}
+use Rattle.limits.specs.Outcome.{cause_if, or_else, refuse_by}
 use Rattle.limits.specs.declared.Refusal.{Refusal}
 use Rattle.limits.specs.declared.Refusal.TheVariants.{SessionExpiresTooSmall, SessionExpiresTooLarge}
 
@@ -13,5 +12,5 @@ seconds_cause limits expires =
     or_else (cause_if (ltb expires limits.min_expires) (SessionExpiresTooSmall limits.min_expires))
     (cause_if (ltb limits.max_expires expires) SessionExpiresTooLarge)
 
-unfoldable pub checked_seconds : LimitSet → ℕ → Outcome ℕ
-checked_seconds limits expires = refuse_by (seconds_cause limits expires) (given expires)
+unfoldable pub checked_seconds : LimitSet → ℕ → Result ℕ Refusal
+checked_seconds limits expires = refuse_by (seconds_cause limits expires) (Ok expires)

@@ -8,24 +8,17 @@ ghost use Rattle.session_seconds.specs.Answers.{seconds_from};
 
 use limits::{Limits, Refusal};
 
-// An interval that is within the limits, or why it is not.
-#[derive(Clone, Copy)]
-pub enum CheckedSeconds {
-    Accepted(u32),
-    Refused(Refusal),
-}
-
 // lib.rs's own `validate_session_expires`, a step of creation and of `set_session_expires`: the seconds, or a refusal
 // where they are under 90 or over 86,400.
-pub fn check_expires_seconds(expires: u64) -> CheckedSeconds
+pub fn check_expires_seconds(expires: u64) -> Result<u32, Refusal>
     ensures { result ≡ seconds_from (checked_seconds rust_limits expires) }
 {
     let least = Limits::MIN_SESSION_EXPIRES as u64;
     if expires < least {
-        return CheckedSeconds::Refused(Refusal::SessionExpiresTooSmall(least));
+        return Err(Refusal::SessionExpiresTooSmall(least));
     }
     if (Limits::MAX_SESSION_EXPIRES as u64) < expires {
-        return CheckedSeconds::Refused(Refusal::SessionExpiresTooLarge);
+        return Err(Refusal::SessionExpiresTooLarge);
     }
-    CheckedSeconds::Accepted(expires as u32)
+    Ok(expires as u32)
 }

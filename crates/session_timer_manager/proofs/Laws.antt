@@ -3,18 +3,17 @@ use Prim.Native.Nat.{ℕ, ◌≤◌, ◌+◌, ◌*◌, ◌/◌}
 use native.Mathlib.Omega.{arith}
 use mathlib.Core.Path.{◌≡◌, refl, sym}
 use mathlib.Core.Bool.{Bool, true, false}
-use mathlib.Core.Option.{Option, none, some}
 use lib.Dec.{leb, ltb}
 use borrow.Author.Tests.{ltb-false, le-leb, lt-leb, leb-true, leb-false}
-use Rattle.limits.specs.Outcome.{given}
+use Rattle.std.specs.Prelude.{None, Ok, Option, Some}
 use Rattle.session_timer_manager.specs.Intervals.{joint_minimum, reduced, negotiated_from, negotiated, non_refresher_expiry, refresh_time}
 
 -- section 9: a reduced interval is no shorter than the minimum and no longer than the requested one
 reduced_within : (minimum requested : ℕ) (preference : Option ℕ) → minimum ≤ requested → (minimum ≤ reduced minimum requested preference) × (reduced minimum requested preference ≤ requested)
-reduced_within minimum requested none h = (omega arith, omega arith)
-reduced_within minimum requested (some preference) h = (omega arith, omega arith)
+reduced_within minimum requested None h = (omega arith, omega arith)
+reduced_within minimum requested (Some preference) h = (omega arith, omega arith)
 
-taken_within : (minimum requested : ℕ) (preference : Option ℕ) (agreed : ℕ) → negotiated_from minimum requested preference ≡ given agreed → (minimum ≤ agreed) × (agreed ≤ requested)
+taken_within : (minimum requested : ℕ) (preference : Option ℕ) (agreed : ℕ) → negotiated_from minimum requested preference ≡ Ok agreed → (minimum ≤ agreed) × (agreed ≤ requested)
 taken_within minimum requested preference agreed e = by (ltb requested minimum) refl
   where
     by : (t : Bool) → ltb requested minimum ≡ t → (minimum ≤ agreed) × (agreed ≤ requested)
@@ -25,7 +24,7 @@ taken_within minimum requested preference agreed e = by (ltb requested minimum) 
         rw same at (reduced_within minimum requested preference (ltb-false _ _ h))
 
 -- and so is an interval that is agreed on; its minimum is the larger of both sides'
-pub agreed_within : (requested local : ℕ) (remote preference : Option ℕ) (agreed : ℕ) → negotiated requested local remote preference ≡ given agreed → (joint_minimum local remote ≤ agreed) × (agreed ≤ requested)
+pub agreed_within : (requested local : ℕ) (remote preference : Option ℕ) (agreed : ℕ) → negotiated requested local remote preference ≡ Ok agreed → (joint_minimum local remote ≤ agreed) × (agreed ≤ requested)
 unfolding negotiated
 agreed_within requested local remote preference agreed e = taken_within (joint_minimum local remote) requested preference agreed e
 

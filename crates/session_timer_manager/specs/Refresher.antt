@@ -2,10 +2,10 @@
 -- Departures of the Rust, kept: it knows the four texts `uac`, `UAC`, `uas` and `UAS` alone, where the RFC ignores letter
 -- case, so `Uas` is as good as no parameter; and without a parameter it is the caller (uac) who refreshes, where the RFC
 -- leaves the choice to the side that answers.
-use Rattle.std.specs.Prelude.{ℕ, Bool, cond, not, ◌||◌, List, [], ◌∷◌, length, ltb}
-use Rattle.std.proofs.Math.Option.{Option, none, some}
+use Rattle.limits.specs.declared.Refusal.{Refusal}
+use Rattle.std.specs.Prelude.{ℕ, Bool, cond, not, ◌||◌, List, [], ◌∷◌, length, ltb, None, Ok, Option, Result, Some}
 use Rattle.limits.specs.Limits.{LimitSet}
-use Rattle.limits.specs.Outcome.{Outcome, given, refuse_if}
+use Rattle.limits.specs.Outcome.{refuse_if}
 use Rattle.limits.specs.declared.Refusal.TheVariants.{TextTooLong}
 use Rattle.text.specs.Text.{equal}
 
@@ -18,6 +18,6 @@ abbrev pub we_refresh : List ℕ → Bool → Bool
 we_refresh param we_are_uac = cond (is_uas param) (not we_are_uac) we_are_uac
 
 -- a text that is not there is not measured
-unfoldable pub refresher_role : LimitSet → Option (List ℕ) → Bool → Outcome Bool
-refresher_role limits none we_are_uac = given we_are_uac
-refresher_role limits (some param) we_are_uac = refuse_if (ltb limits.text (length param)) TextTooLong (given (we_refresh param we_are_uac))
+unfoldable pub refresher_role : LimitSet → Option (List ℕ) → Bool → Result Bool Refusal
+refresher_role limits None we_are_uac = Ok we_are_uac
+refresher_role limits (Some param) we_are_uac = refuse_if (ltb limits.text (length param)) TextTooLong (Ok (we_refresh param we_are_uac))

@@ -15,43 +15,15 @@ const NANOS_PER_SECOND: u64 = 1000000000;
 // RFC 4028, section 10: the longest time before its end at which a session is given up.
 const EXPIRY_MARGIN_SECS: u64 = 32;
 
-// A minimum or a preference that may be absent.
-#[derive(Clone, Copy)]
-pub enum OptionalTime {
-    Nanos(u64),
-    Absent,
-}
-
-// The session interval of a dialog, which may have none.
-#[derive(Clone, Copy)]
-pub enum OptionalSeconds {
-    Of(u32),
-    Absent,
-}
-
-// The interval that holds, or why there is none.
-#[derive(Clone, Copy)]
-pub enum Interval {
-    Nanos(u64),
-    Refused(Refusal),
-}
-
-// Whether we refresh, or why that is not told.
-#[derive(Clone, Copy)]
-pub enum RefresherRole {
-    WeRefresh(bool),
-    Refused(Refusal),
-}
-
 // The interval, or a refusal where it is below the minimum: the given one, or else 90 s.
-pub fn validate_session_expires(interval: u64, minimum: OptionalTime) -> Interval
+pub fn validate_session_expires(interval: u64, minimum: Option<u64>) -> Result<u64, Refusal>
     ensures { result ≡ interval_from (validated rust_limits interval (time_of minimum)) }
 {
     let least = minimum_or_default(minimum);
     if interval < least {
-        return Interval::Refused(Refusal::SessionExpiresTooSmall(least));
+        return Err(Refusal::SessionExpiresTooSmall(least));
     }
-    Interval::Nanos(interval)
+    Ok(interval)
 }
 
 // When the side that does not refresh gives the session up: before its end by 32 s, or by a third if that is less.
@@ -73,39 +45,39 @@ pub fn calculate_refresh_time(interval: u64) -> u64
 pub fn negotiate_session_expires(
     requested: u64,
     local_min: u64,
-    remote_min: OptionalTime,
-    preference: OptionalTime,
-) -> Interval
+    remote_min: Option<u64>,
+    preference: Option<u64>,
+) -> Result<u64, Refusal>
     ensures { result ≡ interval_from (negotiated requested local_min (time_of remote_min) (time_of preference)) }
 {
     let least = joint_minimum(local_min, remote_min);
     if requested < least {
-        return Interval::Refused(Refusal::SessionExpiresTooSmall(least));
+        return Err(Refusal::SessionExpiresTooSmall(least));
     }
-    let OptionalTime::Nanos(preferred) = preference else {
-        return Interval::Nanos(requested);
+    let Some(preferred) = preference else {
+        return Ok(requested);
     };
-    Interval::Nanos(smaller(requested, larger(preferred, least)))
+    Ok(smaller(requested, larger(preferred, least)))
 }
 
 // Whether we refresh the session, by the refresher parameter, whose bytes count only if it is present.
-pub fn determine_refresher_role(present: bool, param: &[u8], is_uac: bool) -> RefresherRole
+pub fn determine_refresher_role(present: bool, param: &[u8], is_uac: bool) -> Result<bool, Refusal>
     ensures { result ≡ role_from (refresher_role rust_limits (text_if present param.now) is_uac) }
 {
     if !present {
-        return RefresherRole::WeRefresh(is_uac);
+        return Ok(is_uac);
     }
     if Limits::MAX_TEXT_LENGTH < param.len() {
-        return RefresherRole::Refused(Refusal::TextTooLong);
+        return Err(Refusal::TextTooLong);
     }
-    RefresherRole::WeRefresh(we_refresh(param, is_uac))
+    Ok(we_refresh(param, is_uac))
 }
 
 // lib.rs's `Dialog::needs_refresh`: whether two thirds of the interval have passed. Without an interval, no.
-pub fn needs_refresh(expires: OptionalSeconds, elapsed: u64) -> bool
+pub fn needs_refresh(expires: Option<u32>, elapsed: u64) -> bool
     ensures { result ≡ refresh_due (seconds_of expires) elapsed }
 {
-    let OptionalSeconds::Of(seconds) = expires else {
+    let Some(seconds) = expires else {
         return false;
     };
     let interval = (seconds as u64) * NANOS_PER_SECOND;
@@ -117,22 +89,22 @@ pub fn needs_refresh(expires: OptionalSeconds, elapsed: u64) -> bool
 }
 
 // The given minimum, or else 90 s.
-fn minimum_or_default(minimum: OptionalTime) -> u64
+fn minimum_or_default(minimum: Option<u64>) -> u64
     ensures { result ≡ minimum_or_default rust_limits (time_of minimum) }
 {
     match minimum {
-        OptionalTime::Nanos(given) => given,
-        OptionalTime::Absent => (Limits::MIN_SESSION_EXPIRES as u64) * NANOS_PER_SECOND,
+        Some(given) => given,
+        None => (Limits::MIN_SESSION_EXPIRES as u64) * NANOS_PER_SECOND,
     }
 }
 
 // The larger of both sides' minima.
-fn joint_minimum(local: u64, remote: OptionalTime) -> u64
+fn joint_minimum(local: u64, remote: Option<u64>) -> u64
     ensures { result ≡ joint_minimum local (time_of remote) }
 {
     match remote {
-        OptionalTime::Nanos(given) => larger(local, given),
-        OptionalTime::Absent => local,
+        Some(given) => larger(local, given),
+        None => local,
     }
 }
 

@@ -1,5 +1,5 @@
 // Header blocks: their lines and the look-up of names.
-use sheet_lines::{More, ask, ask_block, end_line, show_check, show_lookup, show_next};
+use sheet_lines::{ask, ask_block, end_line, show_check, show_lookup, show_next};
 use std::io;
 
 // No example has more.
@@ -229,7 +229,7 @@ fn show_lines(rt: &impl Print, name: &[u8], b: &[u8]) -> io::Result<()> {
     let mut from = 0;
     let mut left = MOST_ANSWERS;
     while 0 < left {
-        let More::From(next) = show_next(rt, b, msg::next_header(b, name, from))? else {
+        let Some(next) = show_next(rt, b, msg::next_header(b, name, from))? else {
             return Ok(());
         };
         from = next;
@@ -249,7 +249,7 @@ fn show_elements(rt: &impl Print, v: &[u8]) -> io::Result<()> {
     let mut from = 0;
     let mut left = MOST_ANSWERS;
     while 0 < left {
-        let More::From(next) = show_next(rt, v, route_set::next_header_value(v, from))? else {
+        let Some(next) = show_next(rt, v, route_set::next_header_value(v, from))? else {
             return Ok(());
         };
         from = next;

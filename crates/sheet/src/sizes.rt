@@ -1,11 +1,8 @@
 // Texts and blocks of 8,192 bytes, which are read, and of 8,193, which are not.
-use headers::PartAnswer;
 use sheet_lines::{
     ask_size, end_line, first, put, show, show_check, show_expires, show_refusal, show_size,
 };
 use std::io;
-use text::Lookup;
-use uri::UriAnswer;
 
 pub fn sizes(rt: &impl Print) -> io::Result<()> {
     let mut block = [b'a'; 8193];
@@ -50,13 +47,13 @@ fn block_of(rt: &impl Print, block: &[u8]) -> io::Result<()> {
     end_line(rt)?;
     ask_size(rt, b"01 sheet", b"value in a block", block)?;
     match msg::header(block, b"a") {
-        Lookup::At(part) => {
+        Ok(Some(part)) => {
             show_size(rt, part)?;
         }
-        Lookup::Nothing => {
+        Ok(None) => {
             show(rt, b"nothing")?;
         }
-        Lookup::Refused(x) => {
+        Err(x) => {
             show_refusal(rt, x)?;
         }
     }
@@ -66,10 +63,10 @@ fn block_of(rt: &impl Print, block: &[u8]) -> io::Result<()> {
 fn tag_of(rt: &impl Print, value: &[u8]) -> io::Result<()> {
     ask_size(rt, b"01 sheet", b"tag in a value", value)?;
     match headers::extract_tag(value) {
-        PartAnswer::At(part) => {
+        Ok(part) => {
             show_size(rt, part)?;
         }
-        PartAnswer::Refused(x) => {
+        Err(x) => {
             show_refusal(rt, x)?;
         }
     }
@@ -79,10 +76,10 @@ fn tag_of(rt: &impl Print, value: &[u8]) -> io::Result<()> {
 fn uri_of(rt: &impl Print, s: &[u8]) -> io::Result<()> {
     ask_size(rt, b"01 sheet", b"host in a URI", s)?;
     match uri::sip_uri(s) {
-        UriAnswer::Read(parts) => {
+        Ok(parts) => {
             show_size(rt, parts.host)?;
         }
-        UriAnswer::Refused(x) => {
+        Err(x) => {
             show_refusal(rt, x)?;
         }
     }

@@ -1,8 +1,6 @@
 // Each call on one record, and its line. A call that changes the record hands out its new length.
 use crate::records::{show_cause, show_record};
-use dialog::{Matches, Refresh};
-use dialog_changes::Raised;
-use output::Written;
+use limits::Refusal;
 use sheet_lines::{
     ask, ask_block, ask_number, end_line, first, show, show_block, show_decimal, show_time,
     show_yes,
@@ -47,14 +45,14 @@ pub fn uas<'a>(
     created(rt, w, bytes)
 }
 
-fn created(rt: &impl Print, w: Written, bytes: &[u8]) -> io::Result<usize> {
+fn created(rt: &impl Print, w: Result<usize, Refusal>, bytes: &[u8]) -> io::Result<usize> {
     match w {
-        Written::Length(n) => {
+        Ok(n) => {
             show_record(rt, first(bytes, n))?;
             end_line(rt)?;
             Ok(n)
         }
-        Written::Refused(x) => {
+        Err(x) => {
             show_cause(rt, x)?;
             end_line(rt)?;
             Ok(0)
@@ -153,15 +151,20 @@ pub fn interval(
 }
 
 // The answer, and the record after it.
-fn updated(rt: &impl Print, w: Written, bytes: &[u8], used: usize) -> io::Result<usize> {
+fn updated(
+    rt: &impl Print,
+    w: Result<usize, Refusal>,
+    bytes: &[u8],
+    used: usize,
+) -> io::Result<usize> {
     match w {
-        Written::Length(n) => {
+        Ok(n) => {
             show(rt, b"taken; ")?;
             show_record(rt, first(bytes, n))?;
             end_line(rt)?;
             Ok(n)
         }
-        Written::Refused(x) => {
+        Err(x) => {
             show_cause(rt, x)?;
             show(rt, b"; ")?;
             show_record(rt, first(bytes, used))?;
@@ -179,14 +182,14 @@ pub fn next_local(
 ) -> io::Result<usize> {
     ask(rt, place, b"next_local_cseq", b"")?;
     match dialog_changes::next_local_cseq(bytes, used) {
-        Raised::To(number, n) => {
+        Ok((number, n)) => {
             show_decimal(rt, number as u64)?;
             show(rt, b"; ")?;
             show_record(rt, first(bytes, n))?;
             end_line(rt)?;
             Ok(n)
         }
-        Raised::Refused(x) => {
+        Err(x) => {
             show_cause(rt, x)?;
             end_line(rt)?;
             Ok(used)
@@ -205,13 +208,13 @@ pub fn matching(
 ) -> io::Result<()> {
     ask(rt, place, b"matches_request, ", method)?;
     match dialog::matches_request(block, first(bytes, used)) {
-        Matches::Yes => {
+        Ok(true) => {
             show_yes(rt, true)?;
         }
-        Matches::No => {
+        Ok(false) => {
             show_yes(rt, false)?;
         }
-        Matches::Refused(x) => {
+        Err(x) => {
             show_cause(rt, x)?;
         }
     }
@@ -231,13 +234,13 @@ pub fn refresh(
     show_time(rt, elapsed)?;
     show(rt, b": ")?;
     match dialog::needs_refresh(first(bytes, used), elapsed) {
-        Refresh::Due => {
+        Ok(true) => {
             show_yes(rt, true)?;
         }
-        Refresh::NotDue => {
+        Ok(false) => {
             show_yes(rt, false)?;
         }
-        Refresh::Refused(x) => {
+        Err(x) => {
             show_cause(rt, x)?;
         }
     }

@@ -1,15 +1,14 @@
 // How a record is shown: state letter, side, local and remote number, last ACK, seconds and refresher (`-` where absent), whether it is
 // secure, the target and the routes.
-use dialog::{ImageAnswer, image_route, read_image};
+use dialog::{image_route, read_image};
 use image::UrisAt;
 use limits::Refusal;
-use record::{Numbers, Optional, Refresher, State};
+use record::{Numbers, Refresher, State};
 use sheet_lines::{show, show_bracketed, show_decimal, show_part, show_refusal, show_seconds};
 use std::io;
-use text::Lookup;
 
 pub fn show_record(rt: &impl Print, image: &[u8]) -> io::Result<()> {
-    let ImageAnswer::Of(r) = read_image(image) else {
+    let Ok(r) = read_image(image) else {
         return show(rt, b"no record");
     };
     let numbers = r.numbers;
@@ -50,13 +49,13 @@ fn show_numbers(rt: &impl Print, numbers: Numbers) -> io::Result<()> {
     show_refresher(rt, refresher)
 }
 
-fn show_optional(rt: &impl Print, n: Optional) -> io::Result<()> {
+fn show_optional(rt: &impl Print, n: Option<u32>) -> io::Result<()> {
     match n {
-        Optional::Number(v) => {
+        Some(v) => {
             show(rt, b" ")?;
             show_decimal(rt, v as u64)
         }
-        Optional::Absent => show(rt, b" -"),
+        None => show(rt, b" -"),
     }
 }
 
@@ -96,7 +95,7 @@ fn show_each(rt: &impl Print, image: &[u8], count: usize) -> io::Result<()> {
 }
 
 fn show_route(rt: &impl Print, image: &[u8], index: usize) -> io::Result<()> {
-    if let Lookup::At(part) = image_route(image, index) {
+    if let Ok(Some(part)) = image_route(image, index) {
         show(rt, b" ")?;
         show_bracketed(rt, image, part)?;
     }

@@ -3,20 +3,14 @@
 
 mod parts;
 
-use dialog_id::IdAnswer;
-use headers::{ExpiresAnswer, PartAnswer, Refresher};
-use limits::{Check, Refusal};
-use methods::MethodLookup;
-use output::Written;
+use dialog_id::DialogId;
+use headers::Refresher;
+use limits::Refusal;
 pub use parts::{first, put};
-use prack_headers::{MethodAnswer, NumberAnswer, Reliable};
-use rack::RAckAnswer;
-use route_set::Count;
-use session_seconds::CheckedSeconds;
-use session_timer_manager::{Interval, RefresherRole};
+use rack::RAck;
 use std::io;
-use text::{Lookup, Next, Number, Span};
-use uri::{Estimate, Port, UriAnswer};
+use text::Span;
+use uri::SipUri;
 
 const NANOS_PER_SECOND: u64 = 1000000000;
 
@@ -135,77 +129,74 @@ pub fn show_yes(rt: &impl Print, b: bool) -> io::Result<()> {
     if b { show(rt, b"yes") } else { show(rt, b"no") }
 }
 
-pub fn show_check(rt: &impl Print, c: Check) -> io::Result<()> {
+pub fn show_check(rt: &impl Print, c: Result<(), Refusal>) -> io::Result<()> {
     match c {
-        Check::Passed => show(rt, b"taken"),
-        Check::Refused(x) => show_refusal(rt, x),
+        Ok(()) => show(rt, b"taken"),
+        Err(x) => show_refusal(rt, x),
     }
 }
 
-pub fn show_number(rt: &impl Print, n: Number) -> io::Result<()> {
+pub fn show_number(rt: &impl Print, n: Option<u32>) -> io::Result<()> {
     match n {
-        Number::Value(v) => show_decimal(rt, v as u64),
-        Number::Unreadable => show(rt, b"unreadable"),
+        Some(v) => show_decimal(rt, v as u64),
+        None => show(rt, b"unreadable"),
     }
 }
 
-pub fn show_lookup(rt: &impl Print, s: &[u8], l: Lookup) -> io::Result<()> {
+pub fn show_lookup(rt: &impl Print, s: &[u8], l: Result<Option<Span>, Refusal>) -> io::Result<()> {
     match l {
-        Lookup::At(part) => show_part(rt, s, part),
-        Lookup::Nothing => show(rt, b"nothing"),
-        Lookup::Refused(x) => show_refusal(rt, x),
+        Ok(Some(part)) => show_part(rt, s, part),
+        Ok(None) => show(rt, b"nothing"),
+        Err(x) => show_refusal(rt, x),
     }
-}
-
-// Whether a further text can be asked for, and from where.
-#[derive(Clone, Copy)]
-pub enum More {
-    From(usize),
-    End,
 }
 
 // One of several texts, in brackets, or how they end.
-pub fn show_next(rt: &impl Print, s: &[u8], n: Next) -> io::Result<More> {
+pub fn show_next(
+    rt: &impl Print,
+    s: &[u8],
+    n: Result<Option<(Span, usize)>, Refusal>,
+) -> io::Result<Option<usize>> {
     match n {
-        Next::At(part, next) => {
+        Ok(Some((part, next))) => {
             show_bracketed(rt, s, part)?;
             show(rt, b" ")?;
-            Ok(More::From(next))
+            Ok(Some(next))
         }
-        Next::Nothing => {
+        Ok(None) => {
             show(rt, b"nothing")?;
-            Ok(More::End)
+            Ok(None)
         }
-        Next::Refused(x) => {
+        Err(x) => {
             show_refusal(rt, x)?;
-            Ok(More::End)
+            Ok(None)
         }
     }
 }
 
-pub fn show_tag(rt: &impl Print, s: &[u8], t: PartAnswer) -> io::Result<()> {
+pub fn show_tag(rt: &impl Print, s: &[u8], t: Result<Span, Refusal>) -> io::Result<()> {
     match t {
-        PartAnswer::At(part) => show_part(rt, s, part),
-        PartAnswer::Refused(x) => show_refusal(rt, x),
+        Ok(part) => show_part(rt, s, part),
+        Err(x) => show_refusal(rt, x),
     }
 }
 
-pub fn show_id(rt: &impl Print, block: &[u8], id: IdAnswer) -> io::Result<()> {
+pub fn show_id(rt: &impl Print, block: &[u8], id: Result<DialogId, Refusal>) -> io::Result<()> {
     match id {
-        IdAnswer::At(d) => {
+        Ok(d) => {
             show_part(rt, block, d.call_id)?;
             show(rt, b", local ")?;
             show_part(rt, block, d.local_tag)?;
             show(rt, b", remote ")?;
             show_part(rt, block, d.remote_tag)
         }
-        IdAnswer::Refused(x) => show_refusal(rt, x),
+        Err(x) => show_refusal(rt, x),
     }
 }
 
-pub fn show_uri(rt: &impl Print, s: &[u8], u: UriAnswer) -> io::Result<()> {
+pub fn show_uri(rt: &impl Print, s: &[u8], u: Result<SipUri, Refusal>) -> io::Result<()> {
     match u {
-        UriAnswer::Read(parts) => {
+        Ok(parts) => {
             if parts.secure {
                 show(rt, b"sips, ")?;
             } else {
@@ -222,42 +213,45 @@ pub fn show_uri(rt: &impl Print, s: &[u8], u: UriAnswer) -> io::Result<()> {
             let port = parts.port;
             show_port(rt, port)
         }
-        UriAnswer::Refused(x) => show_refusal(rt, x),
+        Err(x) => show_refusal(rt, x),
     }
 }
 
-fn show_port(rt: &impl Print, p: Port) -> io::Result<()> {
+fn show_port(rt: &impl Print, p: Option<u16>) -> io::Result<()> {
     match p {
-        Port::Number(n) => {
+        Some(n) => {
             show(rt, b", port ")?;
             show_decimal(rt, n as u64)
         }
-        Port::Absent => show(rt, b", no port"),
+        None => show(rt, b", no port"),
     }
 }
 
-pub fn show_estimate(rt: &impl Print, e: Estimate) -> io::Result<()> {
+pub fn show_estimate(rt: &impl Print, e: Result<usize, Refusal>) -> io::Result<()> {
     match e {
-        Estimate::Length(n) => show_decimal(rt, n as u64),
-        Estimate::Refused(x) => show_refusal(rt, x),
+        Ok(n) => show_decimal(rt, n as u64),
+        Err(x) => show_refusal(rt, x),
     }
 }
 
-pub fn show_count(rt: &impl Print, c: Count) -> io::Result<()> {
+pub fn show_count(rt: &impl Print, c: Result<usize, Refusal>) -> io::Result<()> {
     match c {
-        Count::Routes(n) => show_decimal(rt, n as u64),
-        Count::Refused(x) => show_refusal(rt, x),
+        Ok(n) => show_decimal(rt, n as u64),
+        Err(x) => show_refusal(rt, x),
     }
 }
 
-pub fn show_expires(rt: &impl Print, e: ExpiresAnswer) -> io::Result<()> {
+pub fn show_expires(
+    rt: &impl Print,
+    e: Result<Option<(u32, Refresher)>, Refusal>,
+) -> io::Result<()> {
     match e {
-        ExpiresAnswer::Of(seconds, refresher) => {
+        Ok(Some((seconds, refresher))) => {
             show_decimal(rt, seconds as u64)?;
             show_refresher(rt, refresher)
         }
-        ExpiresAnswer::Nothing => show(rt, b"nothing"),
-        ExpiresAnswer::Refused(x) => show_refusal(rt, x),
+        Ok(None) => show(rt, b"nothing"),
+        Err(x) => show_refusal(rt, x),
     }
 }
 
@@ -284,10 +278,10 @@ pub fn show_time(rt: &impl Print, nanos: u64) -> io::Result<()> {
     }
 }
 
-pub fn show_interval(rt: &impl Print, i: Interval) -> io::Result<()> {
+pub fn show_interval(rt: &impl Print, i: Result<u64, Refusal>) -> io::Result<()> {
     match i {
-        Interval::Nanos(nanos) => show_time(rt, nanos),
-        Interval::Refused(x) => {
+        Ok(nanos) => show_time(rt, nanos),
+        Err(x) => {
             show_refusal(rt, x)?;
             if let Refusal::SessionExpiresTooSmall(least) = x {
                 show(rt, b" with ")?;
@@ -298,10 +292,10 @@ pub fn show_interval(rt: &impl Print, i: Interval) -> io::Result<()> {
     }
 }
 
-pub fn show_checked(rt: &impl Print, c: CheckedSeconds) -> io::Result<()> {
+pub fn show_checked(rt: &impl Print, c: Result<u32, Refusal>) -> io::Result<()> {
     match c {
-        CheckedSeconds::Accepted(seconds) => show_seconds(rt, seconds as u64),
-        CheckedSeconds::Refused(x) => {
+        Ok(seconds) => show_seconds(rt, seconds as u64),
+        Err(x) => {
             show_refusal(rt, x)?;
             if let Refusal::SessionExpiresTooSmall(least) = x {
                 show(rt, b" with ")?;
@@ -312,60 +306,60 @@ pub fn show_checked(rt: &impl Print, c: CheckedSeconds) -> io::Result<()> {
     }
 }
 
-pub fn show_role(rt: &impl Print, r: RefresherRole) -> io::Result<()> {
+pub fn show_role(rt: &impl Print, r: Result<bool, Refusal>) -> io::Result<()> {
     match r {
-        RefresherRole::WeRefresh(b) => show_yes(rt, b),
-        RefresherRole::Refused(x) => show_refusal(rt, x),
+        Ok(b) => show_yes(rt, b),
+        Err(x) => show_refusal(rt, x),
     }
 }
 
-pub fn show_sequence(rt: &impl Print, n: NumberAnswer) -> io::Result<()> {
+pub fn show_sequence(rt: &impl Print, n: Result<u32, Refusal>) -> io::Result<()> {
     match n {
-        NumberAnswer::Value(v) => show_decimal(rt, v as u64),
-        NumberAnswer::Refused(x) => show_refusal(rt, x),
+        Ok(v) => show_decimal(rt, v as u64),
+        Err(x) => show_refusal(rt, x),
     }
 }
 
-pub fn show_method(rt: &impl Print, m: MethodAnswer) -> io::Result<()> {
+pub fn show_method(rt: &impl Print, m: Result<u8, Refusal>) -> io::Result<()> {
     match m {
-        MethodAnswer::Of(n) => show_decimal(rt, n as u64),
-        MethodAnswer::Refused(x) => show_refusal(rt, x),
+        Ok(n) => show_decimal(rt, n as u64),
+        Err(x) => show_refusal(rt, x),
     }
 }
 
-pub fn show_method_number(rt: &impl Print, m: MethodLookup) -> io::Result<()> {
+pub fn show_method_number(rt: &impl Print, m: Result<Option<u8>, Refusal>) -> io::Result<()> {
     match m {
-        MethodLookup::Of(n) => show_decimal(rt, n as u64),
-        MethodLookup::Unknown => show(rt, b"nothing"),
-        MethodLookup::Refused(x) => show_refusal(rt, x),
+        Ok(Some(n)) => show_decimal(rt, n as u64),
+        Ok(None) => show(rt, b"nothing"),
+        Err(x) => show_refusal(rt, x),
     }
 }
 
-pub fn show_reliable(rt: &impl Print, r: Reliable) -> io::Result<()> {
+pub fn show_reliable(rt: &impl Print, r: Result<bool, Refusal>) -> io::Result<()> {
     match r {
-        Reliable::Yes => show(rt, b"yes"),
-        Reliable::No => show(rt, b"no"),
-        Reliable::Refused(x) => show_refusal(rt, x),
+        Ok(true) => show(rt, b"yes"),
+        Ok(false) => show(rt, b"no"),
+        Err(x) => show_refusal(rt, x),
     }
 }
 
-pub fn show_rack(rt: &impl Print, r: RAckAnswer) -> io::Result<()> {
+pub fn show_rack(rt: &impl Print, r: Result<RAck, Refusal>) -> io::Result<()> {
     match r {
-        RAckAnswer::Of(rack) => {
+        Ok(rack) => {
             show_decimal(rt, rack.rseq as u64)?;
             show(rt, b" ")?;
             show_decimal(rt, rack.cseq as u64)?;
             show(rt, b" ")?;
             show_decimal(rt, rack.method as u64)
         }
-        RAckAnswer::Refused(x) => show_refusal(rt, x),
+        Err(x) => show_refusal(rt, x),
     }
 }
 
 // What was written at the front of the lent bytes.
-pub fn show_written(rt: &impl Print, out: &[u8], w: Written) -> io::Result<()> {
+pub fn show_written(rt: &impl Print, out: &[u8], w: Result<usize, Refusal>) -> io::Result<()> {
     match w {
-        Written::Length(n) => show_first(rt, out, n),
-        Written::Refused(x) => show_refusal(rt, x),
+        Ok(n) => show_first(rt, out, n),
+        Err(x) => show_refusal(rt, x),
     }
 }

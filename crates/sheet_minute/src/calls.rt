@@ -1,8 +1,7 @@
 // Each call on a run of verdicts, and its line. `add` hands out the new used length.
-use output::Written;
+use limits::Refusal;
 use sheet_lines::{show, show_decimal, show_refusal};
 use std::io;
-use worst_minute::Worst;
 
 // A verdict, and what was answered.
 pub fn add(
@@ -36,37 +35,42 @@ pub fn add_many(
     let mut i = 0;
     while i < count {
         match worst_minute::add_verdict(time, number, run, n) {
-            Written::Length(length) => n = length,
-            Written::Refused(x) => return changed(rt, Written::Refused(x), run, n),
+            Ok(length) => n = length,
+            Err(x) => return changed(rt, Err(x), run, n),
         }
         i += 1;
     }
-    changed(rt, Written::Length(n), run, n)
+    changed(rt, Ok(n), run, n)
 }
 
 // The worst minute.
 pub fn worst(rt: &impl Print, run: &[u8], used: usize) -> io::Result<()> {
     show(rt, b"worst_minute: ")?;
     match worst_minute::worst_minute(run, used) {
-        Worst::Of(n, start) => {
+        Ok(Some((n, start))) => {
             show_decimal(rt, n as u64)?;
             tell(rt, b" from ", start)?;
         }
-        Worst::Empty => show(rt, b"0")?,
-        Worst::Refused(x) => show_refusal(rt, x)?,
+        Ok(None) => show(rt, b"0")?,
+        Err(x) => show_refusal(rt, x)?,
     }
     end(rt, run, used)
 }
 
 // What was answered to an `add`; the used length afterwards.
-fn changed(rt: &impl Print, w: Written, run: &[u8], used: usize) -> io::Result<usize> {
+fn changed(
+    rt: &impl Print,
+    w: Result<usize, Refusal>,
+    run: &[u8],
+    used: usize,
+) -> io::Result<usize> {
     match w {
-        Written::Length(n) => {
+        Ok(n) => {
             show(rt, b"taken")?;
             end(rt, run, n)?;
             Ok(n)
         }
-        Written::Refused(x) => {
+        Err(x) => {
             show_refusal(rt, x)?;
             end(rt, run, used)?;
             Ok(used)

@@ -1,7 +1,6 @@
 // Each call on a PRACK store, and its line. A call that may change the store hands out its new used length.
-use output::Written;
-use prack_validator::{Listed, Pracked, Validated};
-use rack::RAckAnswer;
+use limits::Refusal;
+use prack_validator::Validated;
 use sheet_lines::{
     end_line, first, show, show_block, show_decimal, show_rack, show_refusal, show_time, show_yes,
 };
@@ -30,14 +29,19 @@ pub fn end(rt: &impl Print, bytes: &[u8], used: usize) -> io::Result<()> {
 }
 
 // What a call answered that hands out no more than its new used length.
-pub fn changed(rt: &impl Print, w: Written, bytes: &[u8], used: usize) -> io::Result<usize> {
+pub fn changed(
+    rt: &impl Print,
+    w: Result<usize, Refusal>,
+    bytes: &[u8],
+    used: usize,
+) -> io::Result<usize> {
     match w {
-        Written::Length(n) => {
+        Ok(n) => {
             show(rt, b"taken")?;
             end(rt, bytes, n)?;
             Ok(n)
         }
-        Written::Refused(x) => {
+        Err(x) => {
             show_refusal(rt, x)?;
             end(rt, bytes, used)?;
             Ok(used)
@@ -82,7 +86,7 @@ pub fn validate(
     show_moment(rt, b"}, at ", time)?;
     match prack_validator::validate(id, block, time, bytes, used) {
         Validated::Is(k, n) => {
-            show_rack(rt, RAckAnswer::Of(k))?;
+            show_rack(rt, Ok(k))?;
             end(rt, bytes, n)?;
             Ok(n)
         }
@@ -107,12 +111,12 @@ pub fn pending(
     show_moment(rt, b", at ", time)?;
     let mut out = [0u8; 60];
     match prack_validator::get_pending(id, time, bytes, used, &mut out) {
-        Listed::Is(length, n) => {
+        Ok((length, n)) => {
             show_waiting(rt, first(&out, length))?;
             end(rt, bytes, n)?;
             Ok(n)
         }
-        Listed::Refused(x) => {
+        Err(x) => {
             show_refusal(rt, x)?;
             end(rt, bytes, used)?;
             Ok(used)
@@ -132,10 +136,10 @@ pub fn pracked(
     tell(rt, b", RSeq ", rseq as u64)?;
     show(rt, b": ")?;
     match prack_validator::is_pracked(id, rseq, bytes, used) {
-        Pracked::Is(b) => {
+        Ok(b) => {
             show_yes(rt, b)?;
         }
-        Pracked::Refused(x) => {
+        Err(x) => {
             show_refusal(rt, x)?;
         }
     }

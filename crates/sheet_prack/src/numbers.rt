@@ -1,6 +1,6 @@
 // RSeq numbers. Each dialog has the Call-ID 1 and the remote tag a; a line names its local tag.
 use crate::calls::{begin, changed, end, tell};
-use rseq_manager::{Counted, Current, Numbered};
+use limits::Refusal;
 use sheet_lines::{ask, end_line, put, show, show_decimal, show_refusal};
 use std::io;
 
@@ -39,12 +39,12 @@ fn next(
     tell(rt, b", n ", n as u64)?;
     show(rt, b": ")?;
     match rseq_manager::next_rseq(b"1", local_tag, b"a", n, bytes, used) {
-        Numbered::Is(number, after) => {
+        Ok((number, after)) => {
             show_decimal(rt, number as u64)?;
             end(rt, bytes, after)?;
             Ok(after)
         }
-        Numbered::Refused(x) => {
+        Err(x) => {
             show_refusal(rt, x)?;
             end(rt, bytes, used)?;
             Ok(used)
@@ -61,10 +61,10 @@ fn current(
 ) -> io::Result<()> {
     ask(rt, place, b"current_rseq ", local_tag)?;
     match rseq_manager::current_rseq(b"1", local_tag, b"a", bytes, used) {
-        Current::Is(number) => {
+        Ok(number) => {
             show_decimal(rt, number as u64)?;
         }
-        Current::Refused(x) => {
+        Err(x) => {
             show_refusal(rt, x)?;
         }
     }
@@ -83,13 +83,13 @@ fn remove(
     changed(rt, w, bytes, used)
 }
 
-fn count(rt: &impl Print, place: &[u8], what: &[u8], c: Counted) -> io::Result<()> {
+fn count(rt: &impl Print, place: &[u8], what: &[u8], c: Result<usize, Refusal>) -> io::Result<()> {
     ask(rt, place, what, b"")?;
     match c {
-        Counted::Is(n) => {
+        Ok(n) => {
             show_decimal(rt, n as u64)?;
         }
-        Counted::Refused(x) => {
+        Err(x) => {
             show_refusal(rt, x)?;
         }
     }

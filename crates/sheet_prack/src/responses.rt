@@ -1,6 +1,5 @@
 // Responses of a dialog, and their PRACKs.
 use crate::calls::{pending, pracked, register, remove_dialog, remove_pracked, validate};
-use output::Written;
 use std::io;
 
 // A response of 7.1's RSeq; PRACKs that are none of it, 7.2's first; its own, once and again, and after each removal.
@@ -78,7 +77,7 @@ fn ten(id: &[u8], bytes: &mut [u8]) -> usize {
     let mut i = 0;
     while i < 10 {
         i += 1;
-        if let Written::Length(n) = prack_validator::register(id, i, 1, 1, 180, 0, bytes, used) {
+        if let Ok(n) = prack_validator::register(id, i, 1, 1, 180, 0, bytes, used) {
             used = n;
         }
     }

@@ -1,6 +1,4 @@
 // Who sets the interval: what a callee can force, for offers on both sides of every bound. Times are seconds.
-use interval_contest::{ContestAnswer, Forced};
-use session_seconds::CheckedSeconds;
 use sheet_lines::{end_line, show, show_checked, show_seconds, show_yes};
 use std::io;
 
@@ -56,7 +54,7 @@ fn contest(rt: &impl Print, requested: u64, min_se: u64) -> io::Result<()> {
     show_seconds(rt, min_se)?;
     show(rt, b": ")?;
     match interval_contest::interval_contest(requested, min_se) {
-        ContestAnswer::Of(c) => {
+        Ok(c) => {
             let first = c.first;
             let retry = c.retry;
             show(rt, b"first ")?;
@@ -66,20 +64,20 @@ fn contest(rt: &impl Print, requested: u64, min_se: u64) -> io::Result<()> {
             show(rt, b"; only the request or 13: ")?;
             show_yes(rt, c.only_requested)?;
         }
-        ContestAnswer::Refused(x) => {
-            show_checked(rt, CheckedSeconds::Refused(x))?;
+        Err(x) => {
+            show_checked(rt, Err(x))?;
         }
     }
     end_line(rt)
 }
 
-fn show_forced(rt: &impl Print, f: Forced) -> io::Result<()> {
+fn show_forced(rt: &impl Print, f: Option<(u64, u64)>) -> io::Result<()> {
     match f {
-        Forced::Between(least, most) => {
+        Some((least, most)) => {
             show_seconds(rt, least)?;
             show(rt, b" to ")?;
             show_seconds(rt, most)
         }
-        Forced::Nothing => show(rt, b"none"),
+        None => show(rt, b"none"),
     }
 }

@@ -1,5 +1,4 @@
 // Session intervals: refresh, expiry, the minimum, negotiation, and who refreshes. Times are given here in seconds.
-use session_timer_manager::{OptionalSeconds, OptionalTime};
 use sheet_lines::{
     end_line, show, show_checked, show_interval, show_role, show_seconds, show_time, show_yes,
 };
@@ -19,11 +18,11 @@ fn refreshes(rt: &impl Print) -> io::Result<()> {
     let sheet: &[u8] = b"01 sheet P";
     let rule: &[u8] = b"01 Intervals";
     let after_7_2: &[u8] = b"RFC 4028 after 7.2";
-    due(rt, sheet, OptionalSeconds::Of(90), 60000000000)?;
-    due(rt, sheet, OptionalSeconds::Of(90), 59999999999)?;
-    due(rt, rule, OptionalSeconds::Of(1), 666666666)?;
-    due(rt, rule, OptionalSeconds::Of(1), 666666665)?;
-    due(rt, rule, OptionalSeconds::Absent, 60000000000)?;
+    due(rt, sheet, Some(90), 60000000000)?;
+    due(rt, sheet, Some(90), 59999999999)?;
+    due(rt, rule, Some(1), 666666666)?;
+    due(rt, rule, Some(1), 666666665)?;
+    due(rt, rule, None, 60000000000)?;
     half(rt, after_7_2, 1800)?;
     half(rt, after_7_2, 4000)?;
     half(rt, after_7_2, 91)
@@ -42,8 +41,8 @@ fn minima(rt: &impl Print) -> io::Result<()> {
     let after_5: &[u8] = b"RFC 4028 after 5";
     let after_6: &[u8] = b"RFC 4028 after 6";
     let rows: &[u8] = b"01 rows 13, 14";
-    validate(rt, after_5, 90, OptionalTime::Absent)?;
-    validate(rt, after_5, 89, OptionalTime::Absent)?;
+    validate(rt, after_5, 90, None)?;
+    validate(rt, after_5, 89, None)?;
     validate(rt, after_6, 50, seconds(3600))?;
     validate(rt, after_6, 3600, seconds(3600))?;
     checked(rt, rows, 89)?;
@@ -59,26 +58,12 @@ fn negotiations(rt: &impl Print) -> io::Result<()> {
     let after_9: &[u8] = b"RFC 4028 after 9";
     negotiate(rt, sheet, 1800, 90, seconds(120), seconds(60))?;
     negotiate(rt, sheet, 100, 90, seconds(120), seconds(60))?;
-    negotiate(
-        rt,
-        after_13,
-        50,
-        3600,
-        OptionalTime::Absent,
-        OptionalTime::Absent,
-    )?;
-    negotiate(
-        rt,
-        after_13,
-        3600,
-        4000,
-        seconds(3600),
-        OptionalTime::Absent,
-    )?;
-    negotiate(rt, after_13, 4000, 90, seconds(4000), OptionalTime::Absent)?;
+    negotiate(rt, after_13, 50, 3600, None, None)?;
+    negotiate(rt, after_13, 3600, 4000, seconds(3600), None)?;
+    negotiate(rt, after_13, 4000, 90, seconds(4000), None)?;
     negotiate(rt, after_9, 1800, 90, seconds(120), seconds(600))?;
     negotiate(rt, after_9, 4000, 90, seconds(3600), seconds(1800))?;
-    negotiate(rt, after_9, 1800, 90, OptionalTime::Absent, seconds(3600))
+    negotiate(rt, after_9, 1800, 90, None, seconds(3600))
 }
 
 fn roles(rt: &impl Print) -> io::Result<()> {
@@ -97,14 +82,14 @@ fn roles(rt: &impl Print) -> io::Result<()> {
     role(rt, rule, false, b"", false)
 }
 
-fn due(rt: &impl Print, place: &[u8], interval: OptionalSeconds, elapsed: u64) -> io::Result<()> {
+fn due(rt: &impl Print, place: &[u8], interval: Option<u32>, elapsed: u64) -> io::Result<()> {
     show(rt, place)?;
     show(rt, b"  refresh due, interval ")?;
     match interval {
-        OptionalSeconds::Of(n) => {
+        Some(n) => {
             show_seconds(rt, n as u64)?;
         }
-        OptionalSeconds::Absent => {
+        None => {
             show(rt, b"none")?;
         }
     }
@@ -133,7 +118,7 @@ fn expiry(rt: &impl Print, place: &[u8], interval: u32) -> io::Result<()> {
     end_line(rt)
 }
 
-fn validate(rt: &impl Print, place: &[u8], interval: u32, minimum: OptionalTime) -> io::Result<()> {
+fn validate(rt: &impl Print, place: &[u8], interval: u32, minimum: Option<u64>) -> io::Result<()> {
     show(rt, place)?;
     show(rt, b"  validate ")?;
     show_seconds(rt, interval as u64)?;
@@ -161,8 +146,8 @@ fn negotiate(
     place: &[u8],
     requested: u32,
     local_min: u32,
-    remote_min: OptionalTime,
-    preference: OptionalTime,
+    remote_min: Option<u64>,
+    preference: Option<u64>,
 ) -> io::Result<()> {
     show(rt, place)?;
     show(rt, b"  negotiate ")?;
@@ -220,15 +205,15 @@ fn ask_seconds(rt: &impl Print, place: &[u8], question: &[u8], interval: u32) ->
     show(rt, b": ")
 }
 
-fn show_optional(rt: &impl Print, t: OptionalTime) -> io::Result<()> {
+fn show_optional(rt: &impl Print, t: Option<u64>) -> io::Result<()> {
     match t {
-        OptionalTime::Nanos(n) => show_time(rt, n),
-        OptionalTime::Absent => show(rt, b"none"),
+        Some(n) => show_time(rt, n),
+        None => show(rt, b"none"),
     }
 }
 
-fn seconds(n: u32) -> OptionalTime {
-    OptionalTime::Nanos(nanos(n))
+fn seconds(n: u32) -> Option<u64> {
+    Some(nanos(n))
 }
 
 fn nanos(n: u32) -> u64 {

@@ -1,7 +1,6 @@
 // Contact and Record-Route: the remote target, and the route set as received and reversed.
 use sheet_lines::{ask_block, end_line, show, show_bracketed, show_count, show_lookup};
 use std::io;
-use text::Lookup;
 
 // No example has more.
 const MOST_ROUTES: usize = 10;
@@ -162,7 +161,7 @@ fn show_routes(rt: &impl Print, block: &[u8], reversed: bool) -> io::Result<()> 
 
 // The route at an index, if there is one.
 fn show_route(rt: &impl Print, block: &[u8], reversed: bool, index: usize) -> io::Result<bool> {
-    let Lookup::At(part) = route_set::route(block, reversed, index) else {
+    let Ok(Some(part)) = route_set::route(block, reversed, index) else {
         return Ok(false);
     };
     show(rt, b" ")?;

@@ -7,15 +7,16 @@ use native.Mathlib.Omega.{arith}
 use mathlib.Core.Path.{◌≡◌, refl, sym, ap, ap₂, subst, subst₂, ◌∙◌}
 use mathlib.Core.Bool.{cond}
 use mathlib.Core.List.{List, [], ◌∷◌, ◌++◌}
-use mathlib.Core.Option.{Option, none, some}
 use lib.ListN.{length, take, drop, length-take}
 use lib.Dec.{eqb}
 use borrow.Author.Tests.{ne_eqb, le-ltb, lt-ltb}
 use contract.Lifetimes.{Lfts}
 use denote.Ref.{Bor, MutBor}
+use Rattle.std.specs.Prelude.{Err, None, Ok, Option, Result, Some}
 use Rattle.limits.specs.Limits.{rust_limits}
 use Rattle.limits.specs.Refusal.{number_of}
-use Rattle.limits.specs.Outcome.{Outcome, refused, given, number_in, and_then, or_refuse}
+use Rattle.limits.specs.Outcome.{number_in, and_then, or_refuse}
+use Rattle.limits.specs.declared.Refusal.{Refusal}
 use Rattle.limits.specs.declared.Refusal.TheVariants.{TextTooLong, BadStore, NoRoom}
 use Rattle.limits.proofs.Laws.{number_positive}
 use Rattle.output.specs.Output.{fitted, leaves, written_from}
@@ -51,24 +52,24 @@ use Rattle.sip_dialog.proofs.store_readings.sip_dialog_listing.Reads as listing-
 -- ---- what the functions are lent beside the store
 
 abbrev pub nothing : Lent
-nothing = record { number = none; place = none; length = none; least = none; count = none; output = none }
+nothing = record { number = None; place = None; length = None; least = None; count = None; output = None }
 
 -- a next local number, or how many records there are
 abbrev pub numbered : ℕ → Lent
-numbered n = record { number = some n; place = none; length = none; least = none; count = none; output = none }
+numbered n = record { number = Some n; place = None; length = None; least = None; count = None; output = None }
 
 abbrev pub placed : ℕ → ℕ → Lent
-placed place size = record { number = none; place = some place; length = some size; least = none; count = none; output = none }
+placed place size = record { number = None; place = Some place; length = Some size; least = None; count = None; output = None }
 
 abbrev pub with_least : ℕ → Lent
-with_least n = record { number = none; place = none; length = none; least = some n; count = none; output = none }
+with_least n = record { number = None; place = None; length = None; least = Some n; count = None; output = None }
 
 -- the created or the terminated count
 abbrev pub with_count : ℕ → Lent
-with_count n = record { number = none; place = none; length = none; least = none; count = some n; output = none }
+with_count n = record { number = None; place = None; length = None; least = None; count = Some n; output = None }
 
 abbrev pub listed : List ℕ → ℕ → Lent
-listed output size = record { number = none; place = none; length = some size; least = none; count = none; output = some output }
+listed output size = record { number = None; place = None; length = Some size; least = None; count = None; output = Some output }
 
 -- ---- one call
 
@@ -209,7 +210,7 @@ book_followed m d = demand3_kept m zero-le (made_ran m d) (made_sent m d)
 
 -- the remote number by what the caller saw alone: of each call its arguments, and whether it returned 0
 unfoldable pub remote_seen : Ident → List Returned → Option ℕ
-remote_seen i [] = none
+remote_seen i [] = None
 remote_seen i (r ∷ rs) = cond (eqb r.number 0) (or_earlier (says i r.call) (remote_seen i rs)) (remote_seen i rs)
 
 -- `sip_dialog_listing` was called: with these bytes as the store, this output and this number lent for its length it was entered, with those it returned, and this number
@@ -246,14 +247,14 @@ pub record OfCalls (m : List ℕ) (cs : List Call) (w : World) (rs : List Return
   pub next_call : (c : Call) (after : List ℕ) (left number : ℕ) (entered kept : Lent) → Served c (take (lent c) w.memory) w.used after left number entered kept
       → NextCall rust_limits w (record { call = c; number = number; lent = entered; left = kept }) (record { memory = after ++ drop (lent c) w.memory; used = left })
   -- "the remote number is the last so taken since the dialog's latest accepted put, or else the one put": told from arguments and returned numbers
-  pub remote_seen_lem : (i : Ident) (r : Record) → held_at w i ≡ some r → remote_seen i rs ≡ some r.numbers.remote
+  pub remote_seen_lem : (i : Ident) (r : Record) → held_at w i ≡ Some r → remote_seen i rs ≡ Some r.numbers.remote
   -- the handover listing of the used bytes is that of the records they are read as, in their order
-  pub listing_seen : (x : Contents) (output output' : List ℕ) (size size' number : ℕ) → store_read (used_bytes w) ≡ some x → Listed (used_bytes w) output output' size size' number
+  pub listing_seen : (x : Contents) (output output' : List ℕ) (size size' number : ℕ) → store_read (used_bytes w) ≡ Some x → Listed (used_bytes w) output output' size size' number
       → ListingOf x.records (used_bytes w) output output' size size' number
 
 number_zero : (a : Answer) → eqb (number_in a) 0 ≡ is_taken a
-number_zero (refused cause) = ne_eqb (number_of cause) 0 (λ q. let z = number_positive cause in omega (arith, z, q))
-number_zero (given v) = refl
+number_zero (Err cause) = ne_eqb (number_of cause) 0 (λ q. let z = number_positive cause in omega (arith, z, q))
+number_zero (Ok v) = refl
 
 seen_same : (m : List ℕ) (i : Ident) (cs : List Call) (rs : List Returned) → EachShows (store_log rust_limits m cs) rs → remote_seen i rs ≡ remote_by course i (store_trace rust_limits m cs)
 unfolding remote_by remote_seen store_log store_trace
@@ -267,24 +268,24 @@ seen_same m i (c ∷ cs) (r ∷ rs) h =
     ∙ ap (λ t. cond t (or_earlier (says i c) (remote_by course i (store_trace rust_limits m cs))) (remote_by course i (store_trace rust_limits m cs))) same
 
 -- a store that is read as records, as the listing reads it
-records_read : (s : List ℕ) (x : Contents) → store_read s ≡ some x → decode_all s ≡ some x.records
+records_read : (s : List ℕ) (x : Contents) → store_read s ≡ Some x → decode_all s ≡ Some x.records
 records_read s x e = by (decode_all s) refl e
   where
-    same : {y z : Contents} → some y ≡ some z → y ≡ z
+    same : {y z : Contents} → Some y ≡ Some z → y ≡ z
     same q = cc
 
-    by : (o : Option Book) → decode_all s ≡ o → contents_of o ≡ some x → o ≡ some x.records
-    by none p q = absurd (let z : ◌≡◌ {A = ℕ} 0 1 = cc in omega arith)
-    by (some b) p q = ap (λ (y : Contents). some y.records) (same q)
+    by : (o : Option Book) → decode_all s ≡ o → contents_of o ≡ Some x → o ≡ Some x.records
+    by None p q = absurd (let z : ◌≡◌ {A = ℕ} 0 1 = cc in omega arith)
+    by (Some b) p q = ap (λ (y : Contents). Some y.records) (same q)
 
 -- the contract of `sip_dialog_listing`, of bytes that are read as records
-listing_kept : (bytes output output' : List ℕ) (size size' number : ℕ) (x : Contents) → store_read bytes ≡ some x → Listed bytes output output' size size' number
+listing_kept : (bytes output output' : List ℕ) (size size' number : ℕ) (x : Contents) → store_read bytes ≡ Some x → Listed bytes output output' size size' number
     → ListingOf x.records bytes output output' size size' number
 unfolding listing
 listing_kept bytes output output' size size' number x held l = record {
-  long_1 = λ h. by (refused TextTooLong) (rw (lt-ltb rust_limits.listed_store (length bytes) h));
-  full_18 = λ h f. by (refused NoRoom) (read_as h ∙ rw (lt-ltb (length output) (length (listing_of x.records)) f));
-  listed = λ h f. by (given (listing_of x.records)) (read_as h ∙ rw (le-ltb (length output) (length (listing_of x.records)) f));
+  long_1 = λ h. by (Err TextTooLong) (rw (lt-ltb rust_limits.listed_store (length bytes) h));
+  full_18 = λ h f. by (Err NoRoom) (read_as h ∙ rw (lt-ltb (length output) (length (listing_of x.records)) f));
+  listed = λ h f. by (Ok (listing_of x.records)) (read_as h ∙ rw (le-ltb (length output) (length (listing_of x.records)) f));
 }
   where
     read_as : length bytes ≤ rust_limits.listed_store → listing rust_limits bytes (length output) ≡ fitted (length output) (listing_of x.records)
@@ -292,19 +293,19 @@ listing_kept bytes output output' size size' number x held l = record {
         rw (le-ltb rust_limits.listed_store (length bytes) h)
         (ap (λ o. and_then (or_refuse BadStore o) (λ rs. fitted (length output) (listing_of rs))) (records_read bytes x held))
 
-    by : (o : Outcome (List ℕ)) → listing rust_limits bytes (length output) ≡ o → (number ≡ number_in o) × ((output' ≡ leaves o output) × (size' ≡ written_after (written_from o) size))
+    by : (o : Result (List ℕ) Refusal) → listing rust_limits bytes (length output) ≡ o → (number ≡ number_in o) × ((output' ≡ leaves o output) × (size' ≡ written_after (written_from o) size))
     by o e =
         let whole : listing rust_limits l.store.now (length l.out.now) ≡ o = ap₂ (λ (s t : List ℕ). listing rust_limits s (length t)) l.store_is l.out_is ∙ e in (
           l.kept.0.number_is ∙ (ap (λ v. written_number (written_from v)) whole ∙ number_of_lem o),
           (
-            sym l.out_then ∙ (l.kept.1 ∙ ap₂ (λ (v : Outcome (List ℕ)) (t : List ℕ). leaves v t) whole l.out_is),
-            sym l.size_then ∙ (l.kept.0.left_is ∙ ap₂ (λ (v : Outcome (List ℕ)) (n : ℕ). written_after (written_from v) n) whole l.size_is),
+            sym l.out_then ∙ (l.kept.1 ∙ ap₂ (λ (v : Result (List ℕ) Refusal) (t : List ℕ). leaves v t) whole l.out_is),
+            sym l.size_then ∙ (l.kept.0.left_is ∙ ap₂ (λ (v : Result (List ℕ) Refusal) (n : ℕ). written_after (written_from v) n) whole l.size_is),
           ),
         )
       where
-        number_of_lem : (v : Outcome (List ℕ)) → written_number (written_from v) ≡ number_in v
-        number_of_lem (refused cause) = refl
-        number_of_lem (given s) = refl
+        number_of_lem : (v : Result (List ℕ) Refusal) → written_number (written_from v) ≡ number_in v
+        number_of_lem (Err cause) = refl
+        number_of_lem (Ok s) = refl
 
 pub demand3_of_calls : (m : List ℕ) {cs : List Call} {w : World} {rs : List Returned} → Made m cs w rs → OfCalls m cs w rs
 unfolding world

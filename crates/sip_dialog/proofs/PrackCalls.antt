@@ -5,12 +5,14 @@ use Prim.Native.Nat.{ℕ, ◌≤◌}
 use mathlib.Core.Path.{◌≡◌, refl, ap, ap₂, subst, ◌∙◌}
 use mathlib.Core.Bool.{true}
 use mathlib.Core.List.{List}
-use mathlib.Core.Option.{Option, none, some, map}
 use lib.ListN.{length, take}
 use contract.Lifetimes.{Lfts}
 use denote.Ref.{Bor, MutBor}
+use Rattle.std.specs.Prelude.{None, Option, Result, Some}
+use Rattle.std.specs.Option.{option_map}
 use Rattle.limits.specs.Limits.{rust_limits}
-use Rattle.limits.specs.Outcome.{Outcome, number_in}
+use Rattle.limits.specs.Outcome.{number_in}
+use Rattle.limits.specs.declared.Refusal.{Refusal}
 use Rattle.msg.specs.Block.{is_block}
 use Rattle.rack.specs.declared.RAck.{RAck}
 use Rattle.ordered_store.specs.Run.{Returns}
@@ -41,25 +43,25 @@ pub record Lent : Type 0 where
   pub length : Option ℕ
 
 -- what an answer leaves of it
-abbrev pub lent_after : Outcome Value → Lent → Lent
+abbrev pub lent_after : Result Value Refusal → Lent → Lent
 lent_after a l = record {
-  rack = map (rack_after a) l.rack;
-  pracked = map (pracked_after a) l.pracked;
-  output = map (output_after a) l.output;
-  length = map (length_after a) l.length;
+  rack = option_map (rack_after a) l.rack;
+  pracked = option_map (pracked_after a) l.pracked;
+  output = option_map (output_after a) l.output;
+  length = option_map (length_after a) l.length;
 }
 
 abbrev pub nothing : Lent
-nothing = record { rack = none; pracked = none; output = none; length = none }
+nothing = record { rack = None; pracked = None; output = None; length = None }
 
 abbrev pub racked : RAck → Lent
-racked k = record { rack = some k; pracked = none; output = none; length = none }
+racked k = record { rack = Some k; pracked = None; output = None; length = None }
 
 abbrev pub asked : ℕ → Lent
-asked n = record { rack = none; pracked = some n; output = none; length = none }
+asked n = record { rack = None; pracked = Some n; output = None; length = None }
 
 abbrev pub listed : List ℕ → ℕ → Lent
-listed output size = record { rack = none; pracked = none; output = some output; length = some size }
+listed output size = record { rack = None; pracked = None; output = Some output; length = Some size }
 
 -- A C function was called: with these bytes lent for the store and this used length it was entered, with those it returned, and this number; beside the store it
 -- was lent this, and left that.

@@ -4,12 +4,13 @@
 use Prim.Native.Nat.{ℕ, ◌<◌}
 use mathlib.Core.Path.{◌≡◌, refl, ap}
 use mathlib.Core.List.{List}
-use mathlib.Core.Option.{Option, none, some, map}
 use lib.ListN.{length}
 use contract.Lifetimes.{Lfts}
 use denote.Ref.{Bor, MutBor}
+use Rattle.std.specs.Prelude.{None, Option, Result, Some}
+use Rattle.std.specs.Option.{option_map}
 use Rattle.limits.specs.Limits.{rust_limits}
-use Rattle.limits.specs.Outcome.{Outcome}
+use Rattle.limits.specs.declared.Refusal.{Refusal}
 use Rattle.ordered_store.specs.Entries.{entry_of}
 use Rattle.ordered_store.specs.Run.{Returns}
 use Rattle.ordered_store.specs.History.{Call, call_on, World, content, content_answers, world, Follows, Seen, EachShows, Made, KeepsContracts}
@@ -35,17 +36,17 @@ pub record Lent : Type 0 where
   pub empty : Option ℕ
 
 -- what an answer leaves of it
-abbrev pub lent_after : Outcome ℕ → Lent → Lent
-lent_after a l = record { number = map (value_after a) l.number; empty = map (value_after (emptiness a)) l.empty }
+abbrev pub lent_after : Result ℕ Refusal → Lent → Lent
+lent_after a l = record { number = option_map (value_after a) l.number; empty = option_map (value_after (emptiness a)) l.empty }
 
 abbrev pub nothing : Lent
-nothing = record { number = none; empty = none }
+nothing = record { number = None; empty = None }
 
 abbrev pub numbered : ℕ → Lent
-numbered n = record { number = some n; empty = none }
+numbered n = record { number = Some n; empty = None }
 
 abbrev pub asked : ℕ → Lent
-asked n = record { number = none; empty = some n }
+asked n = record { number = None; empty = Some n }
 
 -- A C function was called: with these bytes lent for the store and this used length it was entered, with those it returned, and this number; beside the store it
 -- was lent this, and left that.
@@ -104,7 +105,7 @@ pub rseq_of_calls : (m : List ℕ) {cs : List (Call Action)} {w : World} {ss : L
     → Follows entry_form key_of (calls rust_limits) m cs
     × ((w ≡ world entry_form key_of (calls rust_limits) m cs)
     × (EachShows lent_after (content_answers entry_form key_of (calls rust_limits) cs) ss
-    × ((id : Ident) (e : Entry) → entry_of key_of (key_of_ident id) (content entry_form key_of (calls rust_limits) cs) ≡ some e → 0 < e.number)))
+    × ((id : Ident) (e : Entry) → entry_of key_of (key_of_ident id) (content entry_form key_of (calls rust_limits) cs) ≡ Some e → 0 < e.number)))
 rseq_of_calls m {cs} {w} {ss} d =
     let k = made_follows entry_form key_of (calls rust_limits) lent_after WellFormed form_exact filled keeps m Served contracts d in
     (k.0, (k.1.0, (k.1.1, never_zero cs)))

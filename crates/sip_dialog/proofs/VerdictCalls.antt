@@ -5,11 +5,13 @@ use Prim.Native.Nat.{ℕ}
 use native.Mathlib.Omega.{arith}
 use mathlib.Core.Path.{◌≡◌, refl, ap, subst, ◌∙◌}
 use mathlib.Core.List.{List, [], ◌∷◌, ◌++◌}
-use mathlib.Core.Option.{Option, none, some, map}
 use lib.ListN.{length, take, drop, length-take}
 use contract.Lifetimes.{Lfts}
 use denote.Ref.{Bor, MutBor}
-use Rattle.limits.specs.Outcome.{Outcome, refused, given, number_in}
+use Rattle.std.specs.Prelude.{Err, None, Ok, Option, Result, Some}
+use Rattle.std.specs.Option.{option_map}
+use Rattle.limits.specs.Outcome.{number_in}
+use Rattle.limits.specs.declared.Refusal.{Refusal}
 use Rattle.output.specs.Output.{written_from}
 use Rattle.ordered_store.specs.History.{Seen, EachShows}
 use Rattle.worst_minute.specs.Minute.{Verdict, Minute}
@@ -28,8 +30,8 @@ abbrev pub Lent : Type 0
 Lent = Option MinuteNumbers
 
 -- what an answer leaves of it
-abbrev pub lent_after : Outcome (Option Minute) → Lent → Lent
-lent_after a l = map (minute_after a) l
+abbrev pub lent_after : Result (Option Minute) Refusal → Lent → Lent
+lent_after a l = option_map (minute_after a) l
 
 abbrev pub numbers : (refusals found start : ℕ) → MinuteNumbers
 numbers refusals found start = record { refusals = refusals; found = found; start = start }
@@ -39,19 +41,19 @@ numbers refusals found start = record { refusals = refusals; found = found; star
 pub data Served : Call → (bytes : List ℕ) (used : ℕ) (after : List ℕ) (left number : ℕ) (given kept : Lent) → Type 0 where
   by_add : (κs : Lfts 2) (time number : ℕ) (run : MutBor (List ℕ)) (used : MutBor ℕ) (r : ℕ) (run' : MutBor (List ℕ)) (used' : MutBor ℕ)
       → add_reads.Post κs (time, (number, (run, (used, tt)))) r (time, (number, (run', (used', tt))))
-      → Served (add (length run.now) (record { time = time; number = number })) run.now used.now run'.now used'.now r none none
+      → Served (add (length run.now) (record { time = time; number = number })) run.now used.now run'.now used'.now r None None
   by_ask : (κs : Lfts 4) (run : Bor (List ℕ)) (used : ℕ) (refusals found start : MutBor ℕ) (r : ℕ) (run' : Bor (List ℕ)) (refusals' found' start' : MutBor ℕ)
       → worst-reads.Post κs (run, (used, (refusals, (found, (start, tt))))) r (run', (used, (refusals', (found', (start', tt)))))
-      → Served (ask (length run.now)) run.now used run.now used r (some (numbers refusals.now found.now start.now)) (some (numbers refusals'.now found'.now start'.now))
+      → Served (ask (length run.now)) run.now used run.now used r (Some (numbers refusals.now found.now start.now)) (Some (numbers refusals'.now found'.now start'.now))
 
 -- what is handed over of an `add_verdict` is what it comes to
-number_same : (o : Outcome (List ℕ)) → written_number (written_from o) ≡ number_in (nothing_asked o)
-number_same (refused cause) = refl
-number_same (given s) = refl
+number_same : (o : Result (List ℕ) Refusal) → written_number (written_from o) ≡ number_in (nothing_asked o)
+number_same (Err cause) = refl
+number_same (Ok s) = refl
 
-used_same : (o : Outcome (List ℕ)) (used : ℕ) → written_after (written_from o) used ≡ used_after o used
-used_same (refused cause) used = refl
-used_same (given s) used = refl
+used_same : (o : Result (List ℕ) Refusal) (used : ℕ) → written_after (written_from o) used ≡ used_after o used
+used_same (Err cause) used = refl
+used_same (Ok s) used = refl
 
 -- each contract says what the definitions leave of the call, lent all of the bytes
 pub record Keeps (c : Call) (bytes : List ℕ) (used : ℕ) (after : List ℕ) (left number : ℕ) (given kept : Lent) : Type 0 where
@@ -65,9 +67,9 @@ pub record Keeps (c : Call) (bytes : List ℕ) (used : ℕ) (after : List ℕ) (
 contracts : {c : Call} {bytes : List ℕ} {used : ℕ} {after : List ℕ} {left number : ℕ} {given kept : Lent} → Served c bytes used after left number given kept → Keeps c bytes used after left number given kept
 contracts (by_add κs time number run used r run' used' p) =
     let v : Verdict = record { time = time; number = number } in
-    let o : Outcome (List ℕ) = added v run.now used.now in
+    let o : Result (List ℕ) Refusal = added v run.now used.now in
     record { bytes_are = p.1.0; used_is = p.0.left_is ∙ used_same o used.now; number_is = p.0.number_is ∙ number_same o; values_are = refl; lends_all = refl; typed = p.1.1 }
-contracts (by_ask κs run used refusals found start r run' refusals' found' start' p) = record { bytes_are = refl; used_is = refl; number_is = p.number_is; values_are = ap some p.left_is; lends_all = refl; typed = tt }
+contracts (by_ask κs run used refusals found start r run' refusals' found' start' p) = record { bytes_are = refl; used_is = refl; number_is = p.number_is; values_are = ap Some p.left_is; lends_all = refl; typed = tt }
 
 -- ---- every list of calls
 

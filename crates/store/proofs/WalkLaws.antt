@@ -3,9 +3,9 @@ use Prim.Native.Nat.{ℕ, zero, suc, ◌+◌, ◌-◌, ◌≤◌, ◌<◌}
 use native.Mathlib.Omega.{arith}
 use mathlib.Core.Path.{◌≡◌, refl, sym, ap, subst, ◌∙◌}
 use mathlib.Core.List.{List, [], ◌∷◌, ◌++◌, append_assoc, append-nil}
-use mathlib.Core.Option.{Option, none, some, some-injective}
 use lib.ListN.{length, drop, set, length-append, length-drop, drop_of_length-le}
 use lib.Seq.{take-nil}
+use Rattle.std.specs.Prelude.{None, Option, Some}
 use Rattle.codec.specs.Codec.{Reading, write_all}
 use Rattle.record.specs.Record.{Record, image}
 use Rattle.record.specs.Store.{encode_all, record_before, records_in, places_from}
@@ -14,27 +14,26 @@ use Rattle.record.proofs.WellFormedLaws.{image_back}
 use Rattle.image.specs.declared.RecordAt.{RecordAt}
 use Rattle.image.proofs.AnswerLaws.{RecordGot}
 use Rattle.store.specs.Reading.{store_from, whole_records, Tabled}
-use Rattle.store.specs.declared.StoreReading.TheVariants as answer
 use Rattle.store.proofs.TableLaws.{bytes_more, Holds, holds_more, holds_full, holds_all}
 
 -- ---- records of bytes
 
 -- the first, then the others, with fuel one less
-records_next : (fuel : ℕ) (t : List ℕ) (x : Reading Record) → 0 < length t → length t ≤ fuel → image.read t ≡ some x → records_in fuel t ≡ record_before x.value (records_in (fuel - 1) x.rest)
+records_next : (fuel : ℕ) (t : List ℕ) (x : Reading Record) → 0 < length t → length t ≤ fuel → image.read t ≡ Some x → records_in fuel t ≡ record_before x.value (records_in (fuel - 1) x.rest)
 unfolding records_in
 records_next fuel [] x h l e = absurd (let z : 0 < 0 = h in omega arith)
 records_next zero (b ∷ t) x h l e = absurd (let z : suc (length t) ≤ 0 = l in omega arith)
 records_next (suc fuel) (b ∷ t) x h l e = let k : suc fuel - 1 ≡ fuel = omega arith in rw (e, k)
 
 -- no record in front
-records_broken : (fuel : ℕ) (t : List ℕ) → 0 < length t → image.read t ≡ none → records_in fuel t ≡ none
+records_broken : (fuel : ℕ) (t : List ℕ) → 0 < length t → image.read t ≡ None → records_in fuel t ≡ None
 unfolding records_in
 records_broken fuel [] h e = absurd (let z : 0 < 0 = h in omega arith)
 records_broken zero (b ∷ t) h e = refl
 records_broken (suc fuel) (b ∷ t) h e = rw e
 
 -- no bytes left
-records_end : (fuel : ℕ) → records_in fuel [] ≡ some []
+records_end : (fuel : ℕ) → records_in fuel [] ≡ Some []
 unfolding records_in
 records_end zero = refl
 records_end (suc fuel) = refl
@@ -43,18 +42,18 @@ records_end (suc fuel) = refl
 
 -- the records read so far before those of the rest, if the rest is whole records
 abbrev after : List Record → Option (List Record) → Option (List Record)
-after done none = none
-after done (some rs) = some (done ++ rs)
+after done None = None
+after done (Some rs) = Some (done ++ rs)
 
 -- one more read
 after_next : (done : List Record) (r : Record) (o : Option (List Record)) → after done (record_before r o) ≡ after (done ++ (r ∷ [])) o
-after_next done r none = refl
-after_next done r (some rs) = ap some (sym (append_assoc done (r ∷ []) rs))
+after_next done r None = refl
+after_next done r (Some rs) = ap Some (sym (append_assoc done (r ∷ []) rs))
 
 -- none read
 after_start : (o : Option (List Record)) → o ≡ after [] o
-after_start none = refl
-after_start (some rs) = refl
+after_start None = refl
+after_start (Some rs) = refl
 
 -- `at` is the place past the records read so far, `count` their number
 pub record Going (s : List ℕ) (at count : ℕ) (table : List ℕ) : Type 0 where
@@ -88,7 +87,7 @@ start s table = record {
 -- the record at a place, and where its image ends
 pub record Step (s : List ℕ) (at : ℕ) (p : RecordAt) : Type 0 where
   pub value : Record
-  pub reads : image.read (drop at s) ≡ some (record { value = value; rest = drop p.end s })
+  pub reads : image.read (drop at s) ≡ Some (record { value = value; rest = drop p.end s })
   pub ends : p.end ≡ at + length (image.write value)
   pub moves : at < p.end
   pub within : p.end ≤ length s
@@ -108,7 +107,7 @@ module _ (s : List ℕ) (at count : ℕ) (table : List ℕ) (g : Going s at coun
   filled = omega (arith, length-drop at s)
 
   -- no record begins here
-  pub broken : image.read (drop at s) ≡ none → whole_records s ≡ none
+  pub broken : image.read (drop at s) ≡ None → whole_records s ≡ None
   broken e = g.whole ∙ ap (after g.done) (records_broken g.fuel (drop at s) filled e)
 
   module _ (p : RecordAt) (r : Step s at p) where
@@ -139,19 +138,20 @@ module _ (s : List ℕ) (at count : ℕ) (table : List ℕ) (g : Going s at coun
 -- ---- the answer
 
 -- all bytes are read
-pub ended : (s : List ℕ) (at count : ℕ) (table : List ℕ) (g : Going s at count table) → length s ≤ at → whole_records s ≡ some g.done
-ended s at count table g h = g.whole ∙ ap (λ (t : List ℕ). after g.done (records_in g.fuel t)) (drop_of_length-le s h) ∙ ap (after g.done) (records_end g.fuel) ∙ ap some (append-nil g.done)
+pub ended : (s : List ℕ) (at count : ℕ) (table : List ℕ) (g : Going s at count table) → length s ≤ at → whole_records s ≡ Some g.done
+ended s at count table g h = g.whole ∙ ap (λ (t : List ℕ). after g.done (records_in g.fuel t)) (drop_of_length-le s h) ∙ ap (after g.done) (records_end g.fuel) ∙ ap Some (append-nil g.done)
 
 -- the count is that of the records
-pub ended_count : (s : List ℕ) (at count : ℕ) (table : List ℕ) → Going s at count table → length s ≤ at → answer.Records count ≡ store_from (whole_records s)
-ended_count s at count table g h = ap answer.Records g.counted ∙ ap store_from (sym (ended s at count table g h))
+pub ended_count : (s : List ℕ) (at count : ℕ) (table : List ℕ) → Going s at count table → length s ≤ at → Some count ≡ store_from (whole_records s)
+ended_count s at count table g h = ap Some g.counted ∙ ap store_from (sym (ended s at count table g h))
 
 -- the table has their places
 pub ended_table : (s : List ℕ) (at count : ℕ) (table : List ℕ) → Going s at count table → length s ≤ at → Tabled s table
 ended_table s at count table g h rs e l =
-    let q : g.done ≡ rs = some-injective _ _ (sym (ended s at count table g h) ∙ e) in
+    let f : Some g.done ≡ Some rs = sym (ended s at count table g h) ∙ e in
+    let q : g.done ≡ rs = cc in
     holds_all table rs (subst (Holds table) q g.holds) l
 
 -- nothing is asked of the table where the bytes aren't whole records
-pub broken_table : (s table : List ℕ) → whole_records s ≡ none → Tabled s table
+pub broken_table : (s table : List ℕ) → whole_records s ≡ None → Tabled s table
 broken_table s table e rs q l = absurd (let z : ◌≡◌ {A = ℕ} 0 1 = cc in omega arith)

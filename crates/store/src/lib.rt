@@ -6,26 +6,11 @@ ghost use Rattle.record.specs.Store.{decode_all};
 ghost use Rattle.store.specs.Counting.{records_held, count_answer};
 ghost use Rattle.store.specs.Reading.{store_from, whole_records, Tabled};
 
-use image::RecordReading;
 use limits::Refusal;
 
 mod ids;
 
 pub use ids::ids_at;
-
-// How many records there are.
-#[derive(Clone, Copy)]
-pub enum StoreReading {
-    Records(usize),
-    Broken,
-}
-
-// What `count` answers.
-#[derive(Clone, Copy)]
-pub enum Held {
-    Records(usize),
-    Refused(Refusal),
-}
 
 // A store of at most so many bytes is read with a smaller table, which costs less to clear. An image has at least 24 bytes.
 const SMALL_STORE: usize = 4096;
@@ -33,20 +18,20 @@ const SMALL_STORE: usize = 4096;
 const MIDDLE_STORE: usize = 65536;
 
 // DialogManager::count, of lent bytes of which so many are used: 3.
-pub fn count(bytes: &[u8], used: usize) -> Held
+pub fn count(bytes: &[u8], used: usize) -> Result<usize, Refusal>
     ensures { result ≡ count_answer (records_held bytes.now used) }
 {
     if bytes.len() < used {
-        return Held::Refused(Refusal::BadStore);
+        return Err(Refusal::BadStore);
     }
-    let StoreReading::Records(n) = read_store(&bytes[..used]) else {
-        return Held::Refused(Refusal::BadStore);
+    let Some(n) = read_store(&bytes[..used]) else {
+        return Err(Refusal::BadStore);
     };
-    Held::Records(n)
+    Ok(n)
 }
 
-// The used bytes of a store.
-pub fn read_store(bytes: &[u8]) -> StoreReading
+// How many records the used bytes of a store are.
+pub fn read_store(bytes: &[u8]) -> Option<usize>
     ensures { result ≡ store_from (decode_all bytes.now) }
 {
     if bytes.len() <= SMALL_STORE {
@@ -65,41 +50,37 @@ pub fn read_store(bytes: &[u8]) -> StoreReading
 }
 
 // The same, with tables for the places of the records; a store with more records than they hold is compared pair by pair.
-fn read_with(bytes: &[u8], places: &mut [usize], scratch: &mut [usize]) -> StoreReading
+fn read_with(bytes: &[u8], places: &mut [usize], scratch: &mut [usize]) -> Option<usize>
     requires { length scratch.old ≡ length places.old }
     ensures { result ≡ store_from (decode_all bytes.now) }
 {
-    let StoreReading::Records(count) = read_records(bytes, places) else {
-        return StoreReading::Broken;
-    };
+    let count = read_records(bytes, places)?;
     if places.len() < count {
         if !distinct::is_distinct_by_pairs(bytes) {
-            return StoreReading::Broken;
+            return None;
         }
-        return StoreReading::Records(count);
+        return Some(count);
     }
     if !distinct::is_distinct(bytes, &mut places[..count], &mut scratch[..count]) {
-        return StoreReading::Broken;
+        return None;
     }
-    StoreReading::Records(count)
+    Some(count)
 }
 
 // The records from the front to the end, identifiers not compared; the places of as many as the table holds.
-fn read_records(bytes: &[u8], places: &mut [usize]) -> StoreReading
+fn read_records(bytes: &[u8], places: &mut [usize]) -> Option<usize>
     ensures value { result ≡ store_from (whole_records bytes.now) }
     ensures tabled { Tabled bytes.now places.new }
 {
     let mut at = 0;
     let mut count = 0;
     while at < bytes.len() {
-        let RecordReading::Whole(r) = image::read_record(bytes, at) else {
-            return StoreReading::Broken;
-        };
+        let r = image::read_record(bytes, at)?;
         if count < places.len() {
             places[count] = at;
         }
         count += 1;
         at = r.end;
     }
-    StoreReading::Records(count)
+    Some(count)
 }

@@ -3,9 +3,9 @@ use Prim.Native.Nat.{ℕ, ◌+◌, ◌≤◌, ◌<◌}
 use native.Mathlib.Omega.{arith}
 use mathlib.Core.Path.{◌≡◌, refl, sym, ap, ◌∙◌}
 use mathlib.Core.List.{List, [], ◌∷◌, ◌++◌, append_assoc, append-nil}
-use mathlib.Core.Option.{some}
 use lib.ListN.{length, take, drop, length-append, length-drop, take-append-drop}
 use lib.Seq.{length-take-le, drop-append_seam, drop-drop}
+use Rattle.std.specs.Prelude.{Some}
 use Rattle.codec.specs.Codec.{write_all}
 use Rattle.record.specs.Record.{Record, WellFormed, image}
 use Rattle.codec.proofs.CodecLaws.{Bytes, bytes_take}
@@ -29,7 +29,7 @@ pub record Ahead (s : List ℕ) (used at : ℕ) (rest : Book) : Type 0 where
   pub images : drop at s ≡ records_image rest ++ drop used s
 
 -- all records of a store
-pub all_ahead : (s : List ℕ) (used : ℕ) (b : Book) → Bytes s → used ≤ length s → decode_all (take used s) ≡ some b → Ahead s used 0 b
+pub all_ahead : (s : List ℕ) (used : ℕ) (b : Book) → Bytes s → used ≤ length s → decode_all (take used s) ≡ Some b → Ahead s used 0 b
 all_ahead s used b hb h e =
     let d = decoded (take used s) b (bytes_take used s hb) e in
     record { formed = d.1; left = omega (arith, ap length d.0, length-take-le used s h); images = sym (take-append-drop used s) ∙ ap (λ (t : List ℕ). t ++ drop used s) d.0 }
@@ -40,7 +40,7 @@ pub record Front (s : List ℕ) (used at : ℕ) (rest : Book) : Type 0 where
   pub more : Book
   pub split : rest ≡ value ∷ more
   pub starts : drop at s ≡ image.write value ++ drop (record_places at value).end s
-  pub reads : image.read (drop at s) ≡ some (record { value = value; rest = drop (record_places at value).end s })
+  pub reads : image.read (drop at s) ≡ Some (record { value = value; rest = drop (record_places at value).end s })
   pub ends : (record_places at value).end ≡ at + length (image.write value)
   pub moves : at < (record_places at value).end
   pub fits : (record_places at value).end ≤ used
@@ -62,7 +62,7 @@ front s used at (x ∷ more) g h =
       more = more;
       split = refl;
       starts = d ∙ ap (λ (t : List ℕ). i ++ t) (sym n);
-      reads = ap image.read d ∙ (image_round x g.formed.0 after ∙ ap (λ (t : List ℕ). some (record { value = x; rest = t })) (sym n));
+      reads = ap image.read d ∙ (image_round x g.formed.0 after ∙ ap (λ (t : List ℕ). Some (record { value = x; rest = t })) (sym n));
       ends = k;
       moves = omega (arith, z, k);
       fits = omega (arith, k, l);

@@ -4,16 +4,15 @@ use native.Mathlib.Omega.{arith}
 use mathlib.Core.Path.{◌≡◌, refl, sym, ap, ap₂, subst, ◌∙◌}
 use mathlib.Core.Bool.{Bool, true, false, cond, not, ◌&&◌}
 use mathlib.Core.List.{List, [], ◌∷◌, ◌++◌}
-use mathlib.Core.Option.{Option, none, some}
 use lib.ListN.{length, take, drop, length-append, length-drop}
 use lib.Seq.{length-take-le}
 use lib.Dec.{ltb}
 use borrow.Author.Tests.{ltb-true, ltb-false}
+use Rattle.std.specs.Prelude.{Err, None, Ok, Option, Result, Some}
 use Rattle.limits.specs.Limits.{LimitSet}
-use Rattle.limits.specs.Outcome.{Outcome, refused, given, refuse_if, or_refuse}
+use Rattle.limits.specs.Outcome.{refuse_if, or_refuse}
 use Rattle.limits.specs.declared.Refusal.{Refusal}
 use Rattle.limits.specs.declared.Refusal.TheVariants.{BadStore, NotFound}
-use Rattle.output.specs.declared.Written.TheVariants as written
 use Rattle.edit.specs.Edit.{over, spliced}
 use Rattle.text.proofs.Sames.{both}
 use Rattle.codec.specs.Codec.{write_all}
@@ -22,8 +21,6 @@ use Rattle.record.specs.Store.{same_id, lacks, distinct, decode_all}
 use Rattle.codec.proofs.CodecLaws.{Bytes, bytes_take}
 use Rattle.record.proofs.StoreLaws.{EachFormed, decoded}
 use Rattle.store.specs.Counting.{records_held, count_answer}
-use Rattle.store.specs.declared.Held.{Held}
-use Rattle.store.specs.declared.Held.TheVariants as held
 use Rattle.dialog_id.specs.Ident.{Ident, ident, same_ident, ident_cause}
 use Rattle.book.specs.Calls.{Call, read, Value, no_value, image_at}
 use Rattle.book.specs.Book.{Book, contents_of, records_image, records_size, ident_of, is_of, find, keep, others, only, Taken, first_place, place_of, reply, argument_cause}
@@ -53,34 +50,34 @@ images s used hb k =
     record { are = d.0; formed = d.1; one_each = d.2; long = omega (arith, ap length d.0, length-take-le used s k.within) }
 
 -- 3, of a call whose arguments are in order
-pub unheld : (L : LimitSet) (c : Call) (s : List ℕ) (used : ℕ) {cause : Refusal} → argument_cause L c ≡ none → count_answer (records_held s used) ≡ held.Refused cause
+pub unheld : (L : LimitSet) (c : Call) (s : List ℕ) (used : ℕ) {cause : Refusal} → argument_cause L c ≡ None → count_answer (records_held s used) ≡ Err cause
     → run L c s used ≡ kept_with L c s used BadStore
 unfolding records_held
 unheld L c s used {cause} a e = by (ltb (length s) used) refl (decode_all (take used s)) refl e
   where
-    by : (t : Bool) → ltb (length s) used ≡ t → (o : Option (List Record)) → decode_all (take used s) ≡ o → count_answer (refuse_if t BadStore (or_refuse BadStore o)) ≡ held.Refused cause
+    by : (t : Bool) → ltb (length s) used ≡ t → (o : Option (List Record)) → decode_all (take used s) ≡ o → count_answer (refuse_if t BadStore (or_refuse BadStore o)) ≡ Err cause
         → run L c s used ≡ kept_with L c s used BadStore
     by true q o p e = way_over L c s used a (ltb-true (length s) used q)
-    by false q none p e = way_unread L c s used a (ltb-false (length s) used q) (ap contents_of p)
-    by false q (some b) p e = absurd (let z : ◌≡◌ {A = ℕ} 0 1 = cc in omega arith)
+    by false q None p e = way_unread L c s used a (ltb-false (length s) used q) (ap contents_of p)
+    by false q (Some b) p e = absurd (let z : ◌≡◌ {A = ℕ} 0 1 = cc in omega arith)
 
 -- what a refused call answers and leaves
-pub turned_back : {now : Left} {s : List ℕ} {used : ℕ} {cause : Refusal} → now ≡ record { bytes = s; used = used; answer = refused cause } → (written.Refused cause ≡ written_in now) × (s ≡ now.bytes)
+pub turned_back : {now : Left} {s : List ℕ} {used : ℕ} {cause : Refusal} → now ≡ record { bytes = s; used = used; answer = Err cause } → (Err cause ≡ written_in now) × (s ≡ now.bytes)
 turned_back e = (sym (ap written_in e), sym (ap (λ (l : Left). l.bytes) e))
 
 -- ---- one record of an identifier
 
-lacks_find : (r : Record) (b : Book) → lacks b r ≡ true → find (ident_of r) b ≡ none
+lacks_find : (r : Record) (b : Book) → lacks b r ≡ true → find (ident_of r) b ≡ None
 unfolding lacks same_ident
 lacks_find r [] h = refl
 lacks_find r (x ∷ b) h = by (same_id x r) refl h (lacks_find r b)
   where
-    by : (t : Bool) → same_id x r ≡ t → not t && lacks b r ≡ true → (lacks b r ≡ true → find (ident_of r) b ≡ none) → find (ident_of r) (x ∷ b) ≡ none
+    by : (t : Bool) → same_id x r ≡ t → not t && lacks b r ≡ true → (lacks b r ≡ true → find (ident_of r) b ≡ None) → find (ident_of r) (x ∷ b) ≡ None
     by true e h ih = absurd (let z : ◌≡◌ {A = ℕ} 0 1 = cc in omega arith)
-    by false e h ih = ap (λ t. cond t (some x) (find (ident_of r) b)) e ∙ ih h
+    by false e h ih = ap (λ t. cond t (Some x) (find (ident_of r) b)) e ∙ ih h
 
 -- none behind the first
-behind : (front : Book) (r : Record) (back : Book) → distinct (front ++ (r ∷ back)) ≡ true → find (ident_of r) back ≡ none
+behind : (front : Book) (r : Record) (back : Book) → distinct (front ++ (r ∷ back)) ≡ true → find (ident_of r) back ≡ None
 unfolding distinct
 behind [] r back h = lacks_find r back (both (lacks back r) (distinct back) h).0
 behind (x ∷ front) r back h = behind front r back (both (lacks (front ++ (r ∷ back)) x) (distinct (front ++ (r ∷ back))) h).1
@@ -89,24 +86,24 @@ behind (x ∷ front) r back h = behind front r back (both (lacks (front ++ (r �
 
 pub record Standing (i : Ident) (at : ℕ) (b : Book) (p n : ℕ) : Type 0 where
   pub was : Record
-  pub found : find i b ≡ some was
+  pub found : find i b ≡ Some was
   pub there : Stands i was b
   pub place_is : p ≡ at + records_size there.front
   pub size_is : n ≡ length (image.write was)
 
-pub standing : (i : Ident) (at : ℕ) (b : Book) (p n : ℕ) → place_of (is_of i) at b ≡ some (image_at p n) → Standing i at b p n
+pub standing : (i : Ident) (at : ℕ) (b : Book) (p n : ℕ) → place_of (is_of i) at b ≡ Some (image_at p n) → Standing i at b p n
 unfolding place_of write_all
 standing i at [] p n h = absurd (let z : ◌≡◌ {A = ℕ} 0 1 = cc in omega arith)
 standing i at (x ∷ b) p n h = by (is_of i x) refl h (standing i (at + length (image.write x)) b p n)
   where
-    by : (t : Bool) → is_of i x ≡ t → cond t (some (image_at at (length (image.write x)))) (place_of (is_of i) (at + length (image.write x)) b) ≡ some (image_at p n)
-        → (place_of (is_of i) (at + length (image.write x)) b ≡ some (image_at p n) → Standing i (at + length (image.write x)) b p n) → Standing i at (x ∷ b) p n
+    by : (t : Bool) → is_of i x ≡ t → cond t (Some (image_at at (length (image.write x)))) (place_of (is_of i) (at + length (image.write x)) b) ≡ Some (image_at p n)
+        → (place_of (is_of i) (at + length (image.write x)) b ≡ Some (image_at p n) → Standing i (at + length (image.write x)) b p n) → Standing i at (x ∷ b) p n
     by true e h ih =
         let u : at ≡ p = cc in
         let v : length (image.write x) ≡ n = cc in
         record {
           was = x;
-          found = ap (λ t. cond t (some x) (find i b)) e;
+          found = ap (λ t. cond t (Some x) (find i b)) e;
           there = record { front = []; back = b; split = refl; first = refl; ident_is = ident_is (ident_of x) i e };
           place_is = omega (arith, u);
           size_is = sym v;
@@ -115,27 +112,27 @@ standing i at (x ∷ b) p n h = by (is_of i x) refl h (standing i (at + length (
         let d = ih h in
         record {
           was = d.was;
-          found = ap (λ t. cond t (some x) (find i b)) e ∙ d.found;
+          found = ap (λ t. cond t (Some x) (find i b)) e ∙ d.found;
           there = record {
             front = x ∷ d.there.front;
             back = d.there.back;
             split = ap (λ l. x ∷ l) d.there.split;
-            first = ap (λ t. cond t (some x) (find i d.there.front)) e ∙ d.there.first;
+            first = ap (λ t. cond t (Some x) (find i d.there.front)) e ∙ d.there.first;
             ident_is = d.there.ident_is;
           };
           place_is = omega (arith, d.place_is, length-append (image.write x) (records_image d.there.front));
           size_is = d.size_is;
         }
 
-pub absent : (i : Ident) (at : ℕ) (b : Book) → place_of (is_of i) at b ≡ none → find i b ≡ none
+pub absent : (i : Ident) (at : ℕ) (b : Book) → place_of (is_of i) at b ≡ None → find i b ≡ None
 unfolding place_of
 absent i at [] h = refl
 absent i at (x ∷ b) h = by (is_of i x) refl h (absent i (at + length (image.write x)) b)
   where
-    by : (t : Bool) → is_of i x ≡ t → cond t (some (image_at at (length (image.write x)))) (place_of (is_of i) (at + length (image.write x)) b) ≡ none
-        → (place_of (is_of i) (at + length (image.write x)) b ≡ none → find i b ≡ none) → find i (x ∷ b) ≡ none
+    by : (t : Bool) → is_of i x ≡ t → cond t (Some (image_at at (length (image.write x)))) (place_of (is_of i) (at + length (image.write x)) b) ≡ None
+        → (place_of (is_of i) (at + length (image.write x)) b ≡ None → find i b ≡ None) → find i (x ∷ b) ≡ None
     by true e h ih = absurd (let z : ◌≡◌ {A = ℕ} 0 1 = cc in omega arith)
-    by false e h ih = ap (λ t. cond t (some x) (find i b)) e ∙ ih h
+    by false e h ih = ap (λ t. cond t (Some x) (find i b)) e ∙ ih h
 
 -- ---- sizes
 
@@ -161,49 +158,49 @@ reply_is c l r b = refl
 pub record Removes (now : Left) (s : List ℕ) (used at n : ℕ) : Type 0 where
   pub within : used ≤ length s
   pub inside : at + n ≤ used
-  pub answer : written.Length (used - n + 0) ≡ written_in now
+  pub answer : Ok (used - n + 0) ≡ written_in now
   pub bytes : over (spliced at n [] (take used s)) s ≡ now.bytes
 
 module _ (L : LimitSet) (m : ℕ) (c l r : List ℕ) (s : List ℕ) (used : ℕ) (hb : Bytes s) where
   abbrev gone : Call
   gone = removing m c l r
 
-  abbrev looked : Outcome Value
+  abbrev looked : Result Value Refusal
   looked = (run L (read m (getting c l r)) s used).answer
 
-  pub refuses : (cause : Refusal) → refused cause ≡ looked → run L gone s used ≡ kept_with L gone s used cause
+  pub refuses : (cause : Refusal) → Err cause ≡ looked → run L gone s used ≡ kept_with L gone s used cause
   refuses cause e = by (ident_cause L (ident c l r)) refl (count_answer (records_held s used)) refl
     where
-      same : (x : Refusal) → refused x ≡ looked → x ≡ cause
-      same x w = let z : ◌≡◌ {A = Outcome Value} (refused x) (refused cause) = w ∙ sym e in cc
+      same : (x : Refusal) → Err x ≡ looked → x ≡ cause
+      same x w = let z : ◌≡◌ {A = Result Value Refusal} (Err x) (Err cause) = w ∙ sym e in cc
 
-      on : (k : Kept s used) → ident_cause L (ident c l r) ≡ none → (o : Option Value) → place_of (is_of (ident c l r)) first_place k.contents.records ≡ o → run L gone s used ≡ kept_with L gone s used cause
-      on k p none f =
-          let z : NotFound ≡ cause = same NotFound (replies L m (getting c l r) s used hb (get_cause L c l r ∙ p) k (refused NotFound) (sym (reply_is c l r k.contents.records ∙ ap (or_refuse NotFound) f))) in
+      on : (k : Kept s used) → ident_cause L (ident c l r) ≡ None → (o : Option Value) → place_of (is_of (ident c l r)) first_place k.contents.records ≡ o → run L gone s used ≡ kept_with L gone s used cause
+      on k p None f =
+          let z : NotFound ≡ cause = same NotFound (replies L m (getting c l r) s used hb (get_cause L c l r ∙ p) k (Err NotFound) (sym (reply_is c l r k.contents.records ∙ ap (or_refuse NotFound) f))) in
           subst (λ (y : Refusal). run L gone s used ≡ kept_with L gone s used y) z
           (way_judged L gone s used (remove_causes L m (ident c l r) ∙ p) k.within k.contents k.read NotFound (remove_unheld L m (ident c l r) k.contents.records (absent (ident c l r) first_place k.contents.records f)))
-      on k p (some v) f =
-          let z : given v ≡ refused cause = replies L m (getting c l r) s used hb (get_cause L c l r ∙ p) k (given v) (sym (reply_is c l r k.contents.records ∙ ap (or_refuse NotFound) f)) ∙ sym e in
+      on k p (Some v) f =
+          let z : Ok v ≡ Err cause = replies L m (getting c l r) s used hb (get_cause L c l r ∙ p) k (Ok v) (sym (reply_is c l r k.contents.records ∙ ap (or_refuse NotFound) f)) ∙ sym e in
           absurd (let y : ◌≡◌ {A = ℕ} 0 1 = cc in omega arith)
 
-      by : (o : Option Refusal) → ident_cause L (ident c l r) ≡ o → (a : Held) → count_answer (records_held s used) ≡ a → run L gone s used ≡ kept_with L gone s used cause
-      by (some x) p a w = way_arguments L gone s used cause (remove_causes L m (ident c l r) ∙ p ∙ ap some (same x (arguments_refuse L m (getting c l r) s used hb (get_cause L c l r ∙ p))))
-      by none p (held.Refused x) w =
+      by : (o : Option Refusal) → ident_cause L (ident c l r) ≡ o → (a : Result ℕ Refusal) → count_answer (records_held s used) ≡ a → run L gone s used ≡ kept_with L gone s used cause
+      by (Some x) p a w = way_arguments L gone s used cause (remove_causes L m (ident c l r) ∙ p ∙ ap Some (same x (arguments_refuse L m (getting c l r) s used hb (get_cause L c l r ∙ p))))
+      by None p (Err x) w =
           let z : BadStore ≡ cause = same BadStore (store_refuses L m (getting c l r) s used hb (get_cause L c l r ∙ p) w) in
           subst (λ (y : Refusal). run L gone s used ≡ kept_with L gone s used y) z (unheld L gone s used (remove_causes L m (ident c l r) ∙ p) w)
-      by none p (held.Records x) w = let k = kept s used w in on k p (place_of (is_of (ident c l r)) first_place k.contents.records) refl
+      by None p (Ok x) w = let k = kept s used w in on k p (place_of (is_of (ident c l r)) first_place k.contents.records) refl
 
-  module _ (at n : ℕ) (e : given (image_at at n) ≡ looked) where
-    cut : (k : Kept s used) → ident_cause L (ident c l r) ≡ none → Standing (ident c l r) first_place k.contents.records at n → Removes (run L gone s used) s used at n
+  module _ (at n : ℕ) (e : Ok (image_at at n) ≡ looked) where
+    cut : (k : Kept s used) → ident_cause L (ident c l r) ≡ None → Standing (ident c l r) first_place k.contents.records at n → Removes (run L gone s used) s used at n
     unfolding write_all
     cut k p d =
         let i : Ident = ident c l r in
         let b : Book = k.contents.records in
         let g = images s used hb k in
-        let none_behind : find i d.there.back ≡ none =
-        subst (λ (j : Ident). find j d.there.back ≡ none) d.there.ident_is (behind d.there.front d.was d.there.back (ap distinct (sym d.there.split) ∙ g.one_each)) in
+        let none_behind : find i d.there.back ≡ None =
+        subst (λ (j : Ident). find j d.there.back ≡ None) d.there.ident_is (behind d.there.front d.was d.there.back (ap distinct (sym d.there.split) ∙ g.one_each)) in
         let small : records_size (keep (others i) b) ≤ records_size b = kept_size (others i) b in
-        let q : run L gone s used ≡ record { bytes = over (records_image (keep (others i) b)) s; used = records_size (keep (others i) b); answer = given no_value } =
+        let q : run L gone s used ≡ record { bytes = over (records_image (keep (others i) b)) s; used = records_size (keep (others i) b); answer = Ok no_value } =
         way_taken L gone s used (remove_causes L m i ∙ p) k.within k.contents k.read (taken i) (remove_held L m i b d.was d.found) (omega (arith, small, g.long, k.within)) in
         let x : records_image (keep (others i) b) ≡ spliced (records_size d.there.front) (length (image.write d.was)) [] (records_image b) = removed_bytes i d.was b d.there none_behind in
         let at-is : at ≡ records_size d.there.front = omega (arith, d.place_is) in
@@ -215,27 +212,27 @@ module _ (L : LimitSet) (m : ℕ) (c l r : List ℕ) (s : List ℕ) (used : ℕ)
         record {
           within = k.within;
           inside = ends;
-          answer = ap written.Length len ∙ sym (ap written_in q);
+          answer = ap Ok len ∙ sym (ap written_in q);
           bytes = ap (λ (t : List ℕ). over t s) y ∙ sym (ap (λ (t : Left). t.bytes) q);
         }
 
     pub removes : Removes (run L gone s used) s used at n
     removes = by (ident_cause L (ident c l r)) refl (count_answer (records_held s used)) refl
       where
-        on : (k : Kept s used) → ident_cause L (ident c l r) ≡ none → (o : Option Value) → place_of (is_of (ident c l r)) first_place k.contents.records ≡ o → Removes (run L gone s used) s used at n
-        on k p none f =
-            let z : refused NotFound ≡ given (image_at at n) = replies L m (getting c l r) s used hb (get_cause L c l r ∙ p) k (refused NotFound) (sym (reply_is c l r k.contents.records ∙ ap (or_refuse NotFound) f)) ∙ sym e in
+        on : (k : Kept s used) → ident_cause L (ident c l r) ≡ None → (o : Option Value) → place_of (is_of (ident c l r)) first_place k.contents.records ≡ o → Removes (run L gone s used) s used at n
+        on k p None f =
+            let z : Err NotFound ≡ Ok (image_at at n) = replies L m (getting c l r) s used hb (get_cause L c l r ∙ p) k (Err NotFound) (sym (reply_is c l r k.contents.records ∙ ap (or_refuse NotFound) f)) ∙ sym e in
             absurd (let y : ◌≡◌ {A = ℕ} 0 1 = cc in omega arith)
-        on k p (some v) f =
-            let z : given v ≡ given (image_at at n) = replies L m (getting c l r) s used hb (get_cause L c l r ∙ p) k (given v) (sym (reply_is c l r k.contents.records ∙ ap (or_refuse NotFound) f)) ∙ sym e in
+        on k p (Some v) f =
+            let z : Ok v ≡ Ok (image_at at n) = replies L m (getting c l r) s used hb (get_cause L c l r ∙ p) k (Ok v) (sym (reply_is c l r k.contents.records ∙ ap (or_refuse NotFound) f)) ∙ sym e in
             let u : v ≡ image_at at n = cc in
-            cut k p (standing (ident c l r) first_place k.contents.records at n (f ∙ ap some u))
+            cut k p (standing (ident c l r) first_place k.contents.records at n (f ∙ ap Some u))
 
-        by : (o : Option Refusal) → ident_cause L (ident c l r) ≡ o → (a : Held) → count_answer (records_held s used) ≡ a → Removes (run L gone s used) s used at n
-        by (some x) p a w =
-            let z : refused x ≡ given (image_at at n) = arguments_refuse L m (getting c l r) s used hb (get_cause L c l r ∙ p) ∙ sym e in
+        by : (o : Option Refusal) → ident_cause L (ident c l r) ≡ o → (a : Result ℕ Refusal) → count_answer (records_held s used) ≡ a → Removes (run L gone s used) s used at n
+        by (Some x) p a w =
+            let z : Err x ≡ Ok (image_at at n) = arguments_refuse L m (getting c l r) s used hb (get_cause L c l r ∙ p) ∙ sym e in
             absurd (let y : ◌≡◌ {A = ℕ} 0 1 = cc in omega arith)
-        by none p (held.Refused x) w =
-            let z : refused BadStore ≡ given (image_at at n) = store_refuses L m (getting c l r) s used hb (get_cause L c l r ∙ p) w ∙ sym e in
+        by None p (Err x) w =
+            let z : Err BadStore ≡ Ok (image_at at n) = store_refuses L m (getting c l r) s used hb (get_cause L c l r ∙ p) w ∙ sym e in
             absurd (let y : ◌≡◌ {A = ℕ} 0 1 = cc in omega arith)
-        by none p (held.Records x) w = let k = kept s used w in on k p (place_of (is_of (ident c l r)) first_place k.contents.records) refl
+        by None p (Ok x) w = let k = kept s used w in on k p (place_of (is_of (ident c l r)) first_place k.contents.records) refl

@@ -6,8 +6,8 @@ use mathlib.Core.Bool.{Bool, true, false, cond, not}
 use mathlib.Core.List.{List, [], ◌∷◌, ◌++◌, append_assoc, append-nil}
 use lib.ListN.{length, take, drop, length-append, length-drop}
 use lib.Seq.{take-append_seam, drop-append-add, drop-drop}
+use Rattle.std.specs.Prelude.{Err, Ok}
 use Rattle.limits.specs.Limits.{LimitSet}
-use Rattle.limits.specs.Outcome.{given}
 use Rattle.limits.specs.declared.Refusal.{Refusal}
 use Rattle.limits.specs.declared.Refusal.TheVariants.{BadStore}
 use Rattle.edit.specs.Edit.{over, put_at}
@@ -18,7 +18,6 @@ use Rattle.codec.proofs.CodecLaws.{Bytes}
 use Rattle.image.specs.Places.{record_places}
 use Rattle.record_walk.specs.Walk.{At, end_at}
 use Rattle.store.specs.Counting.{records_held, count_answer}
-use Rattle.store.specs.declared.Held.TheVariants as held
 use Rattle.book.specs.Calls.{no_value}
 use Rattle.record.specs.Store.{decode_all}
 use Rattle.book.specs.Book.{Book, records_image, is_terminated, keep, living, only, Taken}
@@ -151,13 +150,13 @@ module _ (s : List ℕ) (used : ℕ) (bytes : List ℕ) (at to : ℕ) (g : Closi
 abbrev taken : Taken
 taken = record { change = only living; value = no_value }
 
-pub unswept : (L : LimitSet) (n : ℕ) (s : List ℕ) (used : ℕ) {cause : Refusal} → count_answer (records_held s used) ≡ held.Refused cause
+pub unswept : (L : LimitSet) (n : ℕ) (s : List ℕ) (used : ℕ) {cause : Refusal} → count_answer (records_held s used) ≡ Err cause
     → run L (sweeping n) s used ≡ kept_with L (sweeping n) s used BadStore
 unswept L n s used e = unheld L (sweeping n) s used (sweep_clear L n) e
 
 pub swept : (L : LimitSet) (n : ℕ) (s : List ℕ) (used : ℕ) → Bytes s → Kept s used
-    → run L (sweeping n) s used ≡ record { bytes = over (living_in (decode_all (take used s))) s; used = length (living_in (decode_all (take used s))); answer = given no_value }
+    → run L (sweeping n) s used ≡ record { bytes = over (living_in (decode_all (take used s))) s; used = length (living_in (decode_all (take used s))); answer = Ok no_value }
 swept L n s used hb k =
     let g = images s used hb k in
     way_taken L (sweeping n) s used (sweep_clear L n) k.within k.contents k.read taken (sweep_judged L n k.contents.records) (omega (arith, kept_size living k.contents.records, g.long, k.within))
-    ∙ ap (λ (t : List ℕ). record { bytes = over t s; used = length t; answer = given no_value }) (sym (ap living_in k.are))
+    ∙ ap (λ (t : List ℕ). record { bytes = over t s; used = length t; answer = Ok no_value }) (sym (ap living_in k.are))

@@ -5,8 +5,7 @@ ghost use Rattle.book.specs.Store.{run};
 ghost use Rattle.dialog_manager.specs.Answers.{written_in};
 ghost use Rattle.store_edits.specs.Edits.{removing};
 
-use dialog_manager::Place;
-use output::Written;
+use limits::Refusal;
 
 // DialogManager::remove: 1, 3, 15. The bytes behind the record move over it.
 pub fn remove(
@@ -15,12 +14,10 @@ pub fn remove(
     remote_tag: &[u8],
     bytes: &mut [u8],
     used: usize,
-) -> Written
+) -> Result<usize, Refusal>
     ensures value { result ≡ written_in (run rust_limits (removing (length bytes.old) call_id.now local_tag.now remote_tag.now) bytes.old used) }
     ensures bytes_after { bytes.new ≡ (run rust_limits (removing (length bytes.old) call_id.now local_tag.now remote_tag.now) bytes.old used).bytes }
 {
-    match dialog_manager::get(call_id, local_tag, remote_tag, bytes, used) {
-        Place::At(at, n) => Written::Length(edit::replace(bytes, used, at, n, b"")),
-        Place::Refused(cause) => Written::Refused(cause),
-    }
+    let (at, n) = dialog_manager::get(call_id, local_tag, remote_tag, bytes, used)?;
+    Ok(edit::replace(bytes, used, at, n, b""))
 }

@@ -10,19 +10,18 @@ ghost use Rattle.dialog_manager.specs.Search.{Stored};
 ghost use Rattle.store_edits.specs.Edits.{sweeping, living_in, StayingAt};
 
 use limits::Refusal;
-use output::Written;
 use record_walk::record_end;
-use store::{Held, ids_at};
+use store::ids_at;
 
 // DialogManager::cleanup_terminated: 3. The records that stay keep their order.
-pub fn sweep(bytes: &mut [u8], used: usize) -> Written
+pub fn sweep(bytes: &mut [u8], used: usize) -> Result<usize, Refusal>
     ensures value { result ≡ written_in (run rust_limits (sweeping (length bytes.old)) bytes.old used) }
     ensures bytes_after { bytes.new ≡ (run rust_limits (sweeping (length bytes.old)) bytes.old used).bytes }
 {
-    let Held::Records(_) = store::count(bytes, used) else {
-        return Written::Refused(Refusal::BadStore);
+    let Ok(_) = store::count(bytes, used) else {
+        return Err(Refusal::BadStore);
     };
-    Written::Length(close_up(bytes, used))
+    Ok(close_up(bytes, used))
 }
 
 // Each record that stays moved down to the end of those before it. The new used length.

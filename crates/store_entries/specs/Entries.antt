@@ -1,17 +1,13 @@
 -- Steps of the code: the calls that change one held record (document 01, "A request arrives", "Entry"). What they leave and answer is `run`
 -- (book/specs/Store.antt) of the call as data; here the call of each is set out, and what the functions below it promise.
-use Rattle.std.specs.Prelude.{ℕ, ◌≤◌, ◌≡◌, List, length, take, ltb}
-use Rattle.std.proofs.Math.Option.{Option, none, some}
+use Rattle.limits.specs.declared.Refusal.{Refusal}
+use Rattle.std.specs.Prelude.{ℕ, ◌≤◌, ◌≡◌, List, length, take, ltb, Err, None, Ok, Option, Result, Some}
 use Rattle.limits.specs.Limits.{LimitSet}
-use Rattle.limits.specs.Outcome.{Outcome, refused, given, refuse_if, and_then, or_refuse}
+use Rattle.limits.specs.Outcome.{refuse_if, and_then, or_refuse}
 use Rattle.limits.specs.declared.Refusal.TheVariants.{BadStore, NotFound}
-use Rattle.output.specs.declared.Written.TheVariants as written
-use Rattle.output.specs.declared.Written.{Written}
+use Rattle.image.specs.declared.RecordAt.{RecordAt}
 use Rattle.image.specs.Places.{record_places, record_from}
-use Rattle.image.specs.declared.RecordReading.TheVariants.{Whole}
 use Rattle.image_edit.specs.Changes.{read_at}
-use Rattle.dialog_changes.specs.declared.Raised.{Raised}
-use Rattle.dialog_changes.specs.declared.Raised.TheVariants as raised
 use Rattle.dialog_id.specs.Ident.{Ident, ident}
 use Rattle.book.specs.Calls.{Update, request, response, terminate, local_number, interval, update, Answer}
 use Rattle.record.specs.Store.{decode_all}
@@ -19,8 +15,6 @@ use Rattle.book.specs.Book.{is_of, first_place}
 use Rattle.book.specs.Store.{Left, run}
 use Rattle.book.specs.Returned.{number_after}
 use Rattle.dialog_manager.specs.Search.{Spot, first}
-use Rattle.store_entries.specs.declared.Standing.{Standing}
-use Rattle.store_entries.specs.declared.Standing.TheVariants as standing
 
 -- what an update of a lent store leaves
 abbrev pub updating : LimitSet → Update → List ℕ → ℕ → Left
@@ -42,45 +36,45 @@ abbrev pub requesting : LimitSet → List ℕ → List ℕ → List ℕ → ℕ 
 requesting L method block bytes used = updating L (request method block) bytes used
 
 -- the next local number and the used length, or the cause
-abbrev pub raised_by : ℕ → Answer → Raised
-raised_by n (refused cause) = raised.Refused cause
-raised_by n (given v) = raised.To (number_after (given v) 0) n
+abbrev pub raised_by : ℕ → Answer → Result (ℕ × ℕ) Refusal
+raised_by n (Err cause) = Err cause
+raised_by n (Ok v) = Ok (number_after (Ok v) 0, n)
 
-abbrev pub raised_in : Left → Raised
+abbrev pub raised_in : Left → Result (ℕ × ℕ) Refusal
 raised_in l = raised_by l.used l.answer
 
 -- the used length after the call
-abbrev pub used_after : Written → ℕ → ℕ
-used_after (written.Refused cause) used = used
-used_after (written.Length n) used = n
+abbrev pub used_after : Result ℕ Refusal → ℕ → ℕ
+used_after (Err cause) used = used
+used_after (Ok n) used = n
 
-abbrev pub used_raised : Raised → ℕ → ℕ
-used_raised (raised.Refused cause) used = used
-used_raised (raised.To number n) used = n
+abbrev pub used_raised : Result (ℕ × ℕ) Refusal → ℕ → ℕ
+used_raised (Err cause) used = used
+used_raised (Ok (number, n)) used = n
 
 -- ---- steps of the code
 
 -- where the record of an identifier stands in a lent store: 3, 15
-unfoldable pub spot_in : Ident → List ℕ → ℕ → Outcome Spot
+unfoldable pub spot_in : Ident → List ℕ → ℕ → Result Spot Refusal
 spot_in i bytes used =
     refuse_if (ltb (length bytes) used) BadStore
     (and_then (or_refuse BadStore (decode_all (take used bytes))) (λ b. or_refuse NotFound (first (is_of i) first_place b)))
 
 -- the same for the identifier that a block names, if it names one
-abbrev pub spot_named : Option Ident → List ℕ → ℕ → Outcome Spot
-spot_named none bytes used = refuse_if (ltb (length bytes) used) BadStore (and_then (or_refuse BadStore (decode_all (take used bytes))) (λ b. refused NotFound))
-spot_named (some i) bytes used = spot_in i bytes used
+abbrev pub spot_named : Option Ident → List ℕ → ℕ → Result Spot Refusal
+spot_named None bytes used = refuse_if (ltb (length bytes) used) BadStore (and_then (or_refuse BadStore (decode_all (take used bytes))) (λ b. Err NotFound))
+spot_named (Some i) bytes used = spot_in i bytes used
 
-abbrev pub standing_of : Outcome Spot → Standing
-standing_of (refused cause) = standing.Refused cause
-standing_of (given x) = standing.At x.place (record_places x.place x.value)
+abbrev pub standing_of : Result Spot Refusal → Result (ℕ × RecordAt) Refusal
+standing_of (Err cause) = Err cause
+standing_of (Ok x) = Ok (x.place, record_places x.place x.value)
 
 -- the record that was found is what is read at its place
-abbrev pub Ready : List ℕ → ℕ → Standing → Type 0
-Ready bytes used (standing.At at r) = ((used ≤ length bytes) × (at ≤ used)) × (record_from at (read_at at (take used bytes)) ≡ Whole r)
-Ready bytes used (standing.Refused cause) = Unit {0}
+abbrev pub Ready : List ℕ → ℕ → Result (ℕ × RecordAt) Refusal → Type 0
+Ready bytes used (Ok (at, r)) = ((used ≤ length bytes) × (at ≤ used)) × (record_from at (read_at at (take used bytes)) ≡ Some r)
+Ready bytes used (Err cause) = Unit {0}
 
 -- the number of the changed record beside the used length that was answered
-abbrev pub raised_with : ℕ → Written → Raised
-raised_with number (written.Refused cause) = raised.Refused cause
-raised_with number (written.Length n) = raised.To number n
+abbrev pub raised_with : ℕ → Result ℕ Refusal → Result (ℕ × ℕ) Refusal
+raised_with number (Err cause) = Err cause
+raised_with number (Ok n) = Ok (number, n)

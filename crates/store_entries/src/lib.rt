@@ -6,17 +6,9 @@ ghost use Rattle.std.specs.Prelude.{◌≡◌};
 ghost use Rattle.dialog_id.specs.Ident.{ident};
 ghost use Rattle.store_entries.specs.Entries.{spot_in, standing_of, Ready};
 
-use dialog_manager::{Found, search_id};
+use dialog_manager::search_id;
 use image::RecordAt;
 use limits::Refusal;
-use store::Held;
-
-// Where its image begins, and its parts.
-#[derive(Clone, Copy)]
-pub enum Standing {
-    At(usize, RecordAt),
-    Refused(Refusal),
-}
 
 // 3, 15.
 pub fn locate(
@@ -25,15 +17,15 @@ pub fn locate(
     call_id: &[u8],
     local_tag: &[u8],
     remote_tag: &[u8],
-) -> Standing
+) -> Result<(usize, RecordAt), Refusal>
     ensures value { result ≡ standing_of (spot_in (ident call_id.now local_tag.now remote_tag.now) bytes.now used) }
     ensures ready { Ready bytes.now used result }
 {
-    let Held::Records(_) = store::count(bytes, used) else {
-        return Standing::Refused(Refusal::BadStore);
+    let Ok(_) = store::count(bytes, used) else {
+        return Err(Refusal::BadStore);
     };
-    let Found::At(at, r) = search_id(&bytes[..used], call_id, local_tag, remote_tag) else {
-        return Standing::Refused(Refusal::NotFound);
+    let Some((at, r)) = search_id(&bytes[..used], call_id, local_tag, remote_tag) else {
+        return Err(Refusal::NotFound);
     };
-    Standing::At(at, r)
+    Ok((at, r))
 }

@@ -3,12 +3,12 @@ use Prim.Native.Nat.{ℕ, ◌+◌, ◌≤◌, ◌<◌}
 use native.Mathlib.Omega.{arith}
 use mathlib.Core.Path.{◌≡◌, refl, sym, ap, subst, ◌∙◌}
 use mathlib.Core.List.{List, [], ◌∷◌, ◌++◌, append_assoc, append-nil}
-use mathlib.Core.Option.{none, some, some-injective}
 use lib.ListN.{length, take, drop, length-append, length-drop}
 use lib.Seq.{length-take-le}
 use borrow.Author.Tests.{lt-ltb, le-ltb}
+use Rattle.std.proofs.lemmas.Option.{same_Some}
+use Rattle.std.specs.Prelude.{Err, None, Ok, Some}
 use Rattle.limits.specs.Limits.{LimitSet}
-use Rattle.limits.specs.Outcome.{refused, given}
 use Rattle.limits.specs.declared.Refusal.{Refusal}
 use Rattle.limits.specs.declared.Refusal.TheVariants.{BadStore, NoRoom}
 use Rattle.text.specs.declared.Span.{Span}
@@ -26,7 +26,6 @@ use Rattle.image_writer.proofs.LieLaws.{Lie, record_lies}
 use Rattle.record_walk.specs.Walk.{At, end_at}
 use Rattle.store.specs.Counting.{records_held, count_answer}
 use Rattle.store.specs.Identifiers.{IdsRead}
-use Rattle.store.specs.declared.Held.TheVariants as held
 use Rattle.text.specs.Spans.{part_in}
 use Rattle.book.specs.Calls.{all_ids, read, written}
 use Rattle.record.specs.Store.{decode_all}
@@ -94,7 +93,7 @@ record First (s : List ℕ) (at : ℕ) (g : Passed s at) : Type 0 where
   more : Book
   splits : g.rest ≡ value ∷ more
   formed : EachFormed (value ∷ more)
-  reads : image.read (drop at s) ≡ some (record { value = value; rest = records_image more })
+  reads : image.read (drop at s) ≡ Some (record { value = value; rest = records_image more })
 
 module _ (s : List ℕ) (at : ℕ) (g : Passed s at) where
   -- no more bytes than all
@@ -142,7 +141,7 @@ module _ (s : List ℕ) (at : ℕ) (g : Passed s at) where
         let p = record_places at f.value in
         let t : Turn s at p = standing s at hb g.here stands in
         let q : end_at s at ≡ p.end = its_end s at hb g.here stands in
-        let u : ◌≡◌ {A = Reading Record} (record { value = t.step.value; rest = drop p.end s }) (record { value = f.value; rest = records_image f.more }) = some-injective _ _ (sym t.step.reads ∙ f.reads) in
+        let u : ◌≡◌ {A = Reading Record} (record { value = t.step.value; rest = drop p.end s }) (record { value = f.value; rest = records_image f.more }) = same_Some _ _ (sym t.step.reads ∙ f.reads) in
         let placed : i ≡ p.ids = e stands.reading f.reads in
         let within : IdsWithin s i = subst (IdsWithin s) (sym placed) (ids_within s at p t) in
         let k : Lie s (at + 2) (ids_of f.value) = record_lies s at stands.reading (bytes_drop at s hb) f.reads in
@@ -230,26 +229,26 @@ module _ (s out₀ : List ℕ) (at to : ℕ) (out : List ℕ) (f : Filled s out�
 -- ---- the whole answer
 
 -- the arguments alone refuse nothing
-no_cause : (L : LimitSet) (room : ℕ) → reading_cause L (all_ids room) ≡ none
+no_cause : (L : LimitSet) (room : ℕ) → reading_cause L (all_ids room) ≡ None
 unfolding reading_cause
 no_cause L room = refl
 
 module _ (L : LimitSet) (n room : ℕ) (bytes : List ℕ) (used : ℕ) (hb : Bytes bytes) where
   -- 3
-  pub unread : {cause : Refusal} → count_answer (records_held bytes used) ≡ held.Refused cause → refused BadStore ≡ (run L (read n (all_ids room)) bytes used).answer
+  pub unread : {cause : Refusal} → count_answer (records_held bytes used) ≡ Err cause → Err BadStore ≡ (run L (read n (all_ids room)) bytes used).answer
   unread e = store_refuses L n (all_ids room) bytes used hb (no_cause L room) e
 
   module _ (k : Kept bytes used) where
     -- 18
-    pub too_long : room < length (ids_in (decode_all (take used bytes))) → refused NoRoom ≡ (run L (read n (all_ids room)) bytes used).answer
+    pub too_long : room < length (ids_in (decode_all (take used bytes))) → Err NoRoom ≡ (run L (read n (all_ids room)) bytes used).answer
     unfolding reply
     too_long h =
         let l : room < length (identifiers_of k.contents.records) = rw k.are at h in
-        replies L n (all_ids room) bytes used hb (no_cause L room) k (refused NoRoom) (rw (lt-ltb room (length (identifiers_of k.contents.records)) l))
+        replies L n (all_ids room) bytes used hb (no_cause L room) k (Err NoRoom) (rw (lt-ltb room (length (identifiers_of k.contents.records)) l))
 
     -- all are written
-    pub fitting : length (ids_in (decode_all (take used bytes))) ≤ room → given (written (ids_in (decode_all (take used bytes)))) ≡ (run L (read n (all_ids room)) bytes used).answer
+    pub fitting : length (ids_in (decode_all (take used bytes))) ≤ room → Ok (written (ids_in (decode_all (take used bytes)))) ≡ (run L (read n (all_ids room)) bytes used).answer
     unfolding reply
     fitting h =
         let l : length (identifiers_of k.contents.records) ≤ room = rw k.are at h in
-        replies L n (all_ids room) bytes used hb (no_cause L room) k (given (written (ids_in (decode_all (take used bytes))))) (rw (k.are, le-ltb room (length (identifiers_of k.contents.records)) l))
+        replies L n (all_ids room) bytes used hb (no_cause L room) k (Ok (written (ids_in (decode_all (take used bytes))))) (rw (k.are, le-ltb room (length (identifiers_of k.contents.records)) l))

@@ -1,8 +1,7 @@
 -- Steps of the code: the parts of what `all_ids` writes. What it answers is `ids_written` (dialog_manager/specs/Answers.antt) of `run`. Document 01, "Turned back": 3, and
 -- 18 where the result is larger than its lent bytes; "The book of demand 3": a reading changes nothing. What is written is `reply` of `all_ids`
 -- (book/specs/Book.antt): three texts with two length bytes each, in store order, an empty one as 0 0.
-use Rattle.std.specs.Prelude.{ℕ, ◌+◌, ◌<◌, List, [], ◌++◌}
-use Rattle.std.proofs.Math.Option.{Option, none, some}
+use Rattle.std.specs.Prelude.{ℕ, ◌+◌, ◌<◌, List, [], ◌++◌, None, Option, Some}
 use Rattle.codec.specs.Codec.{text}
 use Rattle.image.specs.declared.sections.IdsAt.{IdsAt}
 use Rattle.text.specs.Spans.{part_in}
@@ -12,8 +11,8 @@ use Rattle.book.specs.Book.{Book, identifiers_of}
 
 -- the identifiers of the records that were read
 abbrev pub ids_in : Option Book → List ℕ
-ids_in none = []
-ids_in (some b) = identifiers_of b
+ids_in None = []
+ids_in (Some b) = identifiers_of b
 
 -- two bytes hold the length of each text
 abbrev pub IdsShort : IdsAt → Type 0

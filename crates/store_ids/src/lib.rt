@@ -15,25 +15,24 @@ ghost use Rattle.store_ids.specs.Identifiers.{ids_in, IdsShort, length_at, texts
 
 use image::IdsAt;
 use limits::Refusal;
-use output::Written;
 use record_walk::record_end;
-use store::{Held, ids_at};
+use store::ids_at;
 use text::Span;
 
 // DialogManager::all_ids: 3, 18. Answers how many bytes of the output were written.
-pub fn all_ids(bytes: &[u8], used: usize, out: &mut [u8]) -> Written
+pub fn all_ids(bytes: &[u8], used: usize, out: &mut [u8]) -> Result<usize, Refusal>
     ensures value { result ≡ ids_written (run rust_limits (read (length bytes.now) (all_ids (length out.old))) bytes.now used).answer }
     ensures out_after { out.new ≡ output_after (run rust_limits (read (length bytes.now) (all_ids (length out.old))) bytes.now used).answer out.old }
 {
-    let Held::Records(_) = store::count(bytes, used) else {
-        return Written::Refused(Refusal::BadStore);
+    let Ok(_) = store::count(bytes, used) else {
+        return Err(Refusal::BadStore);
     };
     let n = ids_size(&bytes[..used]);
     if out.len() < n {
-        return Written::Refused(Refusal::NoRoom);
+        return Err(Refusal::NoRoom);
     }
     write_all(&bytes[..used], out);
-    Written::Length(n)
+    Ok(n)
 }
 
 // How many bytes the identifiers of all records take. The bytes are those of a store that was read.

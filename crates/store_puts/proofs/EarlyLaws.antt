@@ -4,10 +4,10 @@ use native.Mathlib.Omega.{arith}
 use mathlib.Core.Path.{◌≡◌, refl, sym, ap, subst, ◌∙◌}
 use mathlib.Core.Bool.{Bool, true, false, cond, not, ◌&&◌}
 use mathlib.Core.List.{List, ◌∷◌}
-use mathlib.Core.Option.{some}
 use lib.ListN.{length, drop}
 use lib.Seq.{take-length}
 use lib.Dec.{eqb}
+use Rattle.std.specs.Prelude.{Some}
 use Rattle.text.specs.Text.{equal}
 use Rattle.text.specs.Spans.{part_in}
 use Rattle.record.specs.Record.{State, early, confirmed, terminated, Record, bit_of, state_number, state_of, StateByte, state_byte_number, state_byte_of}
@@ -89,7 +89,7 @@ at_most_one i x = by (is_early x.numbers.state && (equal x.call_id i.call_id && 
     by false = omega arith
 
 -- the count of the records is that of the first and that of the others
-one_more : (i : Ident) (x : Record) (b : Book) → early_others i (some (x ∷ b)) ≡ counts i x + early_others i (some b)
+one_more : (i : Ident) (x : Record) (b : Book) → early_others i (Some (x ∷ b)) ≡ counts i x + early_others i (Some b)
 unfolding is_early_of
 one_more i x b = by (is_of i x)
   where
@@ -124,7 +124,7 @@ one_more i x b = by (is_of i x)
 pub record Counting (i : Ident) (s : List ℕ) (at n : ℕ) : Type 0 where
   pub rest : Book
   pub ahead : Ahead s (length s) at rest
-  pub all : early_others i (decode_all s) ≡ n + early_others i (some rest)
+  pub all : early_others i (decode_all s) ≡ n + early_others i (Some rest)
   pub few : n ≤ at
 
 pub start : (i : Ident) (s : List ℕ) → Bytes s → Stored s → Counting i s 0 0
@@ -146,7 +146,7 @@ module _ (c l r : List ℕ) (s : List ℕ) (at n : ℕ) (g : Counting (ident c l
   -- all records are read
   pub done : length s ≤ at → n ≡ early_others (ident c l r) (decode_all s)
   done h =
-      let z : early_others (ident c l r) (some g.rest) ≡ 0 = ap (λ (b : Book). early_others (ident c l r) (some b)) (none_ahead s (length s) at g.rest g.ahead h) in
+      let z : early_others (ident c l r) (Some g.rest) ≡ 0 = ap (λ (b : Book). early_others (ident c l r) (Some b)) (none_ahead s (length s) at g.rest g.ahead h) in
       omega (arith, z, g.all)
 
   module _ (h : at < length s) where
@@ -181,7 +181,7 @@ module _ (c l r : List ℕ) (s : List ℕ) (at n : ℕ) (g : Counting (ident c l
         again = λ m q. subst (λ (e : ℕ). Counting (ident c l r) s e (n + m)) (sym end_is) (record {
           rest = f.more;
           ahead = f.next;
-          all = omega (arith, g.all, ap (λ (b : Book). early_others (ident c l r) (some b)) f.split, one_more (ident c l r) f.value f.more, q, weighed);
+          all = omega (arith, g.all, ap (λ (b : Book). early_others (ident c l r) (Some b)) f.split, one_more (ident c l r) f.value f.more, q, weighed);
           few = omega (arith, g.few, q, weighed, at_most_one (ident c l r) f.value, f.moves);
         });
       }

@@ -5,17 +5,15 @@ use native.Mathlib.Omega.{arith}
 use mathlib.Core.Path.{◌≡◌, refl, sym, ap, ap₂, subst, ◌∙◌}
 use mathlib.Core.Bool.{Bool, true, false}
 use mathlib.Core.List.{List, ◌++◌, append_assoc, append-nil}
-use mathlib.Core.Option.{Option, none, some}
 use lib.ListN.{length, take, drop, get_or, length-append, length-drop}
 use lib.Seq.{length-take-le, take_all, drop-drop, drop-length}
 use lib.Dec.{ltb}
 use borrow.Author.Tests.{ltb-true, ltb-false, lt-ltb, le-ltb, le-leb, lt-leb}
 use borrow.Rule.Slice.PartMut.{put_mid, put_same, Post-is}
+use Rattle.std.specs.Prelude.{Err, None, Ok, Option, Result, Some}
 use Rattle.limits.specs.Limits.{LimitSet}
-use Rattle.limits.specs.Outcome.{Outcome, refused, given, cause_if, refuse_by, or_refuse}
+use Rattle.limits.specs.Outcome.{cause_if, refuse_by, or_refuse}
 use Rattle.output.specs.Output.{fitted, leaves, written_from}
-use Rattle.output.specs.declared.Written.{Written}
-use Rattle.output.specs.declared.Written.TheVariants as written
 use Rattle.limits.specs.declared.Refusal.{Refusal}
 use Rattle.limits.specs.declared.Refusal.TheVariants.{BadStore, NotFound, TooManyDialogs, TooManyEarlyDialogs, NoRoom}
 use Rattle.text.specs.declared.Span.{Span}
@@ -32,12 +30,10 @@ use Rattle.image_writer.proofs.LieLaws.{Lie, record_lies}
 use Rattle.text.specs.Spans.{part_in}
 use Rattle.dialog_rules.specs.OneImage.{only_one, one_record}
 use Rattle.dialog.specs.Readings.{image_answer}
-use Rattle.dialog.specs.declared.readings.ImageAnswer.TheVariants as answer
 use Rattle.dialog.proofs.ImageRouteLaws.{image_read}
 use Rattle.dialog.proofs.MatchLaws as one
 use Rattle.dialog.proofs.MatchLaws.{ids_within}
 use Rattle.store.specs.Counting.{records_held, count_answer}
-use Rattle.store.specs.declared.Held.TheVariants as held
 use Rattle.dialog_id.specs.Ident.{Ident, ident}
 use Rattle.book.specs.Calls.{Value, no_value, image_at}
 use Rattle.record.specs.Store.{decode_all}
@@ -48,7 +44,6 @@ use Rattle.book.proofs.JudgeLaws.{put_unread, put_clear, put_full, put_crowded, 
 use Rattle.book.proofs.WayLaws.{kept_with, way_arguments, way_judged, way_full, way_taken}
 use Rattle.dialog_manager.specs.Lookups.{place_in}
 use Rattle.dialog_manager.specs.Search.{named, found_in, IdsWithin, Stands}
-use Rattle.dialog_manager.specs.declared.finding.Found.TheVariants as found
 use Rattle.dialog_manager.proofs.LookupLaws.{Kept, stored, none_found, one_found}
 use Rattle.dialog_manager.proofs.SearchLaws.{turn}
 use Rattle.dialog_manager.specs.Answers.{written_in}
@@ -58,10 +53,10 @@ use Rattle.store_edits.proofs.RemoveLaws.{images, unheld, standing, absent, spli
 -- ---- 18
 
 -- refused where the text is larger than the room, and otherwise given
-pub larger : (room : ℕ) (t : List ℕ) → room < length t → fitted room t ≡ refused NoRoom
+pub larger : (room : ℕ) (t : List ℕ) → room < length t → fitted room t ≡ Err NoRoom
 larger room t h = rw (lt-ltb room (length t) h)
 
-pub fits : (room : ℕ) (t : List ℕ) → length t ≤ room → fitted room t ≡ given t
+pub fits : (room : ℕ) (t : List ℕ) → length t ≤ room → fitted room t ≡ Ok t
 fits room t h = rw (le-ltb room (length t) h)
 
 -- ---- the bytes after a piece is put
@@ -74,18 +69,18 @@ module _ (s new : List ℕ) (used at n : ℕ) (h : at + n ≤ used) (w : used �
   pub made_length : length made ≡ used - n + length new
   made_length = omega (arith, spliced_length at n new (take used s) (omega (arith, h, length-take-le used s w)), length-take-le used s w)
 
-  pub no_room : length s - (used - n) < length new → fitted (length s) made ≡ refused NoRoom
+  pub no_room : length s - (used - n) < length new → fitted (length s) made ≡ Err NoRoom
   no_room l = larger (length s) made (omega (arith, l, made_length, h, w))
 
-  pub has_room : length new ≤ length s - (used - n) → fitted (length s) made ≡ given made
+  pub has_room : length new ≤ length s - (used - n) → fitted (length s) made ≡ Ok made
   has_room l = fits (length s) made (omega (arith, l, made_length, h, w))
 
 -- ---- the free end of the store, lent and back
 
 -- the used length after the bytes that were written behind it
-abbrev pub behind : ℕ → Written → Written
-behind used (written.Length n) = written.Length (used + n)
-behind used (written.Refused cause) = written.Refused cause
+abbrev pub behind : ℕ → Result ℕ Refusal → Result ℕ Refusal
+behind used (Ok n) = Ok (used + n)
+behind used (Err cause) = Err cause
 
 module _ (s img : List ℕ) (used : ℕ) (w : used ≤ length s) where
   -- the part that is lent
@@ -114,58 +109,58 @@ module _ (s img : List ℕ) (used : ℕ) (w : used ≤ length s) where
   over_end = rw (free_is, Post-is used (length s) s w, drop-length, append-nil, drop-drop (length img) used s, long, append_assoc)
 
   -- the answer of the writer, and the bytes that it leaves, are those of the store with the image after the used bytes
-  pub end_answer : {answer : Written} → answer ≡ written_from (fitted (length free) img) → behind used answer ≡ written_from (fitted (length s) (take used s ++ img))
+  pub end_answer : {answer : Result ℕ Refusal} → answer ≡ written_from (fitted (length free) img) → behind used answer ≡ written_from (fitted (length s) (take used s ++ img))
   end_answer e =
-      ap (behind used) e ∙ (ap (λ (t : Bool). behind used (written_from (refuse_by (cause_if t NoRoom) (given img)))) same_room ∙ by (ltb (length s) (length (take used s ++ img))))
+      ap (behind used) e ∙ (ap (λ (t : Bool). behind used (written_from (refuse_by (cause_if t NoRoom) (Ok img)))) same_room ∙ by (ltb (length s) (length (take used s ++ img))))
     where
-      by : (t : Bool) → behind used (written_from (refuse_by (cause_if t NoRoom) (given img))) ≡ written_from (refuse_by (cause_if t NoRoom) (given (take used s ++ img)))
+      by : (t : Bool) → behind used (written_from (refuse_by (cause_if t NoRoom) (Ok img))) ≡ written_from (refuse_by (cause_if t NoRoom) (Ok (take used s ++ img)))
       by true = refl
-      by false = ap written.Length (sym long)
+      by false = ap Ok (sym long)
 
   pub end_bytes : {last : List ℕ} → last ≡ leaves (fitted (length free) img) free → put_mid used (length s - used) s last ≡ leaves (fitted (length s) (take used s ++ img)) s
   end_bytes e =
       ap (put_mid used (length s - used) s) e
-      ∙ (ap (λ (t : Bool). put_mid used (length s - used) s (leaves (refuse_by (cause_if t NoRoom) (given img)) free)) same_room ∙ by (ltb (length s) (length (take used s ++ img))))
+      ∙ (ap (λ (t : Bool). put_mid used (length s - used) s (leaves (refuse_by (cause_if t NoRoom) (Ok img)) free)) same_room ∙ by (ltb (length s) (length (take used s ++ img))))
     where
-      by : (t : Bool) → put_mid used (length s - used) s (leaves (refuse_by (cause_if t NoRoom) (given img)) free) ≡ leaves (refuse_by (cause_if t NoRoom) (given (take used s ++ img))) s
+      by : (t : Bool) → put_mid used (length s - used) s (leaves (refuse_by (cause_if t NoRoom) (Ok img)) free) ≡ leaves (refuse_by (cause_if t NoRoom) (Ok (take used s ++ img))) s
       by true = put_same used (length s - used) s
       by false = over_end
 
   -- a length that the writer answers is no larger than the part
-  pub end_fits : (n : ℕ) → written.Length n ≡ written_from (fitted (length free) img) → used + n ≤ length s
+  pub end_fits : (n : ℕ) → Ok n ≡ written_from (fitted (length free) img) → used + n ≤ length s
   end_fits n e = by (ltb (length free) (length img)) refl e
     where
-      by : (t : Bool) → ltb (length free) (length img) ≡ t → written.Length n ≡ written_from (refuse_by (cause_if t NoRoom) (given img)) → used + n ≤ length s
+      by : (t : Bool) → ltb (length free) (length img) ≡ t → Ok n ≡ written_from (refuse_by (cause_if t NoRoom) (Ok img)) → used + n ≤ length s
       by true q h = absurd (let z : ◌≡◌ {A = ℕ} 0 1 = cc in omega arith)
       by false q h = let z : n ≡ length img = cc in omega (arith, z, ltb-false (length free) (length img) q, room, w)
 
 -- ---- the whole call
 
 -- every refusal of an image is 3
-bad_image : (img : List ℕ) {cause : Refusal} → answer.Refused cause ≡ image_answer (one_record img) → one_record img ≡ refused BadStore
+bad_image : (img : List ℕ) {cause : Refusal} → Err cause ≡ image_answer (one_record img) → one_record img ≡ Err BadStore
 unfolding one_record
 bad_image img {cause} e = by (only_one (image.read img)) e
   where
-    by : (o : Option Record) → answer.Refused cause ≡ image_answer (or_refuse BadStore o) → or_refuse BadStore o ≡ refused BadStore
-    by none h = refl
-    by (some r) h = absurd (let z : ◌≡◌ {A = ℕ} 0 1 = cc in omega arith)
+    by : (o : Option Record) → Err cause ≡ image_answer (or_refuse BadStore o) → or_refuse BadStore o ≡ Err BadStore
+    by None h = refl
+    by (Some r) h = absurd (let z : ◌≡◌ {A = ℕ} 0 1 = cc in omega arith)
 
 -- 3, of the image
-pub not_one : (L : LimitSet) (n : ℕ) (img s : List ℕ) (used : ℕ) {cause : Refusal} → answer.Refused cause ≡ image_answer (one_record img)
+pub not_one : (L : LimitSet) (n : ℕ) (img s : List ℕ) (used : ℕ) {cause : Refusal} → Err cause ≡ image_answer (one_record img)
     → run L (putting n img) s used ≡ kept_with L (putting n img) s used BadStore
 not_one L n img s used e = way_arguments L (putting n img) s used BadStore (put_unread L n img (bad_image img e))
 
 -- 3, of the store
-pub store_unread : (L : LimitSet) (n : ℕ) (img s : List ℕ) (used : ℕ) {cause : Refusal} → count_answer (records_held s used) ≡ held.Refused cause
+pub store_unread : (L : LimitSet) (n : ℕ) (img s : List ℕ) (used : ℕ) {cause : Refusal} → count_answer (records_held s used) ≡ Err cause
     → run L (putting n img) s used ≡ kept_with L (putting n img) s used BadStore
 store_unread L n img s used {cause} e = by (one_record img) refl
   where
-    by : (v : Outcome Record) → one_record img ≡ v → run L (putting n img) s used ≡ kept_with L (putting n img) s used BadStore
-    by (refused x) q = not_one L n img s used (sym (ap image_answer q))
-    by (given r) q = unheld L (putting n img) s used (put_clear L n img r q) e
+    by : (v : Result Record Refusal) → one_record img ≡ v → run L (putting n img) s used ≡ kept_with L (putting n img) s used BadStore
+    by (Err x) q = not_one L n img s used (sym (ap image_answer q))
+    by (Ok r) q = unheld L (putting n img) s used (put_clear L n img r q) e
 
 module _ (L : LimitSet) (n : ℕ) (img s : List ℕ) (used : ℕ) (k : Kept s used) where
-  module _ (r : Record) (one : one_record img ≡ given r) where
+  module _ (r : Record) (one : one_record img ≡ Ok r) where
     -- 16
     pub too_many : is_full L k.contents.records ≡ true → run L (putting n img) s used ≡ kept_with L (putting n img) s used TooManyDialogs
     too_many e = way_judged L (putting n img) s used (put_clear L n img r one) k.within k.contents k.read TooManyDialogs (put_full L n img r one k.contents.records e)
@@ -179,16 +174,16 @@ pub record Sets (now : Left) (s t : List ℕ) : Type 0 where
   pub answer : written_from (fitted (length s) t) ≡ written_in now
   pub bytes : leaves (fitted (length s) t) s ≡ now.bytes
 
-module _ (L : LimitSet) (n : ℕ) (img s : List ℕ) (used : ℕ) (hb : Bytes s) (k : Kept s used) (r : Record) (one : one_record img ≡ given r) (is : image.write r ≡ img)
+module _ (L : LimitSet) (n : ℕ) (img s : List ℕ) (used : ℕ) (hb : Bytes s) (k : Kept s used) (r : Record) (one : one_record img ≡ Ok r) (is : image.write r ≡ img)
     (free : is_full L k.contents.records ≡ false) (few : is_crowded L r k.contents.records ≡ false) where
   -- the call is accepted, but for 18
   abbrev taken : Taken
   taken = record { change = set r; value = no_value }
 
-  clear : argument_cause L (putting n img) ≡ none
+  clear : argument_cause L (putting n img) ≡ None
   clear = put_clear L n img r one
 
-  judged : judge L (putting n img) k.contents.records ≡ given taken
+  judged : judge L (putting n img) k.contents.records ≡ Ok taken
   judged = put_set L n img r one k.contents.records free few
 
   -- 18, or the images of the records with this one in its place
@@ -204,7 +199,7 @@ module _ (L : LimitSet) (n : ℕ) (img s : List ℕ) (used : ℕ) (hb : Bytes s)
           record { answer = rw e (sym (ap written_in q)); bytes = rw e (sym (ap (λ (l : Left). l.bytes) q)) }
 
   -- over the old image
-  pub replaced : (at old : ℕ) → place_of (is_of (ident_of r)) first_place k.contents.records ≡ some (image_at at old) → Sets (run L (putting n img) s used) s (spliced at old img (take used s))
+  pub replaced : (at old : ℕ) → place_of (is_of (ident_of r)) first_place k.contents.records ≡ Some (image_at at old) → Sets (run L (putting n img) s used) s (spliced at old img (take used s))
   replaced at old e =
       let b : Book = k.contents.records in
       let d = standing (ident_of r) first_place b at old e in
@@ -217,7 +212,7 @@ module _ (L : LimitSet) (n : ℕ) (img s : List ℕ) (used : ℕ) (hb : Bytes s)
       subst (Sets (run L (putting n img) s used) s) (x ∙ y) sets
 
   -- after all others
-  pub added : place_of (is_of (ident_of r)) first_place k.contents.records ≡ none → Sets (run L (putting n img) s used) s (take used s ++ img)
+  pub added : place_of (is_of (ident_of r)) first_place k.contents.records ≡ None → Sets (run L (putting n img) s used) s (take used s ++ img)
   added e =
       let b : Book = k.contents.records in
       let g = images s used hb k in
@@ -227,16 +222,16 @@ module _ (L : LimitSet) (n : ℕ) (img s : List ℕ) (used : ℕ) (hb : Bytes s)
 -- ---- what `put` has read
 
 -- how many records were counted
-counted_is : (s : List ℕ) (used n : ℕ) (k : Kept s used) → count_answer (records_held s used) ≡ held.Records n → n ≡ length k.contents.records
-counted_is s used n k e = let z : held.Records n ≡ held.Records (length k.contents.records) = sym e ∙ ap count_answer k.held in cc
+counted_is : (s : List ℕ) (used n : ℕ) (k : Kept s used) → count_answer (records_held s used) ≡ Ok n → n ≡ length k.contents.records
+counted_is s used n k e = let z : Ok n ≡ Ok (length k.contents.records) = sym e ∙ ap count_answer k.held in cc
 
 -- 16, of that number
-pub full : (L : LimitSet) (s : List ℕ) (used n : ℕ) (k : Kept s used) → count_answer (records_held s used) ≡ held.Records n → L.dialogs ≤ n → is_full L k.contents.records ≡ true
+pub full : (L : LimitSet) (s : List ℕ) (used n : ℕ) (k : Kept s used) → count_answer (records_held s used) ≡ Ok n → L.dialogs ≤ n → is_full L k.contents.records ≡ true
 unfolding is_full
 full L s used n k e h = le-leb L.dialogs (length k.contents.records) (omega (arith, h, counted_is s used n k e))
 
 -- the store has room for one record more
-pub open_to : (L : LimitSet) (s : List ℕ) (used n : ℕ) → Kept s used → count_answer (records_held s used) ≡ held.Records n → n < L.dialogs → Open L s used
+pub open_to : (L : LimitSet) (s : List ℕ) (used n : ℕ) → Kept s used → count_answer (records_held s used) ≡ Ok n → n < L.dialogs → Open L s used
 unfolding is_full
 open_to L s used n k e h = record { records = k.contents.records; within = k.within; are = k.are; free = lt-leb L.dialogs (length k.contents.records) (omega (arith, h, counted_is s used n k e)) }
 
@@ -248,7 +243,7 @@ lent s v = take (v.start + v.length - v.start) (drop v.start s)
 lent_is : (s : List ℕ) (v : Span) → lent s v ≡ part_in s v
 lent_is s v = ap (λ (n : ℕ). take n (drop v.start s)) (add-sub_cancel_left v.start v.length)
 
-module _ (img : List ℕ) (p : RecordAt) (e : answer.Of p ≡ image_answer (one_record img)) where
+module _ (img : List ℕ) (p : RecordAt) (e : Ok p ≡ image_answer (one_record img)) where
   -- the texts of its identifier lie within the image
   pub texts_within : IdsWithin img p.ids
   texts_within = ids_within img p (one.held img p e)
@@ -258,7 +253,7 @@ module _ (img : List ℕ) (p : RecordAt) (e : answer.Of p ≡ image_answer (one_
   image_named b =
       let h = one.held img p e in
       let w = image_read img p b e in
-      let v : w.value ≡ h.value = (let z : given w.value ≡ given h.value = sym w.one ∙ h.one in cc) in
+      let v : w.value ≡ h.value = (let z : Ok w.value ≡ Ok h.value = sym w.one ∙ h.one in cc) in
       let l : Lie img 2 (ids_of h.value) = subst (λ (r : Record). Lie img 2 (ids_of r)) h.whole (record_lies img 0 h.reading (bytes_all img b) h.reads) in
       let c : lent img p.ids.call_id ≡ h.value.call_id = lent_is img p.ids.call_id ∙ (ap (λ (q : RecordAt). part_in img q.ids.call_id) h.places ∙ l.call_id) in
       let d : lent img p.ids.local_tag ≡ h.value.local_tag = lent_is img p.ids.local_tag ∙ (ap (λ (q : RecordAt). part_in img q.ids.local_tag) h.places ∙ l.local_tag) in
@@ -274,17 +269,17 @@ module _ (img : List ℕ) (p : RecordAt) (e : answer.Of p ≡ image_answer (one_
 -- ---- the place of the image
 
 -- what 15 says of a place
-not_placed : (o : Option Value) → refused NotFound ≡ or_refuse NotFound o → o ≡ none
-not_placed none e = refl
-not_placed (some v) e = absurd (let z : ◌≡◌ {A = ℕ} 0 1 = cc in omega arith)
+not_placed : (o : Option Value) → Err NotFound ≡ or_refuse NotFound o → o ≡ None
+not_placed None e = refl
+not_placed (Some v) e = absurd (let z : ◌≡◌ {A = ℕ} 0 1 = cc in omega arith)
 
-placed_at : (o : Option Value) (v : Value) → given v ≡ or_refuse NotFound o → o ≡ some v
-placed_at none v e = absurd (let z : ◌≡◌ {A = ℕ} 0 1 = cc in omega arith)
-placed_at (some w) v e = cc
+placed_at : (o : Option Value) (v : Value) → Ok v ≡ or_refuse NotFound o → o ≡ Some v
+placed_at None v e = absurd (let z : ◌≡◌ {A = ℕ} 0 1 = cc in omega arith)
+placed_at (Some w) v e = cc
 
 module _ (L : LimitSet) (n : ℕ) (img s : List ℕ) (used : ℕ) (state : CodeState) (c l r : List ℕ) (a : Named img state c l r) (o : Open L s used) where
   -- the records of the store
-  held_so : records_held s used ≡ given o.records
+  held_so : records_held s used ≡ Ok o.records
   unfolding records_held
   held_so = rw (le-ltb (length s) used o.within, o.are)
 
@@ -306,24 +301,24 @@ module _ (L : LimitSet) (n : ℕ) (img s : List ℕ) (used : ℕ) (state : CodeS
 
   module _ (hb : Bytes s) (e : crowded_in L (state_in state) (ident c l r) (decode_all (take used s)) ≡ false) where
     -- the place is asked of the record's own identifier
-    asked : (v : Outcome Value) → v ≡ place_in test (decode_all (take used s)) → v ≡ or_refuse NotFound (place_of (is_of (ident_of a.value)) first_place o.records)
+    asked : (v : Result Value Refusal) → v ≡ place_in test (decode_all (take used s)) → v ≡ or_refuse NotFound (place_of (is_of (ident_of a.value)) first_place o.records)
     asked v q = q ∙ (ap (place_in test) o.are ∙ ap (λ (i : Ident). or_refuse NotFound (place_of (is_of i) first_place o.records)) a.ident_is)
 
     -- no record of its identifier
-    pub added_new : found.Nothing ≡ found_in test (decode_all (take used s)) → Sets (run L (putting n img) s used) s (take used s ++ img)
+    pub added_new : None ≡ found_in test (decode_all (take used s)) → Sets (run L (putting n img) s used) s (take used s ++ img)
     added_new q =
         added L n img s used hb read_so a.value a.one a.is o.free (sym crowded_is ∙ e)
-        (not_placed (place_of (is_of (ident_of a.value)) first_place o.records) (asked (refused NotFound) (none_found test (take used s) (stored s used read_so) q)))
+        (not_placed (place_of (is_of (ident_of a.value)) first_place o.records) (asked (Err NotFound) (none_found test (take used s) (stored s used read_so) q)))
 
-    module _ (at : ℕ) (p : RecordAt) (w : Stands (take used s) (found.At at p)) where
+    module _ (at : ℕ) (p : RecordAt) (w : Stands (take used s) (Some (at, p))) where
       -- a record of its identifier
-      pub replaced_old : found.At at p ≡ found_in test (decode_all (take used s)) → Sets (run L (putting n img) s used) s (spliced at (p.end - at) img (take used s))
+      pub replaced_old : ◌≡◌ {A = Option (ℕ × RecordAt)} (Some (at, p)) (found_in test (decode_all (take used s))) → Sets (run L (putting n img) s used) s (spliced at (p.end - at) img (take used s))
       replaced_old q =
           replaced L n img s used hb read_so a.value a.one a.is o.free (sym crowded_is ∙ e) at (p.end - at)
-          (placed_at (place_of (is_of (ident_of a.value)) first_place o.records) (image_at at (p.end - at)) (asked (given (image_at at (p.end - at))) (one_found test (take used s) (stored s used read_so) (bytes_take used s hb) at p w q)))
+          (placed_at (place_of (is_of (ident_of a.value)) first_place o.records) (image_at at (p.end - at)) (asked (Ok (image_at at (p.end - at))) (one_found test (take used s) (stored s used read_so) (bytes_take used s hb) at p w q)))
 
 -- the record that was found lies within the used bytes
-pub found_within : (s : List ℕ) (used : ℕ) → Bytes s → used ≤ length s → (at : ℕ) (p : RecordAt) → Stands (take used s) (found.At at p) → (at ≤ p.end) × (p.end ≤ used)
+pub found_within : (s : List ℕ) (used : ℕ) → Bytes s → used ≤ length s → (at : ℕ) (p : RecordAt) → Stands (take used s) (Some (at, p)) → (at ≤ p.end) × (p.end ≤ used)
 found_within s used hb h at p w =
     let t = (turn (take used s) at (bytes_take used s hb) w.0 (record_got (take used s) at w.0 w.1)).step in
     (omega (arith, t.moves), omega (arith, t.within, length-take-le used s h))

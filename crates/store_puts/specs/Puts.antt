@@ -1,9 +1,7 @@
 -- Steps of the code: the put of one record image (document 01, "A request arrives", "Entry": "a put is an `insert` of one record image"). What it leaves is
 -- `run` (book/specs/Store.antt); here the call is set out, and what the functions below it promise.
-use Rattle.std.specs.Prelude.{ℕ, ◌≤◌, ◌≡◌, Bool, false, cond, not, ◌&&◌, List, length, take, get_or, leb}
-use Rattle.std.proofs.Math.Option.{Option, none, some}
+use Rattle.std.specs.Prelude.{ℕ, ◌≤◌, ◌≡◌, Bool, false, cond, not, ◌&&◌, List, length, take, get_or, leb, None, Ok, Option, Some}
 use Rattle.limits.specs.Limits.{LimitSet}
-use Rattle.limits.specs.Outcome.{given}
 use Rattle.record.specs.Record.{State, Record, state_byte_of, image}
 use Rattle.record.specs.NumbersForm.{state_in}
 use Rattle.record.specs.declared.numbers.State.{State as CodeState}
@@ -24,7 +22,7 @@ putting n img = put n img
 -- the bytes are the image of a record with this state and identifier
 pub record Named (img : List ℕ) (state : CodeState) (call_id local_tag remote_tag : List ℕ) : Type 0 where
   pub value : Record
-  pub one : one_record img ≡ given value
+  pub one : one_record img ≡ Ok value
   pub is : image.write value ≡ img
   pub state_is : state_in state ≡ value.numbers.state
   pub ident_is : ident call_id local_tag remote_tag ≡ ident_of value
@@ -33,13 +31,13 @@ pub record Named (img : List ℕ) (state : CodeState) (call_id local_tag remote_
 pub record Open (L : LimitSet) (bytes : List ℕ) (used : ℕ) : Type 0 where
   pub records : Book
   pub within : used ≤ length bytes
-  pub are : decode_all (take used bytes) ≡ some records
+  pub are : decode_all (take used bytes) ≡ Some records
   pub free : is_full L records ≡ false
 
 -- how many Early records have the Call-ID of an identifier, but not the identifier
 abbrev pub early_others : Ident → Option Book → ℕ
-early_others i none = 0
-early_others i (some b) = early_of i.call_id (keep (others i) b)
+early_others i None = 0
+early_others i (Some b) = early_of i.call_id (keep (others i) b)
 
 -- 17, of a state and an identifier
 abbrev pub crowded_in : LimitSet → State → Ident → Option Book → Bool

@@ -8,27 +8,24 @@ ghost use Rattle.dialog_manager.specs.Answers.{written_in};
 ghost use Rattle.store_puts.specs.Puts.{putting, Named, Open};
 
 use crate::early::is_crowded;
-use dialog::ImageAnswer;
-use dialog_manager::{Found, search_id};
+use dialog_manager::search_id;
 use image_writer::write_image;
 use limits::{Limits, Refusal};
-use output::Written;
 use record::State;
-use store::Held;
 
 // DialogManager::insert of one record image: 3, 16, 17, 18. A replacement keeps its place; a new record is written into the free end of the store.
-pub fn put(image: &[u8], bytes: &mut [u8], used: usize) -> Written
+pub fn put(image: &[u8], bytes: &mut [u8], used: usize) -> Result<usize, Refusal>
     ensures value { result ≡ written_in (run rust_limits (putting (length bytes.old) image.now) bytes.old used) }
     ensures bytes_after { bytes.new ≡ (run rust_limits (putting (length bytes.old) image.now) bytes.old used).bytes }
 {
-    let Held::Records(n) = store::count(bytes, used) else {
-        return Written::Refused(Refusal::BadStore);
+    let Ok(n) = store::count(bytes, used) else {
+        return Err(Refusal::BadStore);
     };
-    let ImageAnswer::Of(r) = dialog::read_image(image) else {
-        return Written::Refused(Refusal::BadStore);
+    let Ok(r) = dialog::read_image(image) else {
+        return Err(Refusal::BadStore);
     };
     if Limits::MAX_CONFIRMED_DIALOGS <= n {
-        return Written::Refused(Refusal::TooManyDialogs);
+        return Err(Refusal::TooManyDialogs);
     }
     let ids = r.ids;
     let numbers = r.numbers;
@@ -59,16 +56,16 @@ fn put_named(
     remote_tag: &[u8],
     bytes: &mut [u8],
     used: usize,
-) -> Written
+) -> Result<usize, Refusal>
     requires named { Named image.now state call_id.now local_tag.now remote_tag.now }
     requires fact { Open rust_limits bytes.old used }
     ensures value { result ≡ written_in (run rust_limits (putting (length bytes.old) image.now) bytes.old used) }
     ensures bytes_after { bytes.new ≡ (run rust_limits (putting (length bytes.old) image.now) bytes.old used).bytes }
 {
     if is_crowded(state, &bytes[..used], call_id, local_tag, remote_tag) {
-        return Written::Refused(Refusal::TooManyEarlyDialogs);
+        return Err(Refusal::TooManyEarlyDialogs);
     }
-    let Found::At(at, r) = search_id(&bytes[..used], call_id, local_tag, remote_tag) else {
+    let Some((at, r)) = search_id(&bytes[..used], call_id, local_tag, remote_tag) else {
         return add(image, bytes, used);
     };
     replace_image(image, bytes, used, at, r.end - at)
@@ -81,25 +78,23 @@ fn replace_image(
     used: usize,
     at: usize,
     old_length: usize,
-) -> Written
+) -> Result<usize, Refusal>
     requires { (at + old_length ≤ used) × (used ≤ length bytes.old) }
     ensures value { result ≡ written_from (fitted (length bytes.old) (spliced at old_length image.now (take used bytes.old))) }
     ensures bytes_after { bytes.new ≡ leaves (fitted (length bytes.old) (spliced at old_length image.now (take used bytes.old))) bytes.old }
 {
     if bytes.len() - (used - old_length) < image.len() {
-        return Written::Refused(Refusal::NoRoom);
+        return Err(Refusal::NoRoom);
     }
-    Written::Length(edit::replace(bytes, used, at, old_length, image))
+    Ok(edit::replace(bytes, used, at, old_length, image))
 }
 
 // The image after the used bytes: 18. The image writer is lent the free end of the store, the bytes from the used length on.
-fn add(image: &[u8], bytes: &mut [u8], used: usize) -> Written
+fn add(image: &[u8], bytes: &mut [u8], used: usize) -> Result<usize, Refusal>
     requires { used ≤ length bytes.old }
     ensures value { result ≡ written_from (fitted (length bytes.old) (take used bytes.old ++ image.now)) }
     ensures bytes_after { bytes.new ≡ leaves (fitted (length bytes.old) (take used bytes.old ++ image.now)) bytes.old }
 {
-    match write_image(image, &mut bytes[used..]) {
-        Written::Length(n) => Written::Length(used + n),
-        Written::Refused(cause) => Written::Refused(cause),
-    }
+    let n = write_image(image, &mut bytes[used..])?;
+    Ok(used + n)
 }

@@ -3,11 +3,10 @@ use Prim.Native.Nat.{ℕ}
 use mathlib.Core.Path.{◌≡◌, refl}
 use mathlib.Core.Bool.{true, false}
 use mathlib.Core.List.{List}
-use mathlib.Core.Option.{Option, none, some}
 use lib.ListN.{length, take}
+use Rattle.std.specs.Prelude.{Err, None, Ok, Option, Result, Some}
 use Rattle.limits.specs.Limits.{rust_limits}
 use Rattle.limits.specs.Outcome.{check_of}
-use Rattle.limits.specs.declared.Check.TheVariants as check
 use Rattle.limits.specs.declared.Refusal.{Refusal}
 use Rattle.limits.specs.declared.Refusal.TheVariants.{TextTooLong}
 use Rattle.limits.proofs.Laws.{stopped}
@@ -16,8 +15,6 @@ use Rattle.msg.specs.Block.{block_cause}
 use Rattle.dialog_id.specs.DialogId.{identifier_of, from_name, to_name}
 use Rattle.dialog_id.specs.declared.DialogId.{DialogId}
 use Rattle.output.specs.Output.{leaves, written_from}
-use Rattle.output.specs.declared.Written.{Written}
-use Rattle.output.specs.declared.Written.TheVariants as written
 use Rattle.codec.proofs.CodecLaws.{Bytes}
 use Rattle.image.specs.declared.RecordAt.{RecordAt}
 use Rattle.text.specs.Spans.{part_in}
@@ -28,57 +25,56 @@ use Rattle.dialog_id.specs.Ident.{Ident, ident}
 use Rattle.book.specs.Calls.{request}
 use Rattle.book.specs.Book.{named_in, update_cause, revised}
 use Rattle.store_entries.specs.Entries.{spot_named, standing_of}
-use Rattle.store_entries.specs.declared.Standing.TheVariants as standing
 use Rattle.store_entries.proofs.EntryLaws.{permitted, Done, arguments_done, turned, step_done, unnamed, never_at, not_named}
 
 -- ---- the identifier that a request names
 
 -- its tags swapped
-pub named_is : (block : List ℕ) (i : DialogId) → Asked block i → named_in block ≡ some (ident (part_in block i.call_id) (part_in block i.remote_tag) (part_in block i.local_tag))
+pub named_is : (block : List ℕ) (i : DialogId) → Asked block i → named_in block ≡ Some (ident (part_in block i.call_id) (part_in block i.remote_tag) (part_in block i.local_tag))
 unfolding named_in
 named_is block i a = rw (a.reads, a.spans, a.placed.call_id.there, a.placed.local_tag.there, a.placed.remote_tag.there)
 
-pub named_none : (block : List ℕ) → identifier_of from_name to_name block ≡ none → named_in block ≡ none
+pub named_none : (block : List ℕ) → identifier_of from_name to_name block ≡ None → named_in block ≡ None
 unfolding named_in
 named_none block e = rw e
 
 -- ---- the ways out
 
 module _ (method block bytes : List ℕ) (used : ℕ) where
-  abbrev pub Heard : Written → List ℕ → Type 0
+  abbrev pub Heard : Result ℕ Refusal → List ℕ → Type 0
   Heard r after = Done rust_limits permitted (request method block) bytes used r after
 
   -- 1 of the method, then 1 and 2 of the block
-  pub request_long : too_long rust_limits method ≡ true → Heard (written.Refused TextTooLong) bytes
+  pub request_long : too_long rust_limits method ≡ true → Heard (Err TextTooLong) bytes
   unfolding update_cause
   request_long e = arguments_done rust_limits permitted (request method block) bytes used (rw e)
 
   module _ (short : too_long rust_limits method ≡ false) where
-    pub request_bad : {cause : Refusal} → check_of (block_cause rust_limits block) ≡ check.Refused cause → Heard (written.Refused cause) bytes
+    pub request_bad : {cause : Refusal} → check_of (block_cause rust_limits block) ≡ Err cause → Heard (Err cause) bytes
     unfolding update_cause
     request_bad e = arguments_done rust_limits permitted (request method block) bytes used (rw short (stopped (block_cause rust_limits block) e))
 
-    module _ (good : block_cause rust_limits block ≡ none) where
-      request_clear : update_cause rust_limits (request method block) ≡ none
+    module _ (good : block_cause rust_limits block ≡ None) where
+      request_clear : update_cause rust_limits (request method block) ≡ None
       unfolding update_cause
       request_clear = rw (short, good)
 
       -- no record of that name
-      pub request_turned : {cause : Refusal} → standing.Refused cause ≡ standing_of (spot_named (named_in block) bytes used) → Heard (written.Refused cause) bytes
+      pub request_turned : {cause : Refusal} → Err cause ≡ standing_of (spot_named (named_in block) bytes used) → Heard (Err cause) bytes
       request_turned {cause} e = by (named_in block) refl e
         where
-          by : (o : Option Ident) → named_in block ≡ o → standing.Refused cause ≡ standing_of (spot_named o bytes used) → Heard (written.Refused cause) bytes
-          by none n e = unnamed rust_limits permitted (request method block) bytes used request_clear n (not_named none bytes used e)
-          by (some i) n e = turned rust_limits permitted (request method block) bytes used request_clear i n (not_named (some i) bytes used e)
+          by : (o : Option Ident) → named_in block ≡ o → Err cause ≡ standing_of (spot_named o bytes used) → Heard (Err cause) bytes
+          by None n e = unnamed rust_limits permitted (request method block) bytes used request_clear n (not_named None bytes used e)
+          by (Some i) n e = turned rust_limits permitted (request method block) bytes used request_clear i n (not_named (Some i) bytes used e)
 
       -- the step on the record
-      pub request_done : Bytes bytes → (at : ℕ) (q : RecordAt) → standing.At at q ≡ standing_of (spot_named (named_in block) bytes used) → (r : Written) (after : List ℕ)
+      pub request_done : Bytes bytes → (at : ℕ) (q : RecordAt) → ◌≡◌ {A = Result (ℕ × RecordAt) Refusal} (Ok (at, q)) (standing_of (spot_named (named_in block) bytes used)) → (r : Result ℕ Refusal) (after : List ℕ)
           → (r ≡ written_from (stepped (request_update rust_limits (kind_of method) block) (length bytes) at (take used bytes)))
           × (after ≡ leaves (stepped (request_update rust_limits (kind_of method) block) (length bytes) at (take used bytes)) bytes)
           → Heard r after
       unfolding revised
       request_done h at q e r after w = by (named_in block) refl e
         where
-          by : (o : Option Ident) → named_in block ≡ o → standing.At at q ≡ standing_of (spot_named o bytes used) → Heard r after
-          by none n e = never_at bytes used e
-          by (some i) n e = step_done rust_limits permitted (request method block) bytes used request_clear i n h at q e r after w
+          by : (o : Option Ident) → named_in block ≡ o → ◌≡◌ {A = Result (ℕ × RecordAt) Refusal} (Ok (at, q)) (standing_of (spot_named o bytes used)) → Heard r after
+          by None n e = never_at bytes used e
+          by (Some i) n e = step_done rust_limits permitted (request method block) bytes used request_clear i n h at q e r after w

@@ -1,8 +1,7 @@
 // The request entry: the record that a request names, changed by it.
 #![tactic(auto)]
 
-ghost use Rattle.std.specs.Prelude.{◌≡◌, ◌+◌, ◌≤◌, length};
-ghost use Rattle.std.proofs.Math.Option.{none};
+ghost use Rattle.std.specs.Prelude.{◌≡◌, ◌+◌, ◌≤◌, length, None};
 ghost use Rattle.limits.specs.Limits.{rust_limits};
 ghost use Rattle.text.specs.Spans.{part_in};
 ghost use Rattle.msg.specs.Block.{lines_of};
@@ -12,44 +11,42 @@ ghost use Rattle.book.specs.Book.{named_in};
 ghost use Rattle.dialog_manager.specs.Answers.{written_in};
 ghost use Rattle.store_entries.specs.Entries.{used_after, requesting, spot_in, spot_named, standing_of, Ready};
 
-use dialog_id::{IdPart, request_id_in};
+use dialog_id::request_id_in;
 use dialog_requests::request_by;
+use image::RecordAt;
 use limits::Refusal;
-use msg::{HeaderTable, Headers};
-use output::Written;
-use store::Held;
-use store_entries::{Standing, locate};
+use msg::HeaderTable;
+use store_entries::locate;
 use text::Span;
 
 // The request entry: 1, 2, 3, 15, 4, 9; ACK: 11; others: 10, 11, 12; 18. The record that the block names is changed as by Dialog::update_from_request.
-pub fn request(method: &[u8], block: &[u8], bytes: &mut [u8], used: usize) -> Written
+pub fn request(method: &[u8], block: &[u8], bytes: &mut [u8], used: usize) -> Result<usize, Refusal>
     ensures value { result ≡ written_in (requesting rust_limits method.now block.now bytes.old used) }
     ensures bytes_after { bytes.new ≡ (requesting rust_limits method.now block.now bytes.old used).bytes }
     ensures used_value { used_after result used ≡ (requesting rust_limits method.now block.now bytes.old used).used }
 {
     if text::too_long(method) {
-        return Written::Refused(Refusal::TextTooLong);
+        return Err(Refusal::TextTooLong);
     }
-    match msg::read_headers(block) {
-        Headers::Of(t) => {
-            let cseq = t.cseq;
-            let contact = t.contact;
-            match locate_named(bytes, used, block, t) {
-                Standing::At(at, r) => request_by(bytes, used, at, r, method, block, cseq, contact),
-                Standing::Refused(cause) => Written::Refused(cause),
-            }
-        }
-        Headers::Refused(x) => Written::Refused(x),
-    }
+    let t = msg::read_headers(block)?;
+    let cseq = t.cseq;
+    let contact = t.contact;
+    let (at, r) = locate_named(bytes, used, block, t)?;
+    request_by(bytes, used, at, r, method, block, cseq, contact)
 }
 
 // By the identifier that a block names, if it names one: 3, 15. A request from the peer has From as remote tag.
-fn locate_named(bytes: &[u8], used: usize, block: &[u8], t: HeaderTable) -> Standing
+fn locate_named(
+    bytes: &[u8],
+    used: usize,
+    block: &[u8],
+    t: HeaderTable,
+) -> Result<(usize, RecordAt), Refusal>
     requires { t ≡ table_of (lines_of block.now) }
     ensures value { result ≡ standing_of (spot_named (named_in block.now) bytes.now used) }
     ensures ready { Ready bytes.now used result }
 {
-    let IdPart::At(i) = request_id_in(block, t) else {
+    let Some(i) = request_id_in(block, t) else {
         return nowhere(bytes, used);
     };
     let call_id = i.call_id;
@@ -59,18 +56,25 @@ fn locate_named(bytes: &[u8], used: usize, block: &[u8], t: HeaderTable) -> Stan
 }
 
 // No identifier is named: 3, 15.
-fn nowhere(bytes: &[u8], used: usize) -> Standing
-    ensures value { result ≡ standing_of (spot_named none bytes.now used) }
+fn nowhere(bytes: &[u8], used: usize) -> Result<(usize, RecordAt), Refusal>
+    ensures value { result ≡ standing_of (spot_named None bytes.now used) }
     ensures ready { Ready bytes.now used result }
 {
-    let Held::Records(_) = store::count(bytes, used) else {
-        return Standing::Refused(Refusal::BadStore);
+    let Ok(_) = store::count(bytes, used) else {
+        return Err(Refusal::BadStore);
     };
-    Standing::Refused(Refusal::NotFound)
+    Err(Refusal::NotFound)
 }
 
 // By three parts of a block: 3, 15.
-fn locate_parts(bytes: &[u8], used: usize, block: &[u8], a: Span, b: Span, c: Span) -> Standing
+fn locate_parts(
+    bytes: &[u8],
+    used: usize,
+    block: &[u8],
+    a: Span,
+    b: Span,
+    c: Span,
+) -> Result<(usize, RecordAt), Refusal>
     requires { (a.start + a.length ≤ length block.now) × (b.start + b.length ≤ length block.now) × (c.start + c.length ≤ length block.now) }
     ensures value { result ≡ standing_of (spot_in (ident (part_in block.now a) (part_in block.now b) (part_in block.now c)) bytes.now used) }
     ensures ready { Ready bytes.now used result }

@@ -3,17 +3,13 @@ use Prim.Native.Nat.{ℕ}
 use native.Mathlib.Omega.{arith}
 use mathlib.Core.Path.{◌≡◌, refl, sym, ap, subst, ◌∙◌}
 use mathlib.Core.List.{List}
-use mathlib.Core.Option.{Option, none, some}
 use lib.ListN.{length, take}
+use Rattle.std.specs.Prelude.{Err, None, Ok, Option, Result, Some}
 use Rattle.limits.specs.Limits.{rust_limits}
-use Rattle.limits.specs.Outcome.{Outcome, refused, given, or_else, refuse_by, check_of}
-use Rattle.limits.specs.declared.Check.{Check}
-use Rattle.limits.specs.declared.Check.TheVariants as check
+use Rattle.limits.specs.Outcome.{or_else, refuse_by, check_of}
 use Rattle.limits.specs.declared.Refusal.{Refusal}
 use Rattle.msg.specs.Block.{block_cause}
 use Rattle.output.specs.Output.{leaves, written_from}
-use Rattle.output.specs.declared.Written.{Written}
-use Rattle.output.specs.declared.Written.TheVariants as written
 use Rattle.record.specs.NumbersForm.{meaning}
 use Rattle.record.specs.Record.{Numbers}
 use Rattle.record.specs.Rules.{local_step}
@@ -22,8 +18,6 @@ use Rattle.record.proofs.NumberLaws.{meaning_same}
 use Rattle.image.specs.declared.RecordAt.{RecordAt}
 use Rattle.dialog_rules.specs.Updates.{local_update}
 use Rattle.dialog_rules.proofs.RefusalLaws.{no_causes}
-use Rattle.dialog_changes.specs.declared.Raised.{Raised}
-use Rattle.dialog_changes.specs.declared.Raised.TheVariants as raised
 use Rattle.dialog_updates.specs.AtPlace.{stepped}
 use Rattle.dialog_id.specs.Ident.{Ident, ident_cause}
 use Rattle.book.specs.Calls.{Update, response, terminate, local_number, interval, number, Answer}
@@ -31,74 +25,72 @@ use Rattle.book.specs.Book.{name_of, update_cause, revised}
 use Rattle.book.specs.Store.{Left}
 use Rattle.dialog_manager.specs.Answers.{written_by}
 use Rattle.store_entries.specs.Entries.{updating, raised_by, raised_in, used_raised, spot_in, standing_of, raised_with}
-use Rattle.store_entries.specs.declared.Standing.{Standing}
-use Rattle.store_entries.specs.declared.Standing.TheVariants as standing
 use Rattle.store_entries.proofs.EntryLaws.{permitted, Done, left_by, arguments_done, turned, step_left, step_done, not_standing}
 use Rattle.store_updates.specs.Finding.{cause_in, found_in}
 
 -- an update that names its record by an identifier: its arguments are refused by the lengths of that, then by those of the others
 pub record ByIdent (u : Update) (i : Ident) (others : Option Refusal) : Type 0 where
-  pub named : name_of u ≡ some i
+  pub named : name_of u ≡ Some i
   pub causes : update_cause rust_limits u ≡ or_else (ident_cause rust_limits i) others
 
-or_none : (o : Option Refusal) → o ≡ or_else o none
-or_none none = refl
-or_none (some cause) = refl
+or_none : (o : Option Refusal) → o ≡ or_else o None
+or_none None = refl
+or_none (Some cause) = refl
 
-pub terminates : (i : Ident) → ByIdent (terminate i) i none
+pub terminates : (i : Ident) → ByIdent (terminate i) i None
 unfolding update_cause
 terminates i = record { named = refl; causes = or_none (ident_cause rust_limits i) }
 
 cause_told : (o : Option Refusal) → o ≡ cause_in (check_of o)
-cause_told none = refl
-cause_told (some cause) = refl
+cause_told None = refl
+cause_told (Some cause) = refl
 
-pub check_passed : (v : Check) → cause_in v ≡ none → v ≡ check.Passed
-check_passed check.Passed e = refl
-check_passed (check.Refused cause) e = absurd (let z : ◌≡◌ {A = ℕ} 0 1 = cc in omega arith)
+pub check_passed : (v : Result (Unit {0}) Refusal) → cause_in v ≡ None → v ≡ Ok tt
+check_passed (Ok tt) e = refl
+check_passed (Err cause) e = absurd (let z : ◌≡◌ {A = ℕ} 0 1 = cc in omega arith)
 
 pub responds : (i : Ident) (status : ℕ) (block : List ℕ) → ByIdent (response i status block) i (cause_in (check_of (block_cause rust_limits block)))
 unfolding update_cause
 responds i status block = record { named = refl; causes = ap (or_else (ident_cause rust_limits i)) (cause_told (block_cause rust_limits block)) }
 
-pub sets : (i : Ident) (seconds : ℕ) → ByIdent (interval i seconds) i none
+pub sets : (i : Ident) (seconds : ℕ) → ByIdent (interval i seconds) i None
 unfolding update_cause
 sets i seconds = record { named = refl; causes = or_none (ident_cause rust_limits i) }
 
-pub raises : (i : Ident) → ByIdent (local_number i) i none
+pub raises : (i : Ident) → ByIdent (local_number i) i None
 unfolding update_cause
 raises i = record { named = refl; causes = or_none (ident_cause rust_limits i) }
 
 -- t is where the record was found
-module _ {u : Update} {i : Ident} {others : Option Refusal} (n : ByIdent u i others) (bytes : List ℕ) (used : ℕ) {t : Standing} (told : t ≡ standing_of (found_in i others bytes used)) where
-  abbrev Ends : Written → List ℕ → Type 0
+module _ {u : Update} {i : Ident} {others : Option Refusal} (n : ByIdent u i others) (bytes : List ℕ) (used : ℕ) {t : Result (ℕ × RecordAt) Refusal} (told : t ≡ standing_of (found_in i others bytes used)) where
+  abbrev Ends : Result ℕ Refusal → List ℕ → Type 0
   Ends r after = Done rust_limits permitted u bytes used r after
 
-  by_cause : {a : Standing} → t ≡ a → a ≡ standing_of (refuse_by (update_cause rust_limits u) (spot_in i bytes used))
+  by_cause : {a : Result (ℕ × RecordAt) Refusal} → t ≡ a → a ≡ standing_of (refuse_by (update_cause rust_limits u) (spot_in i bytes used))
   by_cause e = sym e ∙ told ∙ ap (λ (o : Option Refusal). standing_of (refuse_by o (spot_in i bytes used))) (sym n.causes)
 
   -- 1, 2, 3, 15
-  pub call_refused : {cause : Refusal} → t ≡ standing.Refused cause → Ends (written.Refused cause) bytes
+  pub call_refused : {cause : Refusal} → t ≡ Err cause → Ends (Err cause) bytes
   call_refused {cause} e = by (update_cause rust_limits u) refl (by_cause e)
     where
-      by : (o : Option Refusal) → update_cause rust_limits u ≡ o → standing.Refused cause ≡ standing_of (refuse_by o (spot_in i bytes used)) → Ends (written.Refused cause) bytes
-      by none q f = turned rust_limits permitted u bytes used q i n.named (not_standing i bytes used f)
-      by (some own) q f = let k : own ≡ cause = cc in arguments_done rust_limits permitted u bytes used (q ∙ ap some k)
+      by : (o : Option Refusal) → update_cause rust_limits u ≡ o → Err cause ≡ standing_of (refuse_by o (spot_in i bytes used)) → Ends (Err cause) bytes
+      by None q f = turned rust_limits permitted u bytes used q i n.named (not_standing i bytes used f)
+      by (Some own) q f = let k : own ≡ cause = cc in arguments_done rust_limits permitted u bytes used (q ∙ ap Some k)
 
-  module _ {at : ℕ} {q : RecordAt} (e : t ≡ standing.At at q) where
-    pub stands : (update_cause rust_limits u ≡ none) × (standing.At at q ≡ standing_of (spot_in i bytes used))
+  module _ {at : ℕ} {q : RecordAt} (e : t ≡ Ok (at, q)) where
+    pub stands : (update_cause rust_limits u ≡ None) × (◌≡◌ {A = Result (ℕ × RecordAt) Refusal} (Ok (at, q)) (standing_of (spot_in i bytes used)))
     stands = by (update_cause rust_limits u) (by_cause e)
       where
-        by : (o : Option Refusal) → standing.At at q ≡ standing_of (refuse_by o (spot_in i bytes used)) → (o ≡ none) × (standing.At at q ≡ standing_of (spot_in i bytes used))
-        by none f = (refl, f)
-        by (some own) f = absurd (let z : ◌≡◌ {A = ℕ} 0 1 = cc in omega arith)
+        by : (o : Option Refusal) → ◌≡◌ {A = Result (ℕ × RecordAt) Refusal} (Ok (at, q)) (standing_of (refuse_by o (spot_in i bytes used))) → (o ≡ None) × (◌≡◌ {A = Result (ℕ × RecordAt) Refusal} (Ok (at, q)) (standing_of (spot_in i bytes used)))
+        by None f = (refl, f)
+        by (Some own) f = absurd (let z : ◌≡◌ {A = ℕ} 0 1 = cc in omega arith)
 
     -- the other arguments are not refused
-    pub others_passed : others ≡ none
+    pub others_passed : others ≡ None
     others_passed = (no_causes (ident_cause rust_limits i) others (sym n.causes ∙ stands.0)).1
 
     -- the step's refusals, 18, or the changed record
-    pub call_done : Bytes bytes → {r : Written} {after : List ℕ}
+    pub call_done : Bytes bytes → {r : Result ℕ Refusal} {after : List ℕ}
         → (r ≡ written_from (stepped (revised rust_limits u) (length bytes) at (take used bytes))) × (after ≡ leaves (stepped (revised rust_limits u) (length bytes) at (take used bytes)) bytes)
         → Ends r after
     call_done h {r} {after} w = step_done rust_limits permitted u bytes used stands.0 i n.named h at q stands.1 r after w
@@ -107,35 +99,35 @@ module _ {u : Update} {i : Ident} {others : Option Refusal} (n : ByIdent u i oth
 
 module _ (i : Ident) (bytes : List ℕ) (used : ℕ) where
   -- the answer, the lent bytes and the used length are those of `run`
-  abbrev RaisesBy : Raised → List ℕ → Left → Type 0
+  abbrev RaisesBy : Result (ℕ × ℕ) Refusal → List ℕ → Left → Type 0
   RaisesBy r after l = (r ≡ raised_in l) × ((after ≡ l.bytes) × (used_raised r used ≡ l.used))
 
-  abbrev pub Raises : Raised → List ℕ → Type 0
+  abbrev pub Raises : Result (ℕ × ℕ) Refusal → List ℕ → Type 0
   Raises r after = RaisesBy r after (updating rust_limits (local_number i) bytes used)
 
   -- the step on the record at a place
-  abbrev pub local_at : ℕ → Outcome (List ℕ)
-  local_at at = stepped (λ v. given (local_update v)) (length bytes) at (take used bytes)
+  abbrev pub local_at : ℕ → Result (List ℕ) Refusal
+  local_at at = stepped (λ v. Ok (local_update v)) (length bytes) at (take used bytes)
 
   -- a refusal, as this call answers it
-  pub raise_not : {cause : Refusal} → Done rust_limits permitted (local_number i) bytes used (written.Refused cause) bytes → Raises (raised.Refused cause) bytes
+  pub raise_not : {cause : Refusal} → Done rust_limits permitted (local_number i) bytes used (Err cause) bytes → Raises (Err cause) bytes
   raise_not {cause} d = (by (updating rust_limits (local_number i) bytes used).answer d.0, d.1)
     where
-      by : (a : Answer) → written.Refused cause ≡ written_by (updating rust_limits (local_number i) bytes used).used a → raised.Refused cause ≡ raised_by (updating rust_limits (local_number i) bytes used).used a
-      by (refused one) e = let k : cause ≡ one = cc in ap raised.Refused k
-      by (given v) e = absurd (let z : ◌≡◌ {A = ℕ} 0 1 = cc in omega arith)
+      by : (a : Answer) → Err cause ≡ written_by (updating rust_limits (local_number i) bytes used).used a → Err cause ≡ raised_by (updating rust_limits (local_number i) bytes used).used a
+      by (Err one) e = let k : cause ≡ one = cc in ap Err k
+      by (Ok v) e = absurd (let z : ◌≡◌ {A = ℕ} 0 1 = cc in omega arith)
 
   -- what is left, read as this call's answer
-  raised_left : (k : ℕ) (o : Outcome (List ℕ)) → updating rust_limits (local_number i) bytes used ≡ left_by rust_limits permitted (local_number i) bytes used o (number k)
+  raised_left : (k : ℕ) (o : Result (List ℕ) Refusal) → updating rust_limits (local_number i) bytes used ≡ left_by rust_limits permitted (local_number i) bytes used o (number k)
       → Raises (raised_with k (written_from o)) (leaves o bytes)
   raised_left k o e = subst (RaisesBy (raised_with k (written_from o)) (leaves o bytes)) (sym e) (by o)
     where
-      by : (o : Outcome (List ℕ)) → RaisesBy (raised_with k (written_from o)) (leaves o bytes) (left_by rust_limits permitted (local_number i) bytes used o (number k))
-      by (refused cause) = (refl, (refl, refl))
-      by (given s) = (refl, (refl, refl))
+      by : (o : Result (List ℕ) Refusal) → RaisesBy (raised_with k (written_from o)) (leaves o bytes) (left_by rust_limits permitted (local_number i) bytes used o (number k))
+      by (Err cause) = (refl, (refl, refl))
+      by (Ok s) = (refl, (refl, refl))
 
   -- 18, or the changed record's number
-  pub raise_done : {t : Standing} → t ≡ standing_of (found_in i none bytes used) → {at : ℕ} {q : RecordAt} → t ≡ standing.At at q → Bytes bytes → {r : Raised} {after : List ℕ}
+  pub raise_done : {t : Result (ℕ × RecordAt) Refusal} → t ≡ standing_of (found_in i None bytes used) → {at : ℕ} {q : RecordAt} → t ≡ Ok (at, q) → Bytes bytes → {r : Result (ℕ × ℕ) Refusal} {after : List ℕ}
       → (r ≡ raised_with (local_step (meaning q.numbers)).local (written_from (local_at at))) × (after ≡ leaves (local_at at) bytes) → Raises r after
   unfolding revised
   raise_done told {at} {q} e h {r} w =
@@ -144,4 +136,4 @@ module _ (i : Ident) (bytes : List ℕ) (used : ℕ) where
       let n : meaning q.numbers ≡ l.value.numbers = ap (λ (y : RecordAt). meaning y.numbers) l.placed ∙ meaning_same l.value.numbers in
       let f : r ≡ raised_with (local_step l.value.numbers).local (written_from (local_at at)) = w.0 ∙ ap (λ (y : Numbers). raised_with (local_step y).local (written_from (local_at at))) n in
       let d = raised_left (local_step l.value.numbers).local (local_at at) l.left in
-      (f ∙ d.0, (w.1 ∙ d.1.0, ap (λ (y : Raised). used_raised y used) f ∙ d.1.1))
+      (f ∙ d.0, (w.1 ∙ d.1.0, ap (λ (y : Result (ℕ × ℕ) Refusal). used_raised y used) f ∙ d.1.1))

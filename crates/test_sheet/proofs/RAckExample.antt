@@ -3,8 +3,8 @@ use Prim.Native.Nat.{ℕ}
 use native.Mathlib.Omega.{arith}
 use mathlib.Core.Path.{◌≡◌, refl, sym}
 use mathlib.Core.List.{List, [], ◌∷◌}
+use Rattle.std.specs.Prelude.{Err, Ok}
 use Rattle.limits.specs.Limits.{rust_limits}
-use Rattle.limits.specs.Outcome.{refused, given}
 use Rattle.limits.specs.declared.Refusal.TheVariants.{NoRoom}
 use Rattle.text.specs.Text.{all, alike, split, filled, words}
 use Rattle.text.specs.Number.{value, digits_below}
@@ -18,7 +18,7 @@ use Rattle.rack.specs.RAck.{read_rack, rack_text, parse_rack, format_rack}
 abbrev pub example : List ℕ
 example = 55 ∷ 55 ∷ 54 ∷ 54 ∷ 53 ∷ 54 ∷ 32 ∷ 49 ∷ 32 ∷ 73 ∷ 78 ∷ 86 ∷ 73 ∷ 84 ∷ 69 ∷ []
 
-pub rack_read : parse_rack rust_limits example ≡ given (record { rseq = 776656; cseq = 1; method = 1 })
+pub rack_read : parse_rack rust_limits example ≡ Ok (record { rseq = 776656; cseq = 1; method = 1 })
 unfolding parse_rack value_cause read_rack words split filled all digits_below value position_from method_names alike
 rack_read = refl
 
@@ -30,10 +30,10 @@ cseq_text : decimal_of 1 ≡ 49 ∷ []
 unfolding decimal_in
 cseq_text = refl
 
-pub rack_written : format_rack 776656 1 1 15 ≡ given example
+pub rack_written : format_rack 776656 1 1 15 ≡ Ok example
 unfolding rack_text method_names
 rack_written = rw (rseq_text, cseq_text)
 
-pub rack_refused : format_rack 776656 1 1 14 ≡ refused NoRoom
+pub rack_refused : format_rack 776656 1 1 14 ≡ Err NoRoom
 unfolding rack_text method_names
 rack_refused = rw (rseq_text, cseq_text)

@@ -2,26 +2,26 @@
 -- the digits, after those so far said `v`; `scan_is` says what it computes. Assumes nothing.
 use Prim.Native.Nat.{ℕ, suc, ◌+◌, ◌-◌, ◌*◌, ◌^◌, ◌≤◌, ◌<◌}
 use native.Mathlib.Nat.{add-zero, mul-one, pow-zero, pow-succ', add-mul, mul_assoc, add_assoc, le-add_right, le_trans, le-mul_of_pos_right, zero-mul, zero-add, one-le-pow, not-suc-le-zero}
-use native.Mathlib.Numerals.{add-one, sub-one}
+use native.Mathlib.Numerals.{add-one}
 use native.Mathlib.Omega.{arith}
 use mathlib.Core.Path.{◌≡◌, refl}
 use mathlib.Core.Bool.{Bool, true, false, cond, ◌&&◌, and-false}
 use mathlib.Core.List.{List, [], ◌∷◌}
-use mathlib.Core.Option.{Option, none, some}
-use lib.ListN.{length, get_or, take, drop, drop_of_length-le}
-use lib.Seq.{drop-cons, take-length}
-use lib.Dec.{leb, ltb, lit<}
-use borrow.Author.Tests.{lt-ltb, le-ltb, le-leb, lt-leb, ltb-true, ltb-false, eq-eqb, ne_eqb}
+use lib.ListN.{length, get_or, drop, drop_of_length-le}
+use lib.Seq.{drop-cons}
+use lib.Dec.{ltb, lit<}
+use borrow.Author.Tests.{lt-ltb, le-ltb, ltb-true, ltb-false}
+use Rattle.std.specs.Prelude.{None, Option, Some}
 use Rattle.text.specs.Text.{is_digit, all}
-use Rattle.text.specs.Number.{value, digits_below, without_plus}
+use Rattle.text.specs.Number.{value, digits_below}
 
 unfoldable pub scan : ℕ → ℕ → List ℕ → Option ℕ
-scan w v [] = some v
-scan w v (b ∷ s) = cond (is_digit b) (cond (ltb (v * 10 + (b - 48)) w) (scan w (v * 10 + (b - 48)) s) none) none
+scan w v [] = Some v
+scan w v (b ∷ s) = cond (is_digit b) (cond (ltb (v * 10 + (b - 48)) w) (scan w (v * 10 + (b - 48)) s) None) None
 
 -- what is right, as `digits_below` has it: v followed by the digits s
 abbrev rest : ℕ → ℕ → List ℕ → Option ℕ
-rest w v s = cond (all is_digit s && ltb (v * 10 ^ length s + value s) w) (some (v * 10 ^ length s + value s)) none
+rest w v s = cond (all is_digit s && ltb (v * 10 ^ length s + value s) w) (Some (v * 10 ^ length s + value s)) None
 
 -- one digit more
 shift : (v d n x : ℕ) → v * 10 ^ suc n + (d * 10 ^ n + x) ≡ (v * 10 + d) * 10 ^ n + x
@@ -35,7 +35,7 @@ over w v n x t h = rw (le-ltb (v * 10 ^ n + x) w (le_trans h (grows v n x))) (an
 
 -- a digit b: by whether v with it is still below w
 by_size : (w v b : ℕ) (s : List ℕ) (t : Bool) → ((u : ℕ) → u < w → scan w u s ≡ rest w u s) → ltb (v * 10 + (b - 48)) w ≡ t
-    → cond (ltb (v * 10 + (b - 48)) w) (scan w (v * 10 + (b - 48)) s) none ≡ rest w (v * 10 + (b - 48)) s
+    → cond (ltb (v * 10 + (b - 48)) w) (scan w (v * 10 + (b - 48)) s) None ≡ rest w (v * 10 + (b - 48)) s
 by_size w v b s true ih e = rw e (ih (v * 10 + (b - 48)) (ltb-true _ _ e))
 by_size w v b s false ih e = rw (e, over w (v * 10 + (b - 48)) (length s) (value s) (all is_digit s) (ltb-false _ _ e))
 
@@ -57,41 +57,24 @@ scan_start w (b ∷ s) p h = rw (scan_is w 0 (b ∷ s) p) (simp (zero-mul, zero-
 
 -- the turns of the loop: s are the bytes, i the index and v the number so far
 module _ (w v : ℕ) (s : List ℕ) (i : ℕ) where
-  pub done : length s ≤ i → scan w v (drop i s) ≡ some v
+  pub done : length s ≤ i → scan w v (drop i s) ≡ Some v
   unfolding scan
   done h = rw (drop_of_length-le s h)
 
-  pub low : i < length s → get_or s i 0 < 48 → scan w v (drop i s) ≡ none
+  pub other : i < length s → is_digit (get_or s i 0) ≡ false → scan w v (drop i s) ≡ None
   unfolding scan
-  low h l = rw (drop-cons s i 0 h, lt-leb 48 (get_or s i 0) l)
+  other h d = rw (drop-cons s i 0 h, d)
 
-  pub high : i < length s → 57 < get_or s i 0 → scan w v (drop i s) ≡ none
+  pub large : i < length s → is_digit (get_or s i 0) ≡ true → w ≤ v * 10 + (get_or s i 0 - 48) → scan w v (drop i s) ≡ None
   unfolding scan
-  high h l = rw (drop-cons s i 0 h, lt-leb (get_or s i 0) 57 l, and-false (leb 48 (get_or s i 0)))
+  large h d k = rw (drop-cons s i 0 h, d, le-ltb _ _ k)
 
-  pub large : i < length s → 48 ≤ get_or s i 0 → get_or s i 0 ≤ 57 → w ≤ v * 10 + (get_or s i 0 - 48) → scan w v (drop i s) ≡ none
+  pub next : i < length s → is_digit (get_or s i 0) ≡ true → v * 10 + (get_or s i 0 - 48) < w → scan w v (drop i s) ≡ scan w (v * 10 + (get_or s i 0 - 48)) (drop (i + 1) s)
   unfolding scan
-  large h l m k = rw (drop-cons s i 0 h, le-leb 48 (get_or s i 0) l, le-leb (get_or s i 0) 57 m, le-ltb _ _ k)
-
-  pub next : i < length s → 48 ≤ get_or s i 0 → get_or s i 0 ≤ 57 → v * 10 + (get_or s i 0 - 48) < w → scan w v (drop i s) ≡ scan w (v * 10 + (get_or s i 0 - 48)) (drop (i + 1) s)
-  unfolding scan
-  next h l m k = rw (drop-cons s i 0 h, le-leb 48 (get_or s i 0) l, le-leb (get_or s i 0) 57 m, lt-ltb _ _ k, add-one i)
+  next h d k = rw (drop-cons s i 0 h, d, lt-ltb _ _ k, add-one i)
 
 -- no bytes, no number
-pub empty : (w : ℕ) (s : List ℕ) → length s ≡ 0 → digits_below w s ≡ none
+pub empty : (w : ℕ) (s : List ℕ) → length s ≡ 0 → digits_below w s ≡ None
 unfolding digits_below
 empty w [] h = refl
 empty w (b ∷ s) h = absurd (omega arith)
-
--- with and without the `+`
-pub plus : (w : ℕ) (s : List ℕ) → 0 < length s → get_or s 0 0 ≡ 43 → digits_below w (without_plus s) ≡ digits_below w (take (length s - 1) (drop 1 s))
-plus w [] h e = absurd (omega arith)
-plus w (b ∷ s) h e = rw (eq-eqb b 43 e, sub-one (suc (length s)), take-length s)
-
-pub no_plus : (w : ℕ) (s : List ℕ) → 0 < length s → (get_or s 0 0 ≡ 43 → ⊥) → digits_below w (without_plus s) ≡ digits_below w s
-no_plus w [] h e = absurd (omega arith)
-no_plus w (b ∷ s) h e = rw (ne_eqb b 43 e)
-
-pub nothing : (w : ℕ) (s : List ℕ) → length s ≡ 0 → digits_below w (without_plus s) ≡ none
-nothing w [] h = empty w [] h
-nothing w (b ∷ s) h = absurd (omega arith)

@@ -70,3 +70,12 @@ drop_part s a = take_all (length s - a) (drop a s) (simp length-drop (omega arit
 
 pub part_length : (s : List ℕ) (a : ℕ) → length (take (length s - a) (drop a s)) ≡ length s - a
 part_length s a = ap length (drop_part s a) ∙ length-drop a s
+
+-- a run stops at the first byte that fails, and goes on past one that passes
+pub span_hit : (p : ℕ → Bool) (b : ℕ) (s : List ℕ) → p b ≡ false → span p (b ∷ s) ≡ 0
+unfolding span
+span_hit p b s e = rw e
+
+pub span_miss : (p : ℕ → Bool) (b : ℕ) (s : List ℕ) → p b ≡ true → span p (b ∷ s) ≡ span p s + 1
+unfolding span
+span_miss p b s e = rw e (omega arith)

@@ -1,30 +1,34 @@
--- Blanks at both ends: the loop from the end, and where the trimmed text stands. Assumes nothing.
+-- Blanks at both ends: where the text ends, and where the trimmed text stands. Assumes nothing.
 use Prim.Native.Nat.{ℕ, zero, suc, ◌+◌, ◌-◌, ◌≤◌, ◌<◌}
 use native.Mathlib.Nat.{suc-sub-suc, sub-zero, zero-sub}
-use native.Mathlib.Numerals.{sub-one}
 use native.Mathlib.Omega.{arith}
 use mathlib.Core.Path.{◌≡◌, sym, ap, ◌∙◌}
 use mathlib.Core.Bool.{Bool, true, false}
 use mathlib.Core.List.{List, [], ◌∷◌, reverse, reverse-append}
 use lib.ListN.{length, get_or, take, drop, length-drop, length-take}
-use lib.Seq.{take-suc, take-nil, take-take, drop-drop, length-take-le}
+use lib.Seq.{take-length, take-suc, take-nil, take-take, drop-drop, length-take-le}
+use mathlib.Core.Logic.{◌⊎◌, inl, inr}
+use Rattle.std.proofs.lemmas.Bool.{cases_lt}
 use Rattle.text.specs.Text.{span, is_blank, blanks, text_end, trimmed}
 use Rattle.text.proofs.Runs.{span_le, drop_part}
 
--- e is how many bytes are left
-last : (s : List ℕ) (e : ℕ) → e < length s → reverse (take (suc e) s) ≡ get_or s e 0 ∷ reverse (take e s)
-last s e h = rw (take-suc s e 0 h, reverse-append)
+-- m bytes are left
+last : (s : List ℕ) (m : ℕ) → m < length s → reverse (take (suc m) s) ≡ get_or s m 0 ∷ reverse (take m s)
+last s m h = rw (take-suc s m 0 h, reverse-append)
 
-module _ (p : ℕ → Bool) (s : List ℕ) where
-  pub end_stop : (e : ℕ) → 0 < e → e ≤ length s → p (get_or s (e - 1) 0) ≡ false → e - span p (reverse (take e s)) ≡ e
+-- the bytes from `e` on pass, and the one before them does not
+module _ (p : ℕ → Bool) (s : List ℕ) (e : ℕ) (stop : (k : ℕ) → k + 1 ≡ e → p (get_or s k 0) ≡ false) where
+  end_of : (m : ℕ) → e ≤ m → m ≤ length s → ((k : ℕ) → e ≤ k → k < m → p (get_or s k 0) ≡ true) → m - span p (reverse (take m s)) ≡ e
   unfolding span
-  end_stop zero h l q = absurd (omega arith)
-  end_stop (suc e) h l q = rw (last s e l, rw sub-one at q, sub-zero)
+  end_of zero h l f = rw zero-sub (omega arith)
+  end_of (suc m) h l f = by (cases_lt m e) (λ q. end_of m q (omega arith) (λ k a b. f k a (omega arith)))
+    where
+      by : (m < e) ⊎ (e ≤ m) → (e ≤ m → m - span p (reverse (take m s)) ≡ e) → suc m - span p (reverse (take (suc m) s)) ≡ e
+      by (inl q) more = rw (last s m l, stop m (omega arith), sub-zero) (omega arith)
+      by (inr q) more = rw (last s m l, f m q (omega arith), suc-sub-suc) (more q)
 
-  pub end_next : (e : ℕ) → 0 < e → e ≤ length s → p (get_or s (e - 1) 0) ≡ true → e - span p (reverse (take e s)) ≡ e - 1 - span p (reverse (take (e - 1) s))
-  unfolding span
-  end_next zero h l q = absurd (omega arith)
-  end_next (suc e) h l q = rw (last s e l, sub-one (suc e), rw sub-one at q, suc-sub-suc)
+  pub end_is : e ≤ length s → ((k : ℕ) → e ≤ k → k < length s → p (get_or s k 0) ≡ true) → e ≡ length s - span p (reverse s)
+  end_is h f = sym (rw take-length at (end_of (length s) h (omega arith) f))
 
 -- what `trim` returns, as its two calls say it
 pub trim_part : (s : List ℕ) (a e : ℕ) → a ≡ blanks s → e ≡ text_end (take (length s - a) (drop a s)) → take e (take (length s - a) (drop a s)) ≡ trimmed s

@@ -69,10 +69,6 @@ module _ (p : ℕ → Bool) (s : List ℕ) (at n : ℕ) (h : at ≤ length s) (h
   pub segment_fits : at + n ≤ length s
   segment_fits = omega (arith, span_le (λ b. not (p b)) (take (length s - at) (drop at s)), length-take (length s - at) (drop at s), length-drop at s)
 
--- what `first_word` answers, as its two calls say it
-pub word_span_lem : (s : List ℕ) (a n : ℕ) → a ≡ blanks s → n ≡ span (λ b. not (is_blank b)) (take (length s - a) (drop a s)) → record { start = a; length = n } ≡ word_span s
-word_span_lem s a n p q = rw (q, drop_part s a, p)
-
 -- ---- words
 
 -- the bytes up to the first blank are the first segment, and the words after them are those of the other segments

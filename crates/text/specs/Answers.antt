@@ -1,17 +1,12 @@
 -- The refusals that every reading of a text shares, and the answers of look-ups.
 -- Document 01, "Turned back": 1 for a "given text or block over 8,192 bytes", 2 for a "block, or value given alone, not of this form".
-use Rattle.std.specs.Prelude.{ℕ, Bool, not, List, length, ltb}
-use Rattle.std.proofs.Math.Option.{Option, none, some}
+use Rattle.std.specs.Prelude.{ℕ, Bool, not, List, length, ltb, Err, None, Ok, Option, Result, Some}
 use Rattle.limits.specs.Limits.{LimitSet}
-use Rattle.limits.specs.Outcome.{Outcome, refused, given, cause_if, or_else}
+use Rattle.limits.specs.Outcome.{cause_if, or_else}
 use Rattle.limits.specs.declared.Refusal.{Refusal}
 use Rattle.limits.specs.declared.Refusal.TheVariants.{TextTooLong, Malformed}
 use Rattle.text.specs.Text.{is_value, all, Piece}
 use Rattle.text.specs.declared.Span.{Span}
-use Rattle.text.specs.declared.Lookup.{Lookup}
-use Rattle.text.specs.declared.Lookup.TheVariants as lookup
-use Rattle.text.specs.declared.Next.{Next}
-use Rattle.text.specs.declared.Next.TheVariants as next
 
 abbrev pub too_long : LimitSet → List ℕ → Bool
 too_long L s = ltb L.text (length s)
@@ -34,12 +29,12 @@ abbrev pub span_of : Piece → Span
 span_of p = record { start = p.place; length = length p.text }
 
 -- the answers of look-ups, case by case
-abbrev pub lookup_of : Outcome (Option Piece) → Lookup
-lookup_of (refused cause) = lookup.Refused cause
-lookup_of (given none) = lookup.Nothing
-lookup_of (given (some p)) = lookup.At (span_of p)
+abbrev pub lookup_of : Result (Option Piece) Refusal → Result (Option Span) Refusal
+lookup_of (Err cause) = Err cause
+lookup_of (Ok None) = Ok None
+lookup_of (Ok (Some p)) = Ok (Some (span_of p))
 
-abbrev pub next_of : Outcome (Option Stop) → Next
-next_of (refused cause) = next.Refused cause
-next_of (given none) = next.Nothing
-next_of (given (some p)) = next.At (span_of p.piece) p.next
+abbrev pub next_of : Result (Option Stop) Refusal → Result (Option (Span × ℕ)) Refusal
+next_of (Err cause) = Err cause
+next_of (Ok None) = Ok None
+next_of (Ok (Some p)) = Ok (Some (span_of p.piece, p.next))

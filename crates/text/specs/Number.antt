@@ -1,10 +1,7 @@
 -- What a run of bytes says as a decimal number below a bound; the bound is a power of two, so each reading has a width.
 -- Document 01, "CSeq": read "as Rust reads u32: one `+` and leading zeros allowed".
-use Rattle.std.specs.Prelude.{ℕ, ◌+◌, ◌-◌, ◌*◌, ◌^◌, Bool, true, false, cond, ◌&&◌, List, [], ◌∷◌, length, ltb, eqb}
-use Rattle.std.proofs.Math.Option.{Option, none, some}
+use Rattle.std.specs.Prelude.{ℕ, ◌+◌, ◌-◌, ◌*◌, ◌^◌, Bool, true, false, cond, ◌&&◌, List, [], ◌∷◌, length, ltb, eqb, None, Option, Some}
 use Rattle.text.specs.Text.{is_digit, all}
-use Rattle.text.specs.declared.number.Number.{Number}
-use Rattle.text.specs.declared.number.Number.TheVariants.{Value, Unreadable}
 
 -- the number that digits say, the most significant first
 unfoldable pub value : List ℕ → ℕ
@@ -17,7 +14,7 @@ non_empty (b ∷ s) = true
 
 -- at least one digit, nothing else, and a value below the bound
 unfoldable pub digits_below : ℕ → List ℕ → Option ℕ
-digits_below bound s = cond (non_empty s && (all is_digit s && ltb (value s) bound)) (some (value s)) none
+digits_below bound s = cond (non_empty s && (all is_digit s && ltb (value s) bound)) (Some (value s)) None
 
 -- digits alone, of a width in bits
 abbrev pub read_digits : ℕ → List ℕ → Option ℕ
@@ -32,6 +29,6 @@ abbrev pub read_number : ℕ → List ℕ → Option ℕ
 read_number width s = read_digits width (without_plus s)
 
 -- the answer of a number reading
-abbrev pub number_from : Option ℕ → Number
-number_from none = Unreadable
-number_from (some n) = Value n
+abbrev pub number_from : Option ℕ → Option ℕ
+number_from None = None
+number_from (Some n) = Some n

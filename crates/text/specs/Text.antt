@@ -1,8 +1,7 @@
 -- Texts as lists of bytes: classes of bytes, runs, blanks at both ends, letter case, segments and words.
 -- Document 01, "Block": "values of bytes 9 and 32 to 126, space and tab trimmed at both ends"; the Rust's `trim` and
 -- `split_whitespace` see no other white space in such bytes.
-use Rattle.std.specs.Prelude.{ℕ, suc, ◌+◌, ◌-◌, Bool, true, false, cond, not, ◌&&◌, ◌||◌, List, [], ◌∷◌, reverse, length, take, drop, leb, eqb}
-use Rattle.std.proofs.Math.Option.{Option, none, some}
+use Rattle.std.specs.Prelude.{ℕ, suc, ◌+◌, ◌-◌, Bool, true, false, cond, not, ◌&&◌, ◌||◌, List, [], ◌∷◌, reverse, length, take, drop, leb, eqb, None, Option, Some}
 use Rattle.text.specs.declared.Span.{Span}
 
 -- ---- classes of bytes
@@ -94,8 +93,8 @@ abbrev pub moved_piece : ℕ → Piece → Piece
 moved_piece at p = record { place = at + p.place; text = p.text }
 
 abbrev pub moved : ℕ → Option Piece → Option Piece
-moved at none = none
-moved at (some p) = some (moved_piece at p)
+moved at None = None
+moved at (Some p) = Some (moved_piece at p)
 
 -- a text that stands at `at`, without the blanks at both ends
 abbrev pub trimmed_piece : ℕ → List ℕ → Piece

@@ -8,33 +8,20 @@ ghost use Rattle.text.specs.Answers.{too_long, value_cause};
 ghost use Rattle.text.specs.Text.{within, is_blank, is_value, other, span, all, blanks, text_end, trimmed, trimmed_span, lower, same, equal, word_span};
 ghost use Rattle.text.specs.Spans.{part_in, PartWithin};
 
-use limits::{Check, Limits, Refusal};
+use class::{Blank, Dark, Other, Value, Visible};
+use limits::{Limits, Refusal};
 
+mod class;
 mod number;
 
-pub use number::{Number, digits_below, digits_u32, read_u32};
+pub use class::{ByteClass, run_length};
+pub use number::{digits_below, digits_u32, read_u32};
 
 // Where a part of a text stands: its first place and its length.
 #[derive(Clone, Copy)]
 pub struct Span {
     pub start: usize,
     pub length: usize,
-}
-
-// What a look-up answers: where a text stands, that there is none, or why it was refused.
-#[derive(Clone, Copy)]
-pub enum Lookup {
-    At(Span),
-    Nothing,
-    Refused(Refusal),
-}
-
-// The same of the next text from a place on, with the place from which to ask for the one after it.
-#[derive(Clone, Copy)]
-pub enum Next {
-    At(Span, usize),
-    Nothing,
-    Refused(Refusal),
 }
 
 // Whether a text is longer than may be given.
@@ -45,16 +32,16 @@ pub fn too_long(s: &[u8]) -> bool
 }
 
 // The check of a value that is given alone: 1, 2.
-pub fn check_value(s: &[u8]) -> Check
+pub fn check_value(s: &[u8]) -> Result<(), Refusal>
     ensures { result ≡ check_of (value_cause rust_limits s.now) }
 {
     if too_long(s) {
-        return Check::Refused(Refusal::TextTooLong);
+        return Err(Refusal::TextTooLong);
     }
     if !all_value(s) {
-        return Check::Refused(Refusal::Malformed);
+        return Err(Refusal::Malformed);
     }
-    Check::Passed
+    Ok(())
 }
 
 pub fn is_blank(b: u8) -> bool
@@ -87,13 +74,7 @@ pub fn is_value(b: u8) -> bool
 pub fn to_lower(b: u8) -> u8
     ensures { result ≡ lower b }
 {
-    if b < 65 {
-        return b;
-    }
-    if 90 < b {
-        return b;
-    }
-    b + 32
+    b.to_ascii_lowercase()
 }
 
 // The index of the first x, or the length where there is none.
@@ -101,14 +82,7 @@ pub fn find(s: &[u8], x: u8) -> usize
     ensures value { result ≡ span (other x) s.now }
     ensures upper_bound { result ≤ length s.now }
 {
-    let mut i = 0;
-    while i < s.len() {
-        if s[i] == x {
-            return i;
-        }
-        i += 1;
-    }
-    i
+    run_length(s, &Other { byte: x })
 }
 
 // How many bytes that a value may have stand first.
@@ -116,29 +90,9 @@ pub fn value_length(s: &[u8]) -> usize
     ensures value { result ≡ span is_value s.now }
     ensures upper_bound { result ≤ length s.now }
 {
-    let mut i = visible_length(s);
-    while i < s.len() {
-        if !is_value(s[i]) {
-            return i;
-        }
-        i += 1;
-    }
-    i
-}
-
-// How many bytes that are no tabs and that a value may have stand first.
-fn visible_length(s: &[u8]) -> usize
-    ensures value { result ≡ span (within 32 126) s.now }
-    ensures upper_bound { result ≤ length s.now }
-{
-    let mut i = 0;
-    while i < s.len() {
-        if !in_range(s[i], 32, 126) {
-            return i;
-        }
-        i += 1;
-    }
-    i
+    // Tabs are rare: the first run is one test a byte.
+    let n = run_length(s, &Visible {});
+    n + run_length(&s[n..], &Value {})
 }
 
 // Whether a value may have each of these bytes.
@@ -154,14 +108,7 @@ pub fn leading(s: &[u8]) -> usize
     ensures value { result ≡ blanks s.now }
     ensures upper_bound { result ≤ length s.now }
 {
-    let mut i = 0;
-    while i < s.len() {
-        if !is_blank(s[i]) {
-            return i;
-        }
-        i += 1;
-    }
-    i
+    run_length(s, &Blank {})
 }
 
 // The length without the blanks that stand last.
@@ -169,14 +116,10 @@ fn text_end(s: &[u8]) -> usize
     ensures value { result ≡ text_end s.now }
     ensures upper_bound { result ≤ length s.now }
 {
-    let mut e = s.len();
-    while 0 < e {
-        if !is_blank(s[e - 1]) {
-            return e;
-        }
-        e -= 1;
+    match s.iter().rposition(|&b| !is_blank(b)) {
+        Some(last) => last + 1,
+        None => 0,
     }
-    0
 }
 
 // The bytes without the blanks at both ends, as a part of the caller's.
@@ -202,28 +145,13 @@ pub fn trim_span(s: &[u8]) -> Span
     }
 }
 
-// How many bytes that are no blanks stand first.
-fn word_length(s: &[u8]) -> usize
-    ensures value { result ≡ span (λ b. not (is_blank b)) s.now }
-    ensures upper_bound { result ≤ length s.now }
-{
-    let mut i = 0;
-    while i < s.len() {
-        if is_blank(s[i]) {
-            return i;
-        }
-        i += 1;
-    }
-    i
-}
-
 // The first word, empty where there is none.
 pub fn first_word(s: &[u8]) -> Span
     ensures value { result ≡ word_span s.now }
     ensures length_in_bounds { result.start + result.length ≤ length s.now }
 {
     let a = leading(s);
-    let n = word_length(&s[a..]);
+    let n = run_length(&s[a..], &Dark {});
     Span {
         start: a,
         length: n,
@@ -234,44 +162,14 @@ pub fn first_word(s: &[u8]) -> Span
 pub fn same_text(a: &[u8], b: &[u8]) -> bool
     ensures { result ≡ same a.now b.now }
 {
-    if a.len() != b.len() {
-        return false;
-    }
-    let mut i = 0;
-    while i < a.len() {
-        if !same_byte(a[i], b[i]) {
-            return false;
-        }
-        i += 1;
-    }
-    true
-}
-
-// The same byte, letter case ignored.
-fn same_byte(x: u8, y: u8) -> bool
-    ensures { result ≡ eqb (lower x) (lower y) }
-{
-    if x == y {
-        return true;
-    }
-    to_lower(x) == to_lower(y)
+    a.eq_ignore_ascii_case(b)
 }
 
 // The same bytes.
 pub fn equal_text(a: &[u8], b: &[u8]) -> bool
     ensures { result ≡ equal a.now b.now }
 {
-    if a.len() != b.len() {
-        return false;
-    }
-    let mut i = 0;
-    while i < a.len() {
-        if a[i] != b[i] {
-            return false;
-        }
-        i += 1;
-    }
-    true
+    a == b
 }
 
 // The bytes that a span names.

@@ -5,10 +5,10 @@ use native.Mathlib.Omega.{arith}
 use mathlib.Core.Path.{◌≡◌, refl, sym, ap, ◌∙◌}
 use mathlib.Core.Bool.{Bool, true, false}
 use mathlib.Core.List.{List}
-use mathlib.Core.Option.{none, some}
 use lib.ListN.{length, take, drop, length-take}
 use lib.Seq.{take-take, drop-drop}
 use borrow.Author.Tests.{lt-ltb, le-ltb, ltb-true, ltb-false}
+use Rattle.std.specs.Prelude.{None, Some}
 use Rattle.text.specs.Text.{span, other, blanks, trimmed, trimmed_span, Piece}
 use Rattle.text.specs.Answers.{span_of}
 use Rattle.text.specs.declared.Span.{Span}
@@ -28,7 +28,7 @@ behind v k = ap (drop k) (sym (trimmed_is v)) ∙ drop_take k (length (trimmed v
 
 -- no `<`: up to the first `;`
 plain_cut : (v : List ℕ) (n m : ℕ) → n ≡ span (other 60) (trimmed v) → length (trimmed v) ≤ n → m ≡ span (other 59) (trimmed v)
-    → uri_text v ≡ some (trimmed_piece (blanks v) (take m (drop (blanks v) v)))
+    → uri_text v ≡ Some (trimmed_piece (blanks v) (take m (drop (blanks v) v)))
 unfolding cut_uri
 plain_cut v n m hn h hm =
     let k : m ≤ length (trimmed v) = rw hm (span_le (other 59) (trimmed v)) in
@@ -51,11 +51,11 @@ trimmed_there v at n p e = rw (rw add-sub_cancel_left at e)
 
 -- of the k bytes from `at` on, n stand before the first `>`
 module _ (v : List ℕ) (at k n : ℕ) (hn : n ≡ span (other 62) (take k (drop at v))) where
-  pub unclosed : length (take k (drop at v)) ≤ n → in_brackets at (take k (drop at v)) ≡ none
+  pub unclosed : length (take k (drop at v)) ≤ n → in_brackets at (take k (drop at v)) ≡ None
   unfolding in_brackets
   unclosed h = rw (← hn, le-ltb n (length (take k (drop at v))) h)
 
-  pub closed : n < length (take k (drop at v)) → in_brackets at (take k (drop at v)) ≡ some (trimmed_piece at (take n (drop at v)))
+  pub closed : n < length (take k (drop at v)) → in_brackets at (take k (drop at v)) ≡ Some (trimmed_piece at (take n (drop at v)))
   unfolding in_brackets
   closed h =
       let l : n ≤ k = omega (arith, length-take k (drop at v)) in
@@ -77,7 +77,7 @@ module _ (v : List ℕ) (p : Span) (hp : p ≡ trimmed_span v) where
 
     -- there is none, and m bytes stand before the first `;`
     pub plain : (m : ℕ) → length (take (p.start + p.length - p.start) (drop p.start v)) ≤ n → m ≡ span (other 59) (take (p.start + p.length - p.start) (drop p.start v))
-        → uri_text v ≡ some (trimmed_piece p.start (take m (drop p.start v)))
+        → uri_text v ≡ Some (trimmed_piece p.start (take m (drop p.start v)))
     plain m h hm = rw (plain_cut v n m (rw whole at hn) (rw whole at h) (rw whole at hm), hp)
 
 -- ---- where the text stands
@@ -90,7 +90,7 @@ pub record Stands (v : List ℕ) (p : Piece) : Type 0 where
 trimmed_stands : (v : List ℕ) (at n : ℕ) → at ≤ length v → Stands v (trimmed_piece at (take n (drop at v)))
 trimmed_stands v at n h = record { fits = trimmed_at v at n h; bytes = trimmed_part v at n }
 
-in_stands : (v : List ℕ) (at k : ℕ) {p : Piece} → at ≤ length v → in_brackets at (take k (drop at v)) ≡ some p → Stands v p
+in_stands : (v : List ℕ) (at k : ℕ) {p : Piece} → at ≤ length v → in_brackets at (take k (drop at v)) ≡ Some p → Stands v p
 in_stands v at k {p} h e = by (has 62 (take k (drop at v))) refl
   where
     n : ℕ
@@ -103,7 +103,7 @@ in_stands v at k {p} h e = by (has 62 (take k (drop at v))) refl
     by false g = absurd (let z : ◌≡◌ {A = ℕ} 0 1 = cc (unclosed v at k n refl (ltb-false _ _ g)) in omega arith)
 
 -- the text that is read as the URI stands in the value
-pub text_stands : (v : List ℕ) {p : Piece} → uri_text v ≡ some p → Stands v p
+pub text_stands : (v : List ℕ) {p : Piece} → uri_text v ≡ Some p → Stands v p
 text_stands v {p} e = by (has 60 (trimmed v)) refl
   where
     n : ℕ

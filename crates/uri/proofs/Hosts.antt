@@ -10,6 +10,7 @@ use lib.ListN.{length, take, drop, get_or, length-take, drop_of_length-le}
 use lib.Seq.{take_all, take-take, length-take-le, get_or-take, drop-cons}
 use lib.Dec.{eqb, ltb}
 use borrow.Author.Tests.{lt-ltb, le-ltb, ltb-true, eqb-true, not-true, not-false}
+use Rattle.std.specs.Prelude.{None, Some}
 use Rattle.text.specs.Text.{span, all, other}
 use Rattle.text.specs.Number.{non_empty}
 use Rattle.text.proofs.Runs.{span_le}
@@ -19,7 +20,6 @@ use Rattle.uri_bytes.proofs.Bytes.{host_uri, host_goes_on, address_uri}
 use Rattle.uri_bytes.proofs.Spans.{span_passes, span_ends, span_until, span_longer, all_before, all_fails, all_split, all_weaker}
 use Rattle.uri.specs.SipUri.{begins, host_text, is_bracketed, is_host_text}
 use Rattle.uri.specs.Steps.{host_from}
-use Rattle.uri.specs.declared.authority.Host.TheVariants.{Length, Unreadable}
 
 -- ---- first bytes
 
@@ -53,7 +53,7 @@ filled (b ∷ s) h = refl
 
 -- ---- a name
 
-pub no_host : (s : List ℕ) → length s ≡ 0 → Unreadable ≡ host_from (host_text s)
+pub no_host : (s : List ℕ) → length s ≡ 0 → None ≡ host_from (host_text s)
 unfolding host_text is_host_text span
 no_host [] h = refl
 no_host (b ∷ s) h = absurd (omega arith)
@@ -68,13 +68,13 @@ module _ (s : List ℕ) (n : ℕ) (e : begins 91 s ≡ false) (hn : n ≡ span (
   unfolding is_host_text
   name_test = rw (begins_none 91 n s e)
 
-  name_empty : n ≡ 0 → Unreadable ≡ host_from (host_text s)
+  name_empty : n ≡ 0 → None ≡ host_from (host_text s)
   name_empty z = rw (name_text, name_test, z)
 
-  name_bad : all is_host (take n s) ≡ false → Unreadable ≡ host_from (host_text s)
+  name_bad : all is_host (take n s) ≡ false → None ≡ host_from (host_text s)
   name_bad f = rw (name_text, name_test, f, and-false (non_empty (take n s)))
 
-  name_good : (n ≡ 0 → ⊥) → n ≤ length s → all is_host (take n s) ≡ true → Length n ≡ host_from (host_text s)
+  name_good : (n ≡ 0 → ⊥) → n ≤ length s → all is_host (take n s) ≡ true → Some n ≡ host_from (host_text s)
   name_good z h f =
       let k : length (take n s) ≡ n = length-take-le n s h in
       rw (name_text, name_test, f, filled (take n s) (omega arith), k)
@@ -89,11 +89,11 @@ module _ (s : List ℕ) (n : ℕ) (e : begins 91 s ≡ false) (hn : n ≡ span i
   unfolding stop
   reached = rw hn (span_longer is_host (λ b. not (ends_host b)) host_goes_on s)
 
-  good : n ≡ stop → (n ≡ 0 → ⊥) → n ≤ length s → Length n ≡ host_from (host_text s)
+  good : n ≡ stop → (n ≡ 0 → ⊥) → n ≤ length s → Some n ≡ host_from (host_text s)
   unfolding stop
   good h z k = name_good s n e h z k (all_before is_host s n (omega arith))
 
-  pub name_whole : n ≡ length s → (n ≡ 0 → ⊥) → Length n ≡ host_from (host_text s)
+  pub name_whole : n ≡ length s → (n ≡ 0 → ⊥) → Some n ≡ host_from (host_text s)
   unfolding stop
   name_whole h z = good (omega (arith, reached, span_le (λ b. not (ends_host b)) s)) z (omega arith)
 
@@ -103,15 +103,15 @@ module _ (s : List ℕ) (n : ℕ) (e : begins 91 s ≡ false) (hn : n ≡ span i
     unfolding stop
     stops = omega (arith, reached, span_until (λ b. not (ends_host b)) s n (ap not f))
 
-    pub name_none : n ≡ 0 → Unreadable ≡ host_from (host_text s)
+    pub name_none : n ≡ 0 → None ≡ host_from (host_text s)
     unfolding stop
     name_none z = name_empty s n e stops z
 
-    pub name_ended : (n ≡ 0 → ⊥) → n ≤ length s → Length n ≡ host_from (host_text s)
+    pub name_ended : (n ≡ 0 → ⊥) → n ≤ length s → Some n ≡ host_from (host_text s)
     name_ended z k = good stops z k
 
   -- it doesn't, and no host has it
-  pub name_broken : n < length s → ends_host (get_or s n 0) ≡ false → Unreadable ≡ host_from (host_text s)
+  pub name_broken : n < length s → ends_host (get_or s n 0) ≡ false → None ≡ host_from (host_text s)
   unfolding stop
   name_broken h f = name_bad s stop e refl (all_fails is_host (take stop s) n (omega (arith, after, length-take stop s)) (rw (get_or-take stop s n 0 after, hn) (span_ends is_host s (rw (← hn) h))))
     where
@@ -134,7 +134,7 @@ module _ (s : List ℕ) (n : ℕ) (e : begins 91 s ≡ true) (hn : n ≡ span (o
   bracket_test = rw (add-one n, begins_take 91 n s, e)
 
   -- there is none
-  pub bracket_open : n ≡ length s → Unreadable ≡ host_from (host_text s)
+  pub bracket_open : n ≡ length s → None ≡ host_from (host_text s)
   unfolding is_bracketed
   bracket_open h =
       let k : 0 < length s = begins_some 91 s e in
@@ -143,7 +143,7 @@ module _ (s : List ℕ) (n : ℕ) (e : begins 91 s ≡ true) (hn : n ≡ span (o
       rw (bracket_text, bracket_test, l, z, and-false)
 
   -- nothing stands between them
-  pub bracket_short : n < 2 → Unreadable ≡ host_from (host_text s)
+  pub bracket_short : n < 2 → None ≡ host_from (host_text s)
   unfolding is_bracketed
   bracket_short h = rw (bracket_text, bracket_test, le-ltb 2 (length (take (n + 1) s)) (omega (arith, length-take (n + 1) s)))
 
@@ -157,10 +157,10 @@ module _ (s : List ℕ) (n : ℕ) (e : begins 91 s ≡ true) (hn : n ≡ span (o
       let z : eqb (get_or (take (n + 1) s) n 0) 93 ≡ true = rw (get_or-take (n + 1) s n 0 (omega arith), hn) (not-false _ (span_ends (other 93) s (rw (← hn) k))) in
       rw (bracket_text, bracket_test, l, i, z, j, lt-ltb 2 (n + 1) (omega arith), drop_take 1 (n + 1) s, i, take-take (n - 1) n (drop 1 s) (omega arith))
 
-  pub bracket_bad : 2 ≤ n → n < length s → all is_address (take (n - 1) (drop 1 s)) ≡ false → Unreadable ≡ host_from (host_text s)
+  pub bracket_bad : 2 ≤ n → n < length s → all is_address (take (n - 1) (drop 1 s)) ≡ false → None ≡ host_from (host_text s)
   bracket_bad h k f = rw (bracket_is h k, f)
 
-  pub bracket_good : 2 ≤ n → n < length s → all is_address (take (n - 1) (drop 1 s)) ≡ true → Length (n + 1) ≡ host_from (host_text s)
+  pub bracket_good : 2 ≤ n → n < length s → all is_address (take (n - 1) (drop 1 s)) ≡ true → Some (n + 1) ≡ host_from (host_text s)
   bracket_good h k f = rw (bracket_is h k, f, bracket_text, length-take-le (n + 1) s (omega arith))
 
 -- ---- the bytes of a host stand first, and are bytes of a URI

@@ -4,11 +4,11 @@ use native.Mathlib.Omega.{arith}
 use mathlib.Core.Path.{◌≡◌, refl, sym, ap, ap₂, subst, ◌∙◌}
 use mathlib.Core.Bool.{Bool, true, false, cond, not, ◌&&◌, true≢false}
 use mathlib.Core.List.{List, [], ◌∷◌}
-use mathlib.Core.Option.{Option, none, some}
 use lib.ListN.{length, take, drop, get_or, length-take, length-drop}
 use lib.Seq.{length-take-le, drop-drop}
 use lib.Dec.{eqb}
 use borrow.Author.Tests.{lt-ltb, le-ltb, eq-eqb, ne_eqb}
+use Rattle.std.specs.Prelude.{None, Option, Some}
 use Rattle.text.specs.Text.{span, all, other, alike, same, lower, Piece}
 use Rattle.text.specs.Answers.{span_of}
 use Rattle.text.specs.declared.Span.{Span}
@@ -23,13 +23,6 @@ use Rattle.uri_bytes.proofs.Bytes.{alike_uri}
 use Rattle.uri_bytes.proofs.Spans.{span_ends, span_until, span_longer, all_before, all_fails, all_split}
 use Rattle.uri.specs.SipUri.{sip, sips, is_host_text, host_text, port_of, with_port, with_host, with_user, with_scheme, sip_uri, UriParts, uri_from}
 use Rattle.uri.specs.Steps.{host_from, InsideHost, after_host_from, piece_in, scheme_length, of_uri, UserStep}
-use Rattle.uri.specs.declared.Port.{Port}
-use Rattle.uri.specs.declared.Uri.TheVariants as uri
-use Rattle.uri.specs.declared.User.{User}
-use Rattle.uri.specs.declared.User.TheVariants as user
-use Rattle.uri.specs.declared.authority.Host.{Host}
-use Rattle.uri.specs.declared.authority.Host.TheVariants as host
-use Rattle.uri.specs.declared.authority.AfterHost.TheVariants as after
 
 -- the part from `at` to the end, as the code has it
 abbrev pub part : List ℕ → ℕ → List ℕ
@@ -63,10 +56,10 @@ pub starts_fits : (s head : List ℕ) → same (take (length head) s) head ≡ t
 starts_fits s head e = omega (arith, same_lengths lower (take (length head) s) head e, length-take (length head) s)
 
 -- what is not read of bytes is not read of a URI's
-pub unread_of : (s : List ℕ) → of_uri s none ≡ none
+pub unread_of : (s : List ℕ) → of_uri s None ≡ None
 unread_of s = by (all is_uri s)
   where
-    by : (t : Bool) → ◌≡◌ {A = Option UriParts} (cond t none none) none
+    by : (t : Bool) → ◌≡◌ {A = Option UriParts} (cond t None None) None
     by true = refl
     by false = refl
 
@@ -84,11 +77,11 @@ module _ (s : List ℕ) where
         by false e true f = starts_fits s sips f
         by false e false f = omega arith
 
-    pub scheme_none : n ≡ 0 → sip_uri s ≡ none
+    pub scheme_none : n ≡ 0 → sip_uri s ≡ None
     unfolding sip_uri with_scheme
     scheme_none z = by (same (take 4 s) sip) refl (same (take 5 s) sips) refl
       where
-        by : (t : Bool) → same (take 4 s) sip ≡ t → (u : Bool) → same (take 5 s) sips ≡ u → sip_uri s ≡ none
+        by : (t : Bool) → same (take 4 s) sip ≡ t → (u : Bool) → same (take 5 s) sips ≡ u → sip_uri s ≡ None
         by true e u f = absurd (let k : n ≡ 4 = hn ∙ ap (λ (x : Bool). cond x 4 (cond (same (take 5 s) sips) 5 0)) e in omega arith)
         by false e true f = absurd (let k : n ≡ 5 = rw (e, f) at hn in omega arith)
         by false e false f = rw (e, f) (unread_of s)
@@ -118,7 +111,7 @@ module _ (secure : Bool) (s : List ℕ) (at n : ℕ) (hn : n ≡ span (other 64)
     inside : n < length (drop at s)
     inside = rw drop_part at h
 
-    pub empty_user : n ≡ 0 → with_user secure at (drop at s) ≡ none
+    pub empty_user : n ≡ 0 → with_user secure at (drop at s) ≡ None
     unfolding with_user
     empty_user z = rw (← run, lt-ltb n (length (drop at s)) inside, le-ltb 0 n (omega arith))
 
@@ -140,14 +133,14 @@ module _ (s : List ℕ) (at n : ℕ) (hn : n ≡ span (in_class class.User) (par
   no_at = rw hn (span_longer (in_class class.User) (other 64) of_user (part s at))
 
   -- there is no `@`
-  pub step_whole : at ≤ length s → n ≡ length (part s at) → UserStep s at (user.Before (record { start = at; length = 0 }) at)
+  pub step_whole : at ≤ length s → n ≡ length (part s at) → UserStep s at (Some (record { start = at; length = 0 }, at))
   step_whole h e =
       let k : n ≡ span (other 64) (part s at) = omega (arith, no_at, span_le (other 64) (part s at)) in
       (h, omega arith, λ secure. ap (of_uri (drop at s)) (sym (no_user secure s at n k e)))
 
   -- the next byte is one that no URI has
-  pub step_broken : n < length (part s at) → (get_or (part s at) n 0 ≡ 64 → ⊥) → UserStep s at user.Unreadable
-  step_broken h e = λ secure. ap (λ (t : Bool). cond t (with_user secure at (drop at s)) none) (rw drop_part at (all_fails is_uri (part s at) n h bad))
+  pub step_broken : n < length (part s at) → (get_or (part s at) n 0 ≡ 64 → ⊥) → UserStep s at None
+  step_broken h e = λ secure. ap (λ (t : Bool). cond t (with_user secure at (drop at s)) None) (rw drop_part at (all_fails is_uri (part s at) n h bad))
     where
       stops : in_class class.User (get_or (part s at) n 0) ≡ false
       stops = rw hn (span_ends (in_class class.User) (part s at) (rw (← hn) h))
@@ -160,7 +153,7 @@ module _ (s : List ℕ) (at n : ℕ) (hn : n ≡ span (in_class class.User) (par
     stops_at : n ≡ span (other 64) (part s at)
     stops_at = omega (arith, no_at, span_until (other 64) (part s at) n (ap not (eq-eqb _ _ e)))
 
-    pub step_empty : n ≡ 0 → UserStep s at user.Unreadable
+    pub step_empty : n ≡ 0 → UserStep s at None
     step_empty z = λ secure. ap (of_uri (drop at s)) (empty_user secure s at n stops_at h z) ∙ unread_of (drop at s)
 
     all_uri : all is_uri (take (n + 1) (part s at)) ≡ true
@@ -176,20 +169,20 @@ module _ (s : List ℕ) (at n : ℕ) (hn : n ≡ span (in_class class.User) (par
         let k : at + (n + 1) ≡ at + n + 1 = omega arith in
         rw (all_split is_uri (n + 1) (drop at s), rw drop_part at all_uri, drop-drop (n + 1) at s, k)
 
-    pub step_read : (n ≡ 0 → ⊥) → at ≤ length s → UserStep s at (user.Before (record { start = at; length = n }) (at + n + 1))
+    pub step_read : (n ≡ 0 → ⊥) → at ≤ length s → UserStep s at (Some (record { start = at; length = n }, at + n + 1))
     step_read z l = (
       omega (arith, part_length s at),
       omega (arith, part_length s at),
-      λ secure. ap (λ (t : Bool). cond t (with_user secure at (drop at s)) none) after_at ∙ ap (of_uri (drop (at + n + 1) s)) (sym (some_user secure s at n stops_at h z)),
+      λ secure. ap (λ (t : Bool). cond t (with_user secure at (drop at s)) None) after_at ∙ ap (of_uri (drop (at + n + 1) s)) (sym (some_user secure s at n stops_at h z)),
     )
 
 -- what the answer about the user part says
-pub user_unread : (s : List ℕ) (at : ℕ) (r : User) → UserStep s at r → r ≡ user.Unreadable → (secure : Bool) → of_uri (drop at s) (with_user secure at (drop at s)) ≡ none
-user_unread s at user.Unreadable i e = i
-user_unread s at (user.Before u k) i e = absurd (let z : ◌≡◌ {A = ℕ} 0 1 = cc in omega arith)
+pub user_unread : (s : List ℕ) (at : ℕ) (r : Option (Span × ℕ)) → UserStep s at r → r ≡ None → (secure : Bool) → of_uri (drop at s) (with_user secure at (drop at s)) ≡ None
+user_unread s at None i e = i
+user_unread s at (Some (u, k)) i e = absurd (let z : ◌≡◌ {A = ℕ} 0 1 = cc in omega arith)
 
-module _ (s : List ℕ) (at : ℕ) (r : User) {u : Span} {k : ℕ} (i : UserStep s at r) (e : r ≡ user.Before u k) where
-  told : UserStep s at (user.Before u k)
+module _ (s : List ℕ) (at : ℕ) (r : Option (Span × ℕ)) {u : Span} {k : ℕ} (i : UserStep s at r) (e : r ≡ Some (u, k)) where
+  told : UserStep s at (Some (u, k))
   told = subst (UserStep s at) e i
 
   pub user_inside : (k ≤ length s) × (u.start + u.length ≤ length s)
@@ -201,26 +194,26 @@ module _ (s : List ℕ) (at : ℕ) (r : User) {u : Span} {k : ℕ} (i : UserStep
 -- ---- the host and the port
 
 -- a host that was read stands inside the bytes
-pub host_inside : (s : List ℕ) (r : Host) {n : ℕ} → InsideHost s r → r ≡ host.Length n → n ≤ length s
-host_inside s host.Unreadable {n} i e = absurd (let z : ◌≡◌ {A = ℕ} 0 1 = cc in omega arith)
-host_inside s (host.Length m) {n} i e = let q : m ≡ n = cc in rw (← q) i
+pub host_inside : (s : List ℕ) (r : Option ℕ) {n : ℕ} → InsideHost s r → r ≡ Some n → n ≤ length s
+host_inside s None {n} i e = absurd (let z : ◌≡◌ {A = ℕ} 0 1 = cc in omega arith)
+host_inside s (Some m) {n} i e = let q : m ≡ n = cc in rw (← q) i
 
-host_is : (h : List ℕ) (t : Bool) {n : ℕ} → cond t (host.Length (length h)) host.Unreadable ≡ host.Length n → (t ≡ true) × (length h ≡ n)
+host_is : (h : List ℕ) (t : Bool) {n : ℕ} → cond t (Some (length h)) None ≡ Some n → (t ≡ true) × (length h ≡ n)
 host_is h true e = (refl, cc)
 host_is h false e = absurd (let z : ◌≡◌ {A = ℕ} 0 1 = cc in omega arith)
 
-host_not : (h : List ℕ) (t : Bool) → cond t (host.Length (length h)) host.Unreadable ≡ host.Unreadable → t ≡ false
+host_not : (h : List ℕ) (t : Bool) → cond t (Some (length h)) None ≡ None → t ≡ false
 host_not h true e = absurd (let z : ◌≡◌ {A = ℕ} 0 1 = cc in omega arith)
 host_not h false e = refl
 
-port_not : (secure : Bool) (user host : Piece) (o : Option (Option ℕ)) → after_host_from o ≡ after.Unreadable → with_port secure user host o ≡ none
-port_not secure user host none e = refl
-port_not secure user host (some p) e = absurd (let z : ◌≡◌ {A = ℕ} 0 1 = cc in omega arith)
+port_not : (secure : Bool) (user host : Piece) (o : Option (Option ℕ)) → after_host_from o ≡ None → with_port secure user host o ≡ None
+port_not secure user host None e = refl
+port_not secure user host (Some p) e = absurd (let z : ◌≡◌ {A = ℕ} 0 1 = cc in omega arith)
 
-port_is : (secure : Bool) (user host : Piece) (o : Option (Option ℕ)) (p : Port) → after_host_from o ≡ after.Read p
-    → uri.Read (record { secure = secure; user = span_of user; host = span_of host; port = p }) ≡ uri_from (with_port secure user host o)
-port_is secure user host none p e = absurd (let z : ◌≡◌ {A = ℕ} 0 1 = cc in omega arith)
-port_is secure user host (some q) p e = ap (λ (x : Port). uri.Read (record { secure = secure; user = span_of user; host = span_of host; port = x })) (cc)
+port_is : (secure : Bool) (user host : Piece) (o : Option (Option ℕ)) (p : Option ℕ) → after_host_from o ≡ Some p
+    → Some (record { secure = secure; user = span_of user; host = span_of host; port = p }) ≡ uri_from (with_port secure user host o)
+port_is secure user host None p e = absurd (let z : ◌≡◌ {A = ℕ} 0 1 = cc in omega arith)
+port_is secure user host (Some q) p e = ap (λ (x : Option ℕ). Some (record { secure = secure; user = span_of user; host = span_of host; port = x })) (cc)
 
 -- where the part of s stands that stands there
 pub span_in : (s : List ℕ) (u : Span) → u.start + u.length ≤ length s → span_of (piece_in s u) ≡ u
@@ -230,11 +223,11 @@ abbrev host_piece : ℕ → List ℕ → Piece
 host_piece at s = record { place = at; text = host_text s }
 
 module _ (secure : Bool) (s : List ℕ) (at : ℕ) (user : Span) where
-  pub host_unread : host_from (host_text (part s at)) ≡ host.Unreadable → of_uri (drop at s) (with_host secure (piece_in s user) at (drop at s)) ≡ none
+  pub host_unread : host_from (host_text (part s at)) ≡ None → of_uri (drop at s) (with_host secure (piece_in s user) at (drop at s)) ≡ None
   unfolding with_host
   host_unread e = rw (host_not (host_text (drop at s)) (is_host_text (host_text (drop at s))) (rw (drop_part s at) at e)) (unread_of (drop at s))
 
-  module _ (n : ℕ) (e : host_from (host_text (part s at)) ≡ host.Length n) where
+  module _ (n : ℕ) (e : host_from (host_text (part s at)) ≡ Some n) where
     known : (is_host_text (host_text (drop at s)) ≡ true) × (length (host_text (drop at s)) ≡ n)
     known = host_is (host_text (drop at s)) (is_host_text (host_text (drop at s))) (rw (drop_part s at) at e)
 
@@ -248,15 +241,15 @@ module _ (secure : Bool) (s : List ℕ) (at : ℕ) (user : Span) where
         let k : take n (drop at s) ≡ host_text (drop at s) = rw (← known.1) (host_own (drop at s)) in
         rw (drop_part s at, drop_part (drop at s) n, all_split is_uri n (drop at s), k, host_uris (host_text (drop at s)) known.0)
 
-    pub port_unread : after_host_from (port_of (part (part s at) n)) ≡ after.Unreadable → of_uri (drop at s) (with_host secure (piece_in s user) at (drop at s)) ≡ none
+    pub port_unread : after_host_from (port_of (part (part s at) n)) ≡ None → of_uri (drop at s) (with_host secure (piece_in s user) at (drop at s)) ≡ None
     port_unread f = ap (of_uri (drop at s)) (from_port ∙ port_not secure (piece_in s user) (host_piece at (drop at s)) (port_of (part (part s at) n)) f) ∙ unread_of (drop at s)
 
-    pub tail_bad : all is_uri (part (part s at) n) ≡ false → of_uri (drop at s) (with_host secure (piece_in s user) at (drop at s)) ≡ none
+    pub tail_bad : all is_uri (part (part s at) n) ≡ false → of_uri (drop at s) (with_host secure (piece_in s user) at (drop at s)) ≡ None
     tail_bad f = rw (tail_tells, f)
 
-    pub parts_read : (p : Port) → user.start + user.length ≤ length s → after_host_from (port_of (part (part s at) n)) ≡ after.Read p → all is_uri (part (part s at) n) ≡ true
-        → uri.Read (record { secure = secure; user = user; host = record { start = at; length = n }; port = p }) ≡ uri_from (of_uri (drop at s) (with_host secure (piece_in s user) at (drop at s)))
+    pub parts_read : (p : Option ℕ) → user.start + user.length ≤ length s → after_host_from (port_of (part (part s at) n)) ≡ Some p → all is_uri (part (part s at) n) ≡ true
+        → Some (record { secure = secure; user = user; host = record { start = at; length = n }; port = p }) ≡ uri_from (of_uri (drop at s) (with_host secure (piece_in s user) at (drop at s)))
     parts_read p h f g =
-        ap₂ (λ (u : Span) (k : ℕ). uri.Read (record { secure = secure; user = u; host = record { start = at; length = k }; port = p })) (sym (span_in s user h)) (sym known.1)
+        ap₂ (λ (u : Span) (k : ℕ). Some (record { secure = secure; user = u; host = record { start = at; length = k }; port = p })) (sym (span_in s user h)) (sym known.1)
         ∙ port_is secure (piece_in s user) (host_piece at (drop at s)) (port_of (part (part s at) n)) p f
-        ∙ ap uri_from (sym from_port ∙ sym (ap (λ (t : Bool). cond t (with_host secure (piece_in s user) at (drop at s)) none) (tail_tells ∙ g)))
+        ∙ ap uri_from (sym from_port ∙ sym (ap (λ (t : Bool). cond t (with_host secure (piece_in s user) at (drop at s)) None) (tail_tells ∙ g)))

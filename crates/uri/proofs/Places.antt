@@ -4,11 +4,11 @@ use native.Mathlib.Omega.{arith}
 use mathlib.Core.Path.{◌≡◌, refl}
 use mathlib.Core.Bool.{Bool, true, false, cond, not}
 use mathlib.Core.List.{List, []}
-use mathlib.Core.Option.{Option, none, some}
 use lib.ListN.{length, take, drop, length-take, length-drop}
 use lib.Seq.{drop-drop}
 use lib.Dec.{ltb}
 use borrow.Author.Tests.{ltb-true}
+use Rattle.std.specs.Prelude.{None, Option, Some}
 use Rattle.text.specs.Text.{span, all, other, same, Piece}
 use Rattle.uri_bytes.specs.Bytes.{is_uri, ends_host}
 use Rattle.uri.specs.SipUri.{sip, sips, begins, has, host_text, is_host_text, port_of, UriParts, with_port, with_host, with_user, with_scheme, sip_uri}
@@ -31,17 +31,17 @@ text_stands s at h true f = rw f (front_stands s at (span (other 93) (drop at s)
 text_stands s at h false f = rw f (front_stands s at (span (λ b. not (ends_host b)) (drop at s)) h)
 
 -- nothing was read: there is nothing that stands anywhere
-nothing : {s : List ℕ} {p : UriParts} → none ≡ some p → PartsStand s p
+nothing : {s : List ℕ} {p : UriParts} → None ≡ Some p → PartsStand s p
 nothing e = absurd (let z : ◌≡◌ {A = ℕ} 0 1 = cc in omega arith)
 
 module _ (s : List ℕ) (secure : Bool) {p : UriParts} where
-  port_stands : (user host : Piece) (o : Option (Option ℕ)) → Stands s user → Stands s host → with_port secure user host o ≡ some p → PartsStand s p
-  port_stands user host none i j e = nothing e
-  port_stands user host (some q) i j e =
+  port_stands : (user host : Piece) (o : Option (Option ℕ)) → Stands s user → Stands s host → with_port secure user host o ≡ Some p → PartsStand s p
+  port_stands user host None i j e = nothing e
+  port_stands user host (Some q) i j e =
       let w : record { secure = secure; user = user; host = host; port = q } ≡ p = cc in
       rw (← w) (record { user = i; host = j })
 
-  host_stands : (user : Piece) (at : ℕ) → at ≤ length s → Stands s user → with_host secure user at (drop at s) ≡ some p → PartsStand s p
+  host_stands : (user : Piece) (at : ℕ) → at ≤ length s → Stands s user → with_host secure user at (drop at s) ≡ Some p → PartsStand s p
   unfolding with_host
   host_stands user at h i e = by (is_host_text (host_text (drop at s))) e
     where
@@ -51,11 +51,11 @@ module _ (s : List ℕ) (secure : Bool) {p : UriParts} where
       port : Option (Option ℕ)
       port = port_of (drop (length (host_text (drop at s))) (drop at s))
 
-      by : (t : Bool) → cond t (with_port secure user host port) none ≡ some p → PartsStand s p
+      by : (t : Bool) → cond t (with_port secure user host port) None ≡ Some p → PartsStand s p
       by true e = port_stands user host port i (text_stands s at h (begins 91 (drop at s)) refl) e
       by false e = nothing e
 
-  user_stands : (at : ℕ) → at ≤ length s → with_user secure at (drop at s) ≡ some p → PartsStand s p
+  user_stands : (at : ℕ) → at ≤ length s → with_user secure at (drop at s) ≡ Some p → PartsStand s p
   unfolding with_user
   user_stands at h e = by (has 64 (drop at s)) refl e
     where
@@ -65,29 +65,29 @@ module _ (s : List ℕ) (secure : Bool) {p : UriParts} where
       user : Piece
       user = record { place = at; text = take n (drop at s) }
 
-      with_user_lem : (t : Bool) → n < length (drop at s) → cond t (with_host secure user (at + n + 1) (drop (n + 1) (drop at s))) none ≡ some p → PartsStand s p
+      with_user_lem : (t : Bool) → n < length (drop at s) → cond t (with_host secure user (at + n + 1) (drop (n + 1) (drop at s))) None ≡ Some p → PartsStand s p
       with_user_lem true l e =
           let j : at + (n + 1) ≡ at + n + 1 = omega arith in
           host_stands user (at + n + 1) (omega (arith, length-drop at s)) (front_stands s at n h) (rw (drop-drop (n + 1) at s, j) at e)
       with_user_lem false l e = nothing e
 
       by : (t : Bool) → has 64 (drop at s) ≡ t
-          → cond t (cond (ltb 0 n) (with_host secure user (at + n + 1) (drop (n + 1) (drop at s))) none) (with_host secure (record { place = at; text = [] }) at (drop at s)) ≡ some p → PartsStand s p
+          → cond t (cond (ltb 0 n) (with_host secure user (at + n + 1) (drop (n + 1) (drop at s))) None) (with_host secure (record { place = at; text = [] }) at (drop at s)) ≡ Some p → PartsStand s p
       by true f e = with_user_lem (ltb 0 n) (ltb-true _ _ f) e
       by false f e = host_stands (record { place = at; text = [] }) at h (front_stands s at 0 h) e
 
-pub parts_stand : (s : List ℕ) {p : UriParts} → sip_uri s ≡ some p → PartsStand s p
+pub parts_stand : (s : List ℕ) {p : UriParts} → sip_uri s ≡ Some p → PartsStand s p
 unfolding sip_uri with_scheme
 parts_stand s {p} e = by (all is_uri s) e
   where
-    secure : (t : Bool) → same (take 5 s) sips ≡ t → cond t (with_user true 5 (drop 5 s)) none ≡ some p → PartsStand s p
+    secure : (t : Bool) → same (take 5 s) sips ≡ t → cond t (with_user true 5 (drop 5 s)) None ≡ Some p → PartsStand s p
     secure true f e = user_stands s true 5 (starts_fits s sips f) e
     secure false f e = nothing e
 
-    scheme : (t : Bool) → same (take 4 s) sip ≡ t → cond t (with_user false 4 (drop 4 s)) (cond (same (take 5 s) sips) (with_user true 5 (drop 5 s)) none) ≡ some p → PartsStand s p
+    scheme : (t : Bool) → same (take 4 s) sip ≡ t → cond t (with_user false 4 (drop 4 s)) (cond (same (take 5 s) sips) (with_user true 5 (drop 5 s)) None) ≡ Some p → PartsStand s p
     scheme true f e = user_stands s false 4 (starts_fits s sip f) e
     scheme false f e = secure (same (take 5 s) sips) refl e
 
-    by : (t : Bool) → cond t (with_scheme s) none ≡ some p → PartsStand s p
+    by : (t : Bool) → cond t (with_scheme s) None ≡ Some p → PartsStand s p
     by true e = scheme (same (take 4 s) sip) refl e
     by false e = nothing e

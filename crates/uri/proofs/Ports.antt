@@ -5,14 +5,13 @@ use native.Mathlib.Omega.{arith}
 use mathlib.Core.Path.{◌≡◌, refl, sym}
 use mathlib.Core.Bool.{Bool, true, false, cond, ◌&&◌, and-false, true≢false}
 use mathlib.Core.List.{List, [], ◌∷◌}
-use mathlib.Core.Option.{Option, none, some}
 use lib.ListN.{length, take, drop, get_or}
 use lib.Seq.{take-length}
 use lib.Dec.{leb, ltb}
 use borrow.Author.Tests.{eq-eqb, ne_eqb, le-leb, lt-leb, ltb-true}
+use Rattle.std.specs.Prelude.{None, Option, Some}
 use Rattle.text.specs.Text.{span, all, is_digit}
 use Rattle.text.specs.Number.{non_empty, value, digits_below, number_from}
-use Rattle.text.specs.declared.number.Number.TheVariants.{Value, Unreadable}
 use Rattle.text.proofs.Runs.{drop_part}
 use Rattle.uri_bytes.specs.Bytes.{ends_port}
 use Rattle.uri.specs.SipUri.{at_end, port_number, given_port, port_of}
@@ -20,25 +19,25 @@ use Rattle.uri.specs.SipUri.{at_end, port_number, given_port, port_of}
 -- ---- numbers
 
 -- what the answer of a number reading says of the reading
-pub not_read : (o : Option ℕ) → number_from o ≡ Unreadable → o ≡ none
-not_read none e = refl
-not_read (some n) e = absurd (let z : ◌≡◌ {A = ℕ} 0 1 = cc in omega arith)
+pub not_read : (o : Option ℕ) → number_from o ≡ None → o ≡ None
+not_read None e = refl
+not_read (Some n) e = absurd (let z : ◌≡◌ {A = ℕ} 0 1 = cc in omega arith)
 
-pub was_read : (o : Option ℕ) {v : ℕ} → number_from o ≡ Value v → o ≡ some v
-was_read none e = absurd (let z : ◌≡◌ {A = ℕ} 0 1 = cc in omega arith)
-was_read (some n) e = cc
+pub was_read : (o : Option ℕ) {v : ℕ} → number_from o ≡ Some v → o ≡ Some v
+was_read None e = absurd (let z : ◌≡◌ {A = ℕ} 0 1 = cc in omega arith)
+was_read (Some n) e = cc
 
 -- what a conjunction says of its second part
 pub second : (a b : Bool) → (a && b) ≡ true → b ≡ true
 second true b e = e
 second false b e = absurd (true≢false (sym e))
 
-picked : {x v : ℕ} (t : Bool) → cond t (some x) none ≡ some v → (t ≡ true) × (x ≡ v)
+picked : {x v : ℕ} (t : Bool) → cond t (Some x) None ≡ Some v → (t ≡ true) × (x ≡ v)
 picked true e = (refl, cc)
 picked false e = absurd (let z : ◌≡◌ {A = ℕ} 0 1 = cc in omega arith)
 
 -- a number that was read is below its bound
-pub read_below : (w v : ℕ) (s : List ℕ) → digits_below w s ≡ some v → v < w
+pub read_below : (w v : ℕ) (s : List ℕ) → digits_below w s ≡ Some v → v < w
 unfolding digits_below
 read_below w v s e =
     let p : ((non_empty s && (all is_digit s && ltb (value s) w)) ≡ true) × (value s ≡ v) = picked _ e in
@@ -57,11 +56,11 @@ end_first (b ∷ s) h = refl
 -- ---- the port: n digits stand first
 
 module _ (s : List ℕ) (n : ℕ) (hn : n ≡ span is_digit s) where
-  pub port_long : 5 < n → port_number s ≡ none
+  pub port_long : 5 < n → port_number s ≡ None
   unfolding port_number
   port_long h = rw (← hn, lt-leb n 5 h)
 
-  pub port_open : at_end (take (length s - n) (drop n s)) ≡ false → port_number s ≡ none
+  pub port_open : at_end (take (length s - n) (drop n s)) ≡ false → port_number s ≡ None
   unfolding port_number
   port_open e = rw (← hn, rw drop_part at e, and-false (leb n 5))
 
@@ -71,7 +70,7 @@ module _ (s : List ℕ) (n : ℕ) (hn : n ≡ span is_digit s) where
 
 -- ---- after the host
 
-pub port_none : (s : List ℕ) → length s ≡ 0 → port_of s ≡ some none
+pub port_none : (s : List ℕ) → length s ≡ 0 → port_of s ≡ Some None
 unfolding port_of
 port_none [] h = refl
 port_none (b ∷ s) h = absurd (omega arith)
@@ -82,7 +81,7 @@ port_given [] h e = absurd (omega arith)
 port_given (b ∷ s) h e = rw (eq-eqb b 58 e, sub-one (suc (length s)), take-length s)
 
 -- no `:`: whether it may stand there is told by its first byte
-pub port_absent : (s : List ℕ) → 0 < length s → (get_or s 0 0 ≡ 58 → ⊥) → port_of s ≡ cond (ends_port (get_or s 0 0)) (some none) none
+pub port_absent : (s : List ℕ) → 0 < length s → (get_or s 0 0 ≡ 58 → ⊥) → port_of s ≡ cond (ends_port (get_or s 0 0)) (Some None) None
 unfolding port_of
 port_absent [] h e = absurd (omega arith)
 port_absent (b ∷ s) h e = rw (ne_eqb b 58 e)

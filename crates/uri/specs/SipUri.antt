@@ -2,24 +2,16 @@
 -- `sip:` or `sips:` in any case; bytes 33 to 126 without `<`, `>`, `"`; the user part is all before the first `@`, non-empty
 -- if there is one; the host runs to `:`, `;`, `?` or the end (`[` to `]` kept whole), non-empty letters, digits, `.`, `-`, or
 -- hex digits, `:`, `.` in brackets; a port has 1 to 5 digits and is at most 65,535; then the end, `;` or `?`. The classes of bytes are in `Bytes.antt` of the crate `uri_bytes`.
-use Rattle.std.specs.Prelude.{ℕ, ◌+◌, ◌-◌, Bool, true, false, cond, not, ◌&&◌, List, [], ◌∷◌, length, take, drop, get_or, leb, ltb, eqb}
-use Rattle.std.proofs.Math.Option.{Option, none, some}
+use Rattle.std.specs.Prelude.{ℕ, ◌+◌, ◌-◌, Bool, true, false, cond, not, ◌&&◌, List, [], ◌∷◌, length, take, drop, get_or, leb, ltb, eqb, Err, None, Ok, Option, Result, Some}
 use Rattle.limits.specs.Limits.{LimitSet}
-use Rattle.limits.specs.Outcome.{Outcome, refused, given, refuse_by, cause_if, and_then, or_refuse}
+use Rattle.limits.specs.Outcome.{refuse_by, cause_if, and_then, or_refuse}
+use Rattle.limits.specs.declared.Refusal.{Refusal}
 use Rattle.limits.specs.declared.Refusal.TheVariants.{InvalidUri, UriTooLong}
 use Rattle.text.specs.Text.{is_digit, other, span, all, same, Piece}
 use Rattle.text.specs.Number.{non_empty, read_digits}
 use Rattle.text.specs.Answers.{length_cause, span_of}
 use Rattle.uri_bytes.specs.Bytes.{is_uri, is_host, is_address, ends_port, ends_host}
-use Rattle.uri.specs.declared.Port.{Port}
-use Rattle.uri.specs.declared.Port.TheVariants as port
 use Rattle.uri.specs.declared.SipUri.{SipUri}
-use Rattle.uri.specs.declared.Uri.{Uri}
-use Rattle.uri.specs.declared.Uri.TheVariants as uri
-use Rattle.uri.specs.declared.UriAnswer.{UriAnswer}
-use Rattle.uri.specs.declared.UriAnswer.TheVariants as answer
-use Rattle.uri.specs.declared.Estimate.{Estimate}
-use Rattle.uri.specs.declared.Estimate.TheVariants as estimate
 
 -- ---- the parts
 
@@ -57,16 +49,16 @@ at_end (b ∷ s) = ends_port b
 
 -- digits up to the end, `;` or `?`
 unfoldable pub port_number : List ℕ → Option ℕ
-port_number s = cond (leb (span is_digit s) 5 && at_end (drop (span is_digit s) s)) (read_digits 16 (take (span is_digit s) s)) none
+port_number s = cond (leb (span is_digit s) 5 && at_end (drop (span is_digit s) s)) (read_digits 16 (take (span is_digit s) s)) None
 
 -- what stands after the host: nothing where it can't stand there, otherwise the port, if there is one
 abbrev pub given_port : Option ℕ → Option (Option ℕ)
-given_port none = none
-given_port (some n) = some (some n)
+given_port None = None
+given_port (Some n) = Some (Some n)
 
 unfoldable pub port_of : List ℕ → Option (Option ℕ)
-port_of [] = some none
-port_of (b ∷ s) = cond (eqb b 58) (given_port (port_number s)) (cond (ends_port b) (some none) none)
+port_of [] = Some None
+port_of (b ∷ s) = cond (eqb b 58) (given_port (port_number s)) (cond (ends_port b) (Some None) None)
 
 -- ---- the URI
 
@@ -78,13 +70,13 @@ pub record UriParts : Type 0 where
   pub port : Option ℕ
 
 abbrev pub with_port : Bool → Piece → Piece → Option (Option ℕ) → Option UriParts
-with_port secure user host none = none
-with_port secure user host (some port) = some (record { secure = secure; user = user; host = host; port = port })
+with_port secure user host None = None
+with_port secure user host (Some port) = Some (record { secure = secure; user = user; host = host; port = port })
 
 -- s is what stands after the user part, at the place `at`
 unfoldable pub with_host : Bool → Piece → ℕ → List ℕ → Option UriParts
 with_host secure user at s =
-    cond (is_host_text (host_text s)) (with_port secure user (record { place = at; text = host_text s }) (port_of (drop (length (host_text s)) s))) none
+    cond (is_host_text (host_text s)) (with_port secure user (record { place = at; text = host_text s }) (port_of (drop (length (host_text s)) s))) None
 
 -- s is what stands after the scheme, at the place `at`
 unfoldable pub with_user : Bool → ℕ → List ℕ → Option UriParts
@@ -92,20 +84,20 @@ with_user secure at s =
     cond (has 64 s)
     (cond (ltb 0 (span (other 64) s))
     (with_host secure (record { place = at; text = take (span (other 64) s) s }) (at + span (other 64) s + 1) (drop (span (other 64) s + 1) s))
-    none)
+    None)
     (with_host secure (record { place = at; text = [] }) at s)
 
 unfoldable pub with_scheme : List ℕ → Option UriParts
-with_scheme s = cond (same (take 4 s) sip) (with_user false 4 (drop 4 s)) (cond (same (take 5 s) sips) (with_user true 5 (drop 5 s)) none)
+with_scheme s = cond (same (take 4 s) sip) (with_user false 4 (drop 4 s)) (cond (same (take 5 s) sips) (with_user true 5 (drop 5 s)) None)
 
 -- the parts of a readable URI
 unfoldable pub sip_uri : List ℕ → Option UriParts
-sip_uri s = cond (all is_uri s) (with_scheme s) none
+sip_uri s = cond (all is_uri s) (with_scheme s) None
 
 -- user + host + 6 if a port + 10 (01, "Contact": "Estimate")
 abbrev pub port_estimate : Option ℕ → ℕ
-port_estimate none = 0
-port_estimate (some n) = 6
+port_estimate None = 0
+port_estimate (Some n) = 6
 
 abbrev pub estimate_of : UriParts → ℕ
 estimate_of u = length u.user.text + length u.host.text + port_estimate u.port + 10
@@ -117,30 +109,30 @@ over_estimate L u = ltb L.uri (estimate_of u)
 -- ---- the operations on a given text
 
 -- 1, then 6
-unfoldable pub read_uri : LimitSet → List ℕ → Outcome UriParts
+unfoldable pub read_uri : LimitSet → List ℕ → Result UriParts Refusal
 read_uri L s = refuse_by (length_cause L s) (or_refuse InvalidUri (sip_uri s))
 
 -- 1, 6, then 7
-unfoldable pub read_estimate : LimitSet → List ℕ → Outcome ℕ
-read_estimate L s = and_then (read_uri L s) (λ u. refuse_by (cause_if (over_estimate L u) UriTooLong) (given (estimate_of u)))
+unfoldable pub read_estimate : LimitSet → List ℕ → Result ℕ Refusal
+read_estimate L s = and_then (read_uri L s) (λ u. refuse_by (cause_if (over_estimate L u) UriTooLong) (Ok (estimate_of u)))
 
 -- ---- the answers, case by case
 
-abbrev pub port_from : Option ℕ → Port
-port_from none = port.Absent
-port_from (some n) = port.Number n
+abbrev pub port_from : Option ℕ → Option ℕ
+port_from None = None
+port_from (Some n) = Some n
 
 abbrev pub sip_uri_from : UriParts → SipUri
 sip_uri_from u = record { secure = u.secure; user = span_of u.user; host = span_of u.host; port = port_from u.port }
 
-abbrev pub uri_from : Option UriParts → Uri
-uri_from none = uri.Unreadable
-uri_from (some u) = uri.Read (sip_uri_from u)
+abbrev pub uri_from : Option UriParts → Option SipUri
+uri_from None = None
+uri_from (Some u) = Some (sip_uri_from u)
 
-abbrev pub uri_answer : Outcome UriParts → UriAnswer
-uri_answer (refused cause) = answer.Refused cause
-uri_answer (given u) = answer.Read (sip_uri_from u)
+abbrev pub uri_answer : Result UriParts Refusal → Result SipUri Refusal
+uri_answer (Err cause) = Err cause
+uri_answer (Ok u) = Ok (sip_uri_from u)
 
-abbrev pub estimate_answer : Outcome ℕ → Estimate
-estimate_answer (refused cause) = estimate.Refused cause
-estimate_answer (given n) = estimate.Length n
+abbrev pub estimate_answer : Result ℕ Refusal → Result ℕ Refusal
+estimate_answer (Err cause) = Err cause
+estimate_answer (Ok n) = Ok n

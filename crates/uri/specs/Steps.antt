@@ -1,25 +1,12 @@
 -- Steps of the code: what the parts of a URI's reading answer: the scheme, the user part, the host and what stands after it, where a part stands, and the
 -- estimate of the parts that were read.
-use Rattle.std.specs.Prelude.{ℕ, ◌+◌, ◌≤◌, Bool, cond, ◌≡◌, List, length, take, drop}
-use Rattle.std.proofs.Math.Option.{Option, none, some}
+use Rattle.std.specs.Prelude.{ℕ, ◌+◌, ◌≤◌, Bool, cond, ◌≡◌, List, length, take, drop, None, Option, Some}
 use Rattle.text.specs.Text.{all, same, Piece}
 use Rattle.text.specs.Answers.{span_of}
 use Rattle.text.specs.declared.Span.{Span}
 use Rattle.uri_bytes.specs.Bytes.{is_uri}
 use Rattle.uri.specs.SipUri.{UriParts, sip, sips, is_host_text, with_host, with_user, port_from}
-use Rattle.uri.specs.declared.authority.Host.{Host}
-use Rattle.uri.specs.declared.authority.Host.TheVariants as host
-use Rattle.uri.specs.declared.authority.AfterHost.{AfterHost}
-use Rattle.uri.specs.declared.authority.AfterHost.TheVariants as after
-use Rattle.uri.specs.declared.Port.{Port}
-use Rattle.uri.specs.declared.Port.TheVariants as port
 use Rattle.uri.specs.declared.SipUri.{SipUri}
-use Rattle.uri.specs.declared.User.{User}
-use Rattle.uri.specs.declared.User.TheVariants as user
-use Rattle.uri.specs.declared.Cut.{Cut}
-use Rattle.uri.specs.declared.Cut.TheVariants as cut
-use Rattle.uri.specs.declared.HeaderUri.{HeaderUri}
-use Rattle.uri.specs.declared.HeaderUri.TheVariants as header
 
 -- the scheme's length, 0 where there is none
 abbrev pub scheme_length : List ℕ → ℕ
@@ -27,48 +14,48 @@ scheme_length s = cond (same (take 4 s) sip) 4 (cond (same (take 5 s) sips) 5 0)
 
 -- what was read of s, if every byte of s is one of a URI
 abbrev pub of_uri : List ℕ → Option UriParts → Option UriParts
-of_uri s o = cond (all is_uri s) o none
+of_uri s o = cond (all is_uri s) o None
 
 -- a host that may stand there, by its length
-abbrev pub host_from : List ℕ → Host
-host_from h = cond (is_host_text h) (host.Length (length h)) host.Unreadable
+abbrev pub host_from : List ℕ → Option ℕ
+host_from h = cond (is_host_text h) (Some (length h)) None
 
 -- what stands after the host
-abbrev pub after_host_from : Option (Option ℕ) → AfterHost
-after_host_from none = after.Unreadable
-after_host_from (some p) = after.Read (port_from p)
+abbrev pub after_host_from : Option (Option ℕ) → Option (Option ℕ)
+after_host_from None = None
+after_host_from (Some p) = Some (port_from p)
 
 -- the part of s that stands there
 abbrev pub piece_in : List ℕ → Span → Piece
 piece_in s at = record { place = at.start; text = take at.length (drop at.start s) }
 
 -- the text that is cut out of a value
-abbrev pub cut_from : Option Piece → Cut
-cut_from none = cut.Nothing
-cut_from (some p) = cut.At (span_of p)
+abbrev pub cut_from : Option Piece → Option Span
+cut_from None = None
+cut_from (Some p) = Some (span_of p)
 
 -- what the user part at a place leaves to be read: the rest from the host on, or nothing
-abbrev pub UserStep : List ℕ → ℕ → User → Type 0
-UserStep s at user.Unreadable = (secure : Bool) → of_uri (drop at s) (with_user secure at (drop at s)) ≡ none
-UserStep s at (user.Before u next) =
+abbrev pub UserStep : List ℕ → ℕ → Option (Span × ℕ) → Type 0
+UserStep s at None = (secure : Bool) → of_uri (drop at s) (with_user secure at (drop at s)) ≡ None
+UserStep s at (Some (u, next)) =
     (next ≤ length s) × (u.start + u.length ≤ length s)
     × ((secure : Bool) → of_uri (drop at s) (with_user secure at (drop at s)) ≡ of_uri (drop next s) (with_host secure (piece_in s u) next (drop next s)))
 
 -- ---- what is found lies inside the bytes
 
-abbrev pub InsideHost : List ℕ → Host → Type 0
-InsideHost s host.Unreadable = Unit
-InsideHost s (host.Length n) = n ≤ length s
+abbrev pub InsideHost : List ℕ → Option ℕ → Type 0
+InsideHost s None = Unit
+InsideHost s (Some n) = n ≤ length s
 
-abbrev pub Inside : List ℕ → HeaderUri → Type 0
-Inside s (header.At at u) = at.start + at.length ≤ length s
-Inside s header.Nothing = Unit
+abbrev pub Inside : List ℕ → Option (Span × SipUri) → Type 0
+Inside s (Some (at, u)) = at.start + at.length ≤ length s
+Inside s None = Unit
 
 -- ---- the estimate, of the parts as the code has them
 
-abbrev pub port_size : Port → ℕ
-port_size (port.Number n) = 6
-port_size port.Absent = 0
+abbrev pub port_size : Option ℕ → ℕ
+port_size (Some n) = 6
+port_size None = 0
 
 abbrev pub size_of : SipUri → ℕ
 size_of u = u.user.length + u.host.length + port_size u.port + 10

@@ -3,98 +3,82 @@ ghost use Rattle.std.specs.Prelude.{◌≡◌, true};
 ghost use Rattle.uri.specs.SipUri.{begins, host_text, at_end, given_port, port_number, port_of};
 ghost use Rattle.uri.specs.Steps.{host_from, InsideHost, after_host_from};
 
-use super::Port;
-use text::Number;
 use uri_bytes::{Class, all_of, ends_host, ends_port, run};
 
-// How long the host is that stands first.
-#[derive(Clone, Copy)]
-pub enum Host {
-    Length(usize),
-    Unreadable,
-}
-
-// What stands after the host: its port, or something that can't stand there.
-#[derive(Clone, Copy)]
-pub enum AfterHost {
-    Read(Port),
-    Unreadable,
-}
-
 // A host in brackets, or a name up to `:`, `;`, `?` or the end.
-pub fn read_host(s: &[u8]) -> Host
+pub fn read_host(s: &[u8]) -> Option<usize>
     ensures value { result ≡ host_from (host_text s.now) }
     ensures inside_host { InsideHost s.now result }
 {
     if s.len() == 0 {
-        return Host::Unreadable;
+        return None;
     }
     if s[0] == b'[' {
         return read_bracketed(s);
     }
     let n = run(s, Class::Host);
     if n == s.len() {
-        return Host::Length(n);
+        return Some(n);
     }
     if !ends_host(s[n]) {
-        return Host::Unreadable;
+        return None;
     }
     if n == 0 {
-        return Host::Unreadable;
+        return None;
     }
-    Host::Length(n)
+    Some(n)
 }
 
 // A host that begins with `[`: up to the first `]`, with an address between them.
-fn read_bracketed(s: &[u8]) -> Host
+fn read_bracketed(s: &[u8]) -> Option<usize>
     requires { begins 91 s.now ≡ true }
     ensures value { result ≡ host_from (host_text s.now) }
     ensures inside_host { InsideHost s.now result }
 {
     let n = text::find(s, b']');
     if n == s.len() {
-        return Host::Unreadable;
+        return None;
     }
     if n < 2 {
-        return Host::Unreadable;
+        return None;
     }
     if !all_of(&s[1..n], Class::Address) {
-        return Host::Unreadable;
+        return None;
     }
-    Host::Length(n + 1)
+    Some(n + 1)
 }
 
 // The port after `:`, or none where nothing, parameters or headers follow.
-pub fn after_host(s: &[u8]) -> AfterHost
+pub fn after_host(s: &[u8]) -> Option<Option<u16>>
     ensures { result ≡ after_host_from (port_of s.now) }
 {
     if s.len() == 0 {
-        return AfterHost::Read(Port::Absent);
+        return Some(None);
     }
     if s[0] == b':' {
         return read_port(&s[1..]);
     }
     if ends_port(s[0]) {
-        return AfterHost::Read(Port::Absent);
+        return Some(None);
     }
-    AfterHost::Unreadable
+    None
 }
 
 // 1 to 5 digits, at most 65,535, up to the end, parameters or headers.
-fn read_port(s: &[u8]) -> AfterHost
+fn read_port(s: &[u8]) -> Option<Option<u16>>
     ensures { result ≡ after_host_from (given_port (port_number s.now)) }
 {
     let n = run(s, Class::Digit);
     if 5 < n {
-        return AfterHost::Unreadable;
+        return None;
     }
     if !at_end(&s[n..]) {
-        return AfterHost::Unreadable;
+        return None;
     }
-    let Number::Value(v) = text::digits_below(&s[..n], 65536) else {
-        return AfterHost::Unreadable;
+    let Some(v) = text::digits_below(&s[..n], 65536) else {
+        return None;
     };
-    AfterHost::Read(Port::Number(v as u16))
+    Some(Some(v as u16))
 }
 
 // Whether nothing, parameters or headers follow.

@@ -10,18 +10,12 @@ ghost use Rattle.uri.specs.HeaderUri.{uri_from_header, header_uri_from, header_u
 ghost use Rattle.text.specs.Text.{trimmed_piece};
 ghost use Rattle.uri.specs.Steps.{Inside, UserStep, cut_from, of_uri, piece_in, scheme_length, size_of};
 
-use authority::{AfterHost, Host, after_host, read_host};
-use limits::{Check, Limits, Refusal};
-use text::{Lookup, Span};
+use authority::{after_host, read_host};
+use limits::{Limits, Refusal};
+use text::Span;
 use uri_bytes::{Class, all_of, run};
 
 mod authority;
-
-#[derive(Clone, Copy)]
-pub enum Port {
-    Number(u16),
-    Absent,
-}
 
 // The parts of a URI: where they stand in its text. Without a user part its length is 0 and its place that of the host.
 #[derive(Clone, Copy)]
@@ -29,116 +23,70 @@ pub struct SipUri {
     pub secure: bool,
     pub user: Span,
     pub host: Span,
-    pub port: Port,
-}
-
-// A reading without refusals.
-#[derive(Clone, Copy)]
-pub enum Uri {
-    Read(SipUri),
-    Unreadable,
-}
-
-// What `sip_uri` answers.
-#[derive(Clone, Copy)]
-pub enum UriAnswer {
-    Read(SipUri),
-    Refused(Refusal),
-}
-
-// What `uri_estimate` answers.
-#[derive(Clone, Copy)]
-pub enum Estimate {
-    Length(usize),
-    Refused(Refusal),
-}
-
-// The URI in a header value: where its text stands, and its parts.
-#[derive(Clone, Copy)]
-pub enum HeaderUri {
-    At(Span, SipUri),
-    Nothing,
-}
-
-// The user part, and the place of the host after it.
-#[derive(Clone, Copy)]
-enum User {
-    Before(Span, usize),
-    Unreadable,
-}
-
-// The text that is read as the URI in a header value.
-#[derive(Clone, Copy)]
-enum Cut {
-    At(Span),
-    Nothing,
+    pub port: Option<u16>,
 }
 
 // A given URI: 1, 6.
-pub fn sip_uri(s: &[u8]) -> UriAnswer
+pub fn sip_uri(s: &[u8]) -> Result<SipUri, Refusal>
     ensures { result ≡ uri_answer (read_uri rust_limits s.now) }
 {
     if text::too_long(s) {
-        return UriAnswer::Refused(Refusal::TextTooLong);
+        return Err(Refusal::TextTooLong);
     }
-    let Uri::Read(u) = read_uri(s) else {
-        return UriAnswer::Refused(Refusal::InvalidUri);
+    let Some(u) = read_uri(s) else {
+        return Err(Refusal::InvalidUri);
     };
-    UriAnswer::Read(u)
+    Ok(u)
 }
 
 // The estimate of a given URI: 1, 6, 7.
-pub fn uri_estimate(s: &[u8]) -> Estimate
+pub fn uri_estimate(s: &[u8]) -> Result<usize, Refusal>
     ensures { result ≡ estimate_answer (read_estimate rust_limits s.now) }
 {
     if text::too_long(s) {
-        return Estimate::Refused(Refusal::TextTooLong);
+        return Err(Refusal::TextTooLong);
     }
-    let Uri::Read(u) = read_uri(s) else {
-        return Estimate::Refused(Refusal::InvalidUri);
+    let Some(u) = read_uri(s) else {
+        return Err(Refusal::InvalidUri);
     };
     if over_estimate(u) {
-        return Estimate::Refused(Refusal::UriTooLong);
+        return Err(Refusal::UriTooLong);
     }
-    Estimate::Length(estimated_length(u))
+    Ok(estimated_length(u))
 }
 
 // Where the text of the URI stands in a value that is given alone, if it is readable: 1, 2.
-pub fn parse_uri_from_header(value: &[u8]) -> Lookup
+pub fn parse_uri_from_header(value: &[u8]) -> Result<Option<Span>, Refusal>
     ensures { result ≡ lookup_of (uri_from_header rust_limits value.now) }
 {
-    if let Check::Refused(cause) = text::check_value(value) {
-        return Lookup::Refused(cause);
-    }
-    let HeaderUri::At(at, _) = header_uri(value) else {
-        return Lookup::Nothing;
+    text::check_value(value)?;
+    let Some((at, _)) = header_uri(value) else {
+        return Ok(None);
     };
-    Lookup::At(at)
+    Ok(Some(at))
 }
 
 // The URI in a value that was checked before.
-pub fn header_uri(value: &[u8]) -> HeaderUri
+pub fn header_uri(value: &[u8]) -> Option<(Span, SipUri)>
     ensures value { result ≡ header_uri_from (header_uri value.now) }
     ensures inside { Inside value.now result }
 {
-    let Cut::At(part) = uri_text(value) else {
-        return HeaderUri::Nothing;
-    };
+    let part = uri_text(value)?;
     let at = part.start;
     let end = at + part.length;
-    let Uri::Read(u) = read_uri(&value[at..end]) else {
-        return HeaderUri::Nothing;
+    let Some(u) = read_uri(&value[at..end]) else {
+        return None;
     };
-    HeaderUri::At(part, u)
+    Some((part, u))
 }
 
 // The parts of a URI's text.
-pub fn read_uri(s: &[u8]) -> Uri
+pub fn read_uri(s: &[u8]) -> Option<SipUri>
     ensures { result ≡ uri_from (sip_uri s.now) }
 {
     let at = scheme_length(s);
     if at == 0 {
-        return Uri::Unreadable;
+        return None;
     }
     with_user(s, at, at == 5)
 }
@@ -164,8 +112,8 @@ fn estimated_length(u: SipUri) -> usize
     let parts = u.user.length + u.host.length;
     let port = u.port;
     match port {
-        Port::Number(_) => parts + 6 + 10,
-        Port::Absent => parts + 10,
+        Some(_) => parts + 6 + 10,
+        None => parts + 10,
     }
 }
 
@@ -194,64 +142,60 @@ fn starts_with(s: &[u8], head: &[u8]) -> bool
 }
 
 // The parts from the user part on, which stands after the scheme.
-fn with_user(s: &[u8], at: usize, secure: bool) -> Uri
+fn with_user(s: &[u8], at: usize, secure: bool) -> Option<SipUri>
     requires { at ≤ length s.now }
     ensures { result ≡ uri_from (of_uri (drop at s.now) (with_user secure at (drop at s.now))) }
 {
-    let User::Before(user, host) = read_user(s, at) else {
-        return Uri::Unreadable;
-    };
+    let (user, host) = read_user(s, at)?;
     with_host(s, host, secure, user)
 }
 
 // All before the first `@`, or nothing where there is none. Bytes that no URI has are seen here.
-fn read_user(s: &[u8], at: usize) -> User
+fn read_user(s: &[u8], at: usize) -> Option<(Span, usize)>
     requires { at ≤ length s.now }
     ensures { UserStep s.now at result }
 {
     let rest = &s[at..];
     let n = run(rest, Class::User);
     if n == rest.len() {
-        return User::Before(
+        return Some((
             Span {
                 start: at,
                 length: 0,
             },
             at,
-        );
+        ));
     }
     if rest[n] != b'@' {
-        return User::Unreadable;
+        return None;
     }
     if n == 0 {
-        return User::Unreadable;
+        return None;
     }
-    User::Before(
+    Some((
         Span {
             start: at,
             length: n,
         },
         at + n + 1,
-    )
+    ))
 }
 
 // The parts from the host on, with the user part that stands before it.
-fn with_host(s: &[u8], at: usize, secure: bool, user: Span) -> Uri
+fn with_host(s: &[u8], at: usize, secure: bool, user: Span) -> Option<SipUri>
     requires { (at ≤ length s.now) × (user.start + user.length ≤ length s.now) }
     ensures { result ≡ uri_from (of_uri (drop at s.now) (with_host secure (piece_in s.now user) at (drop at s.now))) }
 {
     let rest = &s[at..];
-    let Host::Length(n) = read_host(rest) else {
-        return Uri::Unreadable;
-    };
+    let n = read_host(rest)?;
     let tail = &rest[n..];
-    let AfterHost::Read(port) = after_host(tail) else {
-        return Uri::Unreadable;
+    let Some(port) = after_host(tail) else {
+        return None;
     };
     if !all_of(tail, Class::Uri) {
-        return Uri::Unreadable;
+        return None;
     }
-    Uri::Read(SipUri {
+    Some(SipUri {
         secure,
         user,
         host: Span {
@@ -263,7 +207,7 @@ fn with_host(s: &[u8], at: usize, secure: bool, user: Span) -> Uri
 }
 
 // Where the text that is read as the URI stands: between the first `<` and the next `>`, or up to the first `;`.
-fn uri_text(value: &[u8]) -> Cut
+fn uri_text(value: &[u8]) -> Option<Span>
     ensures { result ≡ cut_from (uri_text value.now) }
 {
     let whole = text::trim_span(value);
@@ -275,20 +219,20 @@ fn uri_text(value: &[u8]) -> Cut
         return in_brackets(value, at + n + 1, end);
     }
     let n = text::find(t, b';');
-    Cut::At(trimmed_part(value, at, n))
+    Some(trimmed_part(value, at, n))
 }
 
 // The same, from behind the `<` on.
-fn in_brackets(value: &[u8], at: usize, end: usize) -> Cut
+fn in_brackets(value: &[u8], at: usize, end: usize) -> Option<Span>
     requires { (at ≤ end) × (end ≤ length value.now) }
     ensures { result ≡ cut_from (in_brackets at (take (end - at) (drop at value.now))) }
 {
     let t = &value[at..end];
     let n = text::find(t, b'>');
     if n == t.len() {
-        return Cut::Nothing;
+        return None;
     }
-    Cut::At(trimmed_part(value, at, n))
+    Some(trimmed_part(value, at, n))
 }
 
 // Where the n bytes from a place on stand without their blanks.

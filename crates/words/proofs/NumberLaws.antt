@@ -2,15 +2,13 @@
 use Prim.Native.Nat.{ℕ}
 use native.Mathlib.Omega.{arith}
 use mathlib.Core.Path.{◌≡◌, refl}
-use mathlib.Core.Option.{Option, none, some}
+use Rattle.std.specs.Prelude.{None, Option, Some}
 use Rattle.text.specs.Number.{number_from}
-use Rattle.text.specs.declared.number.Number.{Number}
-use Rattle.text.specs.declared.number.Number.TheVariants.{Value, Unreadable}
 
-pub unreadable : (o : Option ℕ) {r : Number} → r ≡ number_from o → r ≡ Unreadable → o ≡ none
-unreadable none h e = refl
-unreadable (some n) h e = absurd (let z : ◌≡◌ {A = ℕ} 0 1 = cc in omega arith)
+pub unreadable : (o : Option ℕ) {r : Option ℕ} → r ≡ number_from o → r ≡ None → o ≡ None
+unreadable None h e = refl
+unreadable (Some n) h e = absurd (let z : ◌≡◌ {A = ℕ} 0 1 = cc in omega arith)
 
-pub readable : (o : Option ℕ) {r : Number} {n : ℕ} → r ≡ number_from o → r ≡ Value n → o ≡ some n
-readable none h e = absurd (let z : ◌≡◌ {A = ℕ} 0 1 = cc in omega arith)
-readable (some m) h e = cc
+pub readable : (o : Option ℕ) {r : Option ℕ} {n : ℕ} → r ≡ number_from o → r ≡ Some n → o ≡ Some n
+readable None h e = absurd (let z : ◌≡◌ {A = ℕ} 0 1 = cc in omega arith)
+readable (Some m) h e = cc

@@ -3,11 +3,11 @@ use Prim.Native.Nat.{ℕ, ◌+◌, ◌-◌, ◌*◌, ◌≤◌, ◌<◌, max}
 use native.Mathlib.Omega.{arith}
 use mathlib.Core.Path.{◌≡◌, refl, sym, ap, ap₂, ◌∙◌}
 use mathlib.Core.List.{List, [], ◌∷◌, ◌++◌}
-use mathlib.Core.Option.{Option, none, some}
 use lib.ListN.{length, take, drop, length-append, length-drop, take-append-drop}
 use lib.Seq.{length-take-le}
 use borrow.Author.Tests.{lt-ltb, le-ltb}
-use Rattle.limits.specs.Outcome.{refused, given, and_then, or_refuse}
+use Rattle.std.specs.Prelude.{Err, None, Ok, Option, Some}
+use Rattle.limits.specs.Outcome.{and_then, or_refuse}
 use Rattle.limits.specs.declared.Refusal.TheVariants.{BadStore, NoRoom}
 use Rattle.edit.specs.Edit.{put_at, over}
 use Rattle.edit.proofs.EditLaws.{drop_take}
@@ -17,14 +17,13 @@ use Rattle.worst_minute.specs.Minute.{Verdict, worst_at, worst, taken_after, las
 use Rattle.worst_minute.specs.Layout.{entry_bytes, entries_in, encode_run, decode_run}
 use Rattle.worst_minute.specs.Calls.{read_run, last_time, with_verdict, added, worst_in}
 use Rattle.worst_minute.specs.Answers.{last_of}
-use Rattle.worst_minute.specs.declared.entries.Last.TheVariants.{Time, Broken}
 use Rattle.worst_minute.proofs.NumberLaws.{Bytes, bytes_take}
 use Rattle.worst_minute.proofs.LayoutLaws.{length_entry, encode_append, encode_one, drop_encode}
 use Rattle.worst_minute.proofs.ReadLaws.{Decoded, decoded, run_length, run_short, run_bytes}
 
 -- ---- reading the run
 
-pub read_over : (bytes : List ℕ) (used : ℕ) → length bytes < used → read_run bytes used ≡ refused BadStore
+pub read_over : (bytes : List ℕ) (used : ℕ) → length bytes < used → read_run bytes used ≡ Err BadStore
 read_over bytes used h = rw (lt-ltb (length bytes) used h)
 
 pub read_within : (bytes : List ℕ) (used : ℕ) → used ≤ length bytes → read_run bytes used ≡ or_refuse BadStore (decode_run (take used bytes))
@@ -33,16 +32,16 @@ read_within bytes used h = rw (le-ltb (length bytes) used h)
 -- ---- `worst_minute`
 
 module _ (bytes : List ℕ) (used : ℕ) where
-  pub worst_over : length bytes < used → worst_in bytes used ≡ refused BadStore
+  pub worst_over : length bytes < used → worst_in bytes used ≡ Err BadStore
   unfolding worst_in
-  worst_over h = ap (λ o. and_then o (λ vs. given (worst vs))) (read_over bytes used h)
+  worst_over h = ap (λ o. and_then o (λ vs. Ok (worst vs))) (read_over bytes used h)
 
-  pub worst_within : used ≤ length bytes → worst_in bytes used ≡ and_then (or_refuse BadStore (decode_run (take used bytes))) (λ vs. given (worst vs))
+  pub worst_within : used ≤ length bytes → worst_in bytes used ≡ and_then (or_refuse BadStore (decode_run (take used bytes))) (λ vs. Ok (worst vs))
   unfolding worst_in
-  worst_within h = ap (λ o. and_then o (λ vs. given (worst vs))) (read_within bytes used h)
+  worst_within h = ap (λ o. and_then o (λ vs. Ok (worst vs))) (read_within bytes used h)
 
 -- no bytes are the empty run
-pub worst_empty : (bytes : List ℕ) → and_then (or_refuse BadStore (decode_run (take 0 bytes))) (λ vs. given (worst vs)) ≡ given none
+pub worst_empty : (bytes : List ℕ) → and_then (or_refuse BadStore (decode_run (take 0 bytes))) (λ vs. Ok (worst vs)) ≡ Ok None
 unfolding decode_run rises_from entries_in worst_at
 worst_empty bytes = refl
 
@@ -51,22 +50,22 @@ worst_empty bytes = refl
 -- the run that was read, by its last time
 pub record LastIs (s : List ℕ) (last : ℕ) : Type 0 where
   pub run : List Verdict
-  pub is : decode_run s ≡ some run
+  pub is : decode_run s ≡ Some run
   pub last_is : last_time 0 run ≡ last
 
-pub last_read : (s : List ℕ) (last : ℕ) → last_of (decode_run s) ≡ Time last → LastIs s last
+pub last_read : (s : List ℕ) (last : ℕ) → last_of (decode_run s) ≡ Some last → LastIs s last
 last_read s last e = by (decode_run s) refl e
   where
-    by : (o : Option (List Verdict)) → decode_run s ≡ o → last_of o ≡ Time last → LastIs s last
-    by none p e = absurd (let n : ◌≡◌ {A = ℕ} 0 1 = cc in omega arith)
-    by (some vs) p e = record { run = vs; is = p; last_is = cc }
+    by : (o : Option (List Verdict)) → decode_run s ≡ o → last_of o ≡ Some last → LastIs s last
+    by None p e = absurd (let n : ◌≡◌ {A = ℕ} 0 1 = cc in omega arith)
+    by (Some vs) p e = record { run = vs; is = p; last_is = cc }
 
-none_read : (s : List ℕ) → last_of (decode_run s) ≡ Broken → decode_run s ≡ none
+none_read : (s : List ℕ) → last_of (decode_run s) ≡ None → decode_run s ≡ None
 none_read s e = by (decode_run s) e
   where
-    by : (o : Option (List Verdict)) → last_of o ≡ Broken → o ≡ none
-    by none e = refl
-    by (some vs) e = absurd (let n : ◌≡◌ {A = ℕ} 0 1 = cc in omega arith)
+    by : (o : Option (List Verdict)) → last_of o ≡ None → o ≡ None
+    by None e = refl
+    by (Some vs) e = absurd (let n : ◌≡◌ {A = ℕ} 0 1 = cc in omega arith)
 
 -- one that isn't full has room for an entry
 pub not_full : (bytes : List ℕ) (used : ℕ) → used ≤ length bytes → {last : ℕ} → LastIs (take used bytes) last → (used ≡ 36864 → ⊥) → used < 36864
@@ -75,7 +74,7 @@ not_full bytes used h l n =
     omega (arith, run_length d, run_short d, length-take-le used bytes h, n)
 
 module _ (v : Verdict) (bytes : List ℕ) (used : ℕ) where
-  pub added_over : length bytes < used → added v bytes used ≡ refused BadStore
+  pub added_over : length bytes < used → added v bytes used ≡ Err BadStore
   unfolding added
   added_over h = ap (λ o. and_then o (λ vs. fitted (length bytes) (encode_run (with_verdict v vs)))) (read_over bytes used h)
 
@@ -84,8 +83,8 @@ module _ (v : Verdict) (bytes : List ℕ) (used : ℕ) where
     unfolding added
     added_to o e = ap (λ o. and_then o (λ vs. fitted (length bytes) (encode_run (with_verdict v vs)))) (read_within bytes used h ∙ ap (or_refuse BadStore) e)
 
-    pub added_broken : last_of (decode_run (take used bytes)) ≡ Broken → added v bytes used ≡ refused BadStore
-    added_broken e = added_to none (none_read (take used bytes) e)
+    pub added_broken : last_of (decode_run (take used bytes)) ≡ None → added v bytes used ≡ Err BadStore
+    added_broken e = added_to None (none_read (take used bytes) e)
 
     used_long : length (take used bytes) ≡ used
     used_long = length-take-le used bytes h
@@ -130,12 +129,12 @@ module _ (v : Verdict) (bytes : List ℕ) (used : ℕ) where
         new_length : length (take used bytes ++ entry_bytes entry) ≡ used + 9
         new_length = omega (arith, length-append (take used bytes) (entry_bytes entry), used_long, length_entry entry)
 
-        pub no_room : length bytes - used < 9 → added v bytes used ≡ refused NoRoom
-        no_room q = added_to (some l.run) l.is ∙ ap (fitted (length bytes)) not_cut ∙ rw (lt-ltb (length bytes) (length (take used bytes ++ entry_bytes entry)) (omega (arith, new_length)))
+        pub no_room : length bytes - used < 9 → added v bytes used ≡ Err NoRoom
+        no_room q = added_to (Some l.run) l.is ∙ ap (fitted (length bytes)) not_cut ∙ rw (lt-ltb (length bytes) (length (take used bytes ++ entry_bytes entry)) (omega (arith, new_length)))
 
         module _ (q : 9 ≤ length bytes - used) where
-          pub fits : added v bytes used ≡ given (take used bytes ++ entry_bytes entry)
-          fits = added_to (some l.run) l.is ∙ ap (fitted (length bytes)) not_cut ∙ rw (le-ltb (length bytes) (length (take used bytes ++ entry_bytes entry)) (omega (arith, new_length)))
+          pub fits : added v bytes used ≡ Ok (take used bytes ++ entry_bytes entry)
+          fits = added_to (Some l.run) l.is ∙ ap (fitted (length bytes)) not_cut ∙ rw (le-ltb (length bytes) (length (take used bytes ++ entry_bytes entry)) (omega (arith, new_length)))
 
           pub fits_length : used + 9 ≡ length (take used bytes ++ entry_bytes entry)
           fits_length = sym new_length
@@ -169,8 +168,8 @@ module _ (v : Verdict) (bytes : List ℕ) (used : ℕ) where
         cut_length_lem : length (take 36855 (drop 9 bytes) ++ entry_bytes entry) ≡ 36864
         cut_length_lem = omega (arith, length-append (take 36855 (drop 9 bytes)) (entry_bytes entry), front_long, length_entry entry)
 
-        pub drops : added v bytes used ≡ given (take 36855 (drop 9 bytes) ++ entry_bytes entry)
-        drops = added_to (some l.run) l.is ∙ ap (fitted (length bytes)) cut ∙ rw (le-ltb (length bytes) (length (take 36855 (drop 9 bytes) ++ entry_bytes entry)) (omega (arith, cut_length_lem)))
+        pub drops : added v bytes used ≡ Ok (take 36855 (drop 9 bytes) ++ entry_bytes entry)
+        drops = added_to (Some l.run) l.is ∙ ap (fitted (length bytes)) cut ∙ rw (le-ltb (length bytes) (length (take 36855 (drop 9 bytes) ++ entry_bytes entry)) (omega (arith, cut_length_lem)))
 
         pub drops_length : used ≡ length (take 36855 (drop 9 bytes) ++ entry_bytes entry)
         drops_length = full ∙ sym cut_length_lem

@@ -5,12 +5,12 @@ use native.Mathlib.Omega.{arith}
 use mathlib.Core.Path.{◌≡◌, refl, sym, ap, ap₂, subst, ◌∙◌}
 use mathlib.Core.Bool.{Bool, true, false, cond, ◌&&◌}
 use mathlib.Core.List.{List, [], ◌∷◌, ◌++◌}
-use mathlib.Core.Option.{none, some}
 use mathlib.Core.Logic.{◌⊎◌, inl, inr}
 use lib.ListN.{length, drop, get_or}
 use lib.Seq.{drop-drop}
 use lib.Dec.{leb}
 use borrow.Author.Tests.{le-leb, lt-leb, lt-ltb, le-ltb}
+use Rattle.std.specs.Prelude.{None, Some}
 use Rattle.worst_minute.specs.Minute.{Verdict, is_refusal, minute, Minute, worst, time_of, rises_from}
 use Rattle.worst_minute.specs.Layout.{entry_in, entries_in, is_sized, verdicts_in, decode_run}
 use Rattle.worst_minute.specs.Steps.{refused_in, left_behind, or_more, counting, scan, time_at, between, Reaches, moved_by, moved_to}
@@ -123,7 +123,7 @@ module _ (s : List ℕ) (z : is_sized (length s) ≡ true) (full : 0 < length s)
       there : time_at s (r.k * 9) ≡ t
       there = ap (time_at s) (sym r.here) ∙ sym e
 
-      pub falls : t < last → decode_run s ≡ none
+      pub falls : t < last → decode_run s ≡ None
       falls f = time_falls s z (r.rises ∙ rises_next s r.k inside last ∙ rw (there, lt-leb last t f))
 
       module _ (f : last ≤ t) where
@@ -241,22 +241,22 @@ module _ (s : List ℕ) (z : is_sized (length s) ≡ true) (full : 0 < length s)
 
     -- ---- the end
 
-    pub finished : length s ≤ at → (decode_run s ≡ some (verdicts_in s)) × (worst (verdicts_in s) ≡ some (or_more best (record { start = w.start; refusals = w.refusals })))
+    pub finished : length s ≤ at → (decode_run s ≡ Some (verdicts_in s)) × (worst (verdicts_in s) ≡ Some (or_more best (record { start = w.start; refusals = w.refusals })))
     unfolding rises_from scan
     finished h =
         let n : length s / 9 ≤ r.k = omega (arith, r.here) in
-        let none : drop r.k (verdicts_in s) ≡ [] = all_read s r.k (omega (arith, r.here)) in
-        let up : rises_from 0 (verdicts_in s) ≡ true = r.rises ∙ ap (rises_from last) none in
+        let None : drop r.k (verdicts_in s) ≡ [] = all_read s r.k (omega (arith, r.here)) in
+        let up : rises_from 0 (verdicts_in s) ≡ true = r.rises ∙ ap (rises_from last) None in
         let some_in : 0 < r.k - r.lo = omega (arith, r.held) in
         let x : time_of (entries_in (r.k - r.lo) (drop w.from s)) 0 ≡ w.start = ap (λ l. time_of l 0) (first_of_lem (r.k - r.lo) w.from s some_in) ∙ sym r.starts in
         let p : scan [] (nothing_yet s) (verdicts_in s) ≡ or_more best (record { start = w.start; refusals = w.refusals }) =
-        r.passed ∙ ap (scan (entries_in (r.k - r.lo) (drop w.from s)) best) none ∙ ap₂ (λ y z. or_more best (record { start = y; refusals = z })) x (sym r.counts) in
-        (is_run s z up, first_of_all up ∙ ap some p)
+        r.passed ∙ ap (scan (entries_in (r.k - r.lo) (drop w.from s)) best) None ∙ ap₂ (λ y z. or_more best (record { start = y; refusals = z })) x (sym r.counts) in
+        (is_run s z up, first_of_all up ∙ ap Some p)
       where
-        first_of_all : rises_from 0 (verdicts_in s) ≡ true → worst (verdicts_in s) ≡ some (scan [] (nothing_yet s) (verdicts_in s))
+        first_of_all : rises_from 0 (verdicts_in s) ≡ true → worst (verdicts_in s) ≡ Some (scan [] (nothing_yet s) (verdicts_in s))
         first_of_all up =
             let e : verdicts_in s ≡ entry_in s ∷ entries_in (length s / 9 - 1) (drop 9 s) = first_of_lem (length s / 9) 0 s (omega (arith, whole)) in
-            subst (λ l. rises_from 0 l ≡ true → worst l ≡ some (scan [] (nothing_yet s) l)) (sym e) (scan_worst (entry_in s) (entries_in (length s / 9 - 1) (drop 9 s))) up
+            subst (λ l. rises_from 0 l ≡ true → worst l ≡ Some (scan [] (nothing_yet s) l)) (sym e) (scan_worst (entry_in s) (entries_in (length s / 9 - 1) (drop 9 s))) up
 
   -- ---- the entry is counted
 

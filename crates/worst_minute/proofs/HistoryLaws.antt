@@ -4,12 +4,12 @@ use native.Mathlib.Omega.{arith}
 use mathlib.Core.Path.{◌≡◌, refl, sym, ap, ap₂, subst, ◌∙◌}
 use mathlib.Core.Bool.{Bool, true, false}
 use mathlib.Core.List.{List, [], ◌∷◌, ◌++◌, append_assoc}
-use mathlib.Core.Option.{none, some}
 use lib.ListN.{length, take, drop, length-append, length-drop, take-append-drop}
 use lib.Seq.{take-take, take-append_seam, drop-append_seam, drop-append-le, drop-drop, length-take-le}
 use lib.Dec.{ltb}
 use borrow.Author.Tests.{ltb-true, ltb-false, le-ltb}
-use Rattle.limits.specs.Outcome.{given, and_then, or_refuse, cause_if, refuse_by, refuse_if}
+use Rattle.std.specs.Prelude.{None, Ok, Some}
+use Rattle.limits.specs.Outcome.{and_then, or_refuse, cause_if, refuse_by, refuse_if}
 use Rattle.limits.specs.declared.Refusal.TheVariants.{BadStore, NoRoom}
 use Rattle.edit.specs.Edit.{over}
 use Rattle.output.specs.Output.{fitted, leaves}
@@ -22,10 +22,10 @@ use Rattle.worst_minute.proofs.TakenLaws.{one_more, few, no_fewer, rises_counted
 use Rattle.worst_minute.proofs.CallLaws.{read_over, read_within}
 
 -- 18, as one test
-fitted_is : (n : ℕ) (s : List ℕ) → fitted n s ≡ refuse_if (ltb n (length s)) NoRoom (given s)
+fitted_is : (n : ℕ) (s : List ℕ) → fitted n s ≡ refuse_if (ltb n (length s)) NoRoom (Ok s)
 fitted_is n s = by (ltb n (length s))
   where
-    by : (b : Bool) → refuse_by (cause_if b NoRoom) (given s) ≡ refuse_if b NoRoom (given s)
+    by : (b : Bool) → refuse_by (cause_if b NoRoom) (Ok s) ≡ refuse_if b NoRoom (Ok s)
     by true = refl
     by false = refl
 
@@ -48,22 +48,22 @@ module _ (m : List ℕ) (w : World) (vs : List Verdict) (s : Stands m w vs) (len
   lent_length = length-take-le lent w.memory (omega (arith, s.room, fits))
 
   -- it is over the lent bytes, or read as what counts
-  pub reading : read_run lent_bytes w.used ≡ refuse_if (ltb lent (size_of (counted vs))) BadStore (given (counted vs))
+  pub reading : read_run lent_bytes w.used ≡ refuse_if (ltb lent (size_of (counted vs))) BadStore (Ok (counted vs))
   reading = by (ltb lent (size_of (counted vs))) refl
     where
-      by : (b : Bool) → ltb lent (size_of (counted vs)) ≡ b → read_run lent_bytes w.used ≡ refuse_if b BadStore (given (counted vs))
+      by : (b : Bool) → ltb lent (size_of (counted vs)) ≡ b → read_run lent_bytes w.used ≡ refuse_if b BadStore (Ok (counted vs))
       by true e = let h : lent < size_of (counted vs) = ltb-true lent (size_of (counted vs)) e in read_over lent_bytes w.used (omega (arith, lent_length, s.used_is))
       by false e =
           let h : size_of (counted vs) ≤ lent = ltb-false lent (size_of (counted vs)) e in
-          let d : decode_run (take w.used lent_bytes) ≡ some (counted vs) =
+          let d : decode_run (take w.used lent_bytes) ≡ Some (counted vs) =
           ap decode_run (take-take w.used lent w.memory (omega (arith, s.used_is)) ∙ s.front) ∙ decode_encode (counted vs) (fit_counted vs s.fit) (few vs) (rises_counted vs) in
           read_within lent_bytes w.used (omega (arith, lent_length, s.used_is)) ∙ ap (or_refuse BadStore) d
 
   pub worst_is : worst_in lent_bytes w.used ≡ decide (ask lent) vs
   unfolding worst_in decide
-  worst_is = ap (λ o. and_then o (λ us. given (worst us))) reading ∙ by (ltb lent (size_of (counted vs)))
+  worst_is = ap (λ o. and_then o (λ us. Ok (worst us))) reading ∙ by (ltb lent (size_of (counted vs)))
     where
-      by : (b : Bool) → and_then (refuse_if b BadStore (given (counted vs))) (λ us. given (worst us)) ≡ refuse_if b BadStore (given (worst (counted vs)))
+      by : (b : Bool) → and_then (refuse_if b BadStore (Ok (counted vs))) (λ us. Ok (worst us)) ≡ refuse_if b BadStore (Ok (worst (counted vs)))
       by true = refl
       by false = refl
 
@@ -75,16 +75,16 @@ module _ (m : List ℕ) (w : World) (vs : List Verdict) (s : Stands m w vs) (len
     next_size : length (encode_run next) ≡ size_of next
     next_size = length_run next
 
-    pub added_is : added v lent_bytes w.used ≡ refuse_if (ltb lent (size_of (counted vs))) BadStore (refuse_if (ltb lent (size_of next)) NoRoom (given (encode_run next)))
+    pub added_is : added v lent_bytes w.used ≡ refuse_if (ltb lent (size_of (counted vs))) BadStore (refuse_if (ltb lent (size_of next)) NoRoom (Ok (encode_run next)))
     unfolding added
     added_is =
         ap (λ o. and_then o (λ us. fitted (length lent_bytes) (encode_run (with_verdict v us)))) reading
         ∙ by (ltb lent (size_of (counted vs)))
         ∙ ap (λ x. refuse_if (ltb lent (size_of (counted vs))) BadStore (fitted (length lent_bytes) (encode_run x))) (sym (one_more vs v))
         ∙ ap (refuse_if (ltb lent (size_of (counted vs))) BadStore) (fitted_is (length lent_bytes) (encode_run next))
-        ∙ ap₂ (λ x y. refuse_if (ltb lent (size_of (counted vs))) BadStore (refuse_if (ltb x y) NoRoom (given (encode_run next)))) lent_length next_size
+        ∙ ap₂ (λ x y. refuse_if (ltb lent (size_of (counted vs))) BadStore (refuse_if (ltb x y) NoRoom (Ok (encode_run next)))) lent_length next_size
       where
-        by : (b : Bool) → and_then (refuse_if b BadStore (given (counted vs))) (λ us. fitted (length lent_bytes) (encode_run (with_verdict v us))) ≡ refuse_if b BadStore (fitted (length lent_bytes) (encode_run (with_verdict v (counted vs))))
+        by : (b : Bool) → and_then (refuse_if b BadStore (Ok (counted vs))) (λ us. fitted (length lent_bytes) (encode_run (with_verdict v us))) ≡ refuse_if b BadStore (fitted (length lent_bytes) (encode_run (with_verdict v (counted vs))))
         by true = refl
         by false = refl
 
@@ -92,7 +92,7 @@ module _ (m : List ℕ) (w : World) (vs : List Verdict) (s : Stands m w vs) (len
     unfolding decide
     answer_is = ap nothing_asked added_is ∙ by (ltb lent (size_of (counted vs))) (ltb lent (size_of next))
       where
-        by : (a b : Bool) → nothing_asked (refuse_if a BadStore (refuse_if b NoRoom (given (encode_run next)))) ≡ refuse_if a BadStore (refuse_if b NoRoom (given none))
+        by : (a b : Bool) → nothing_asked (refuse_if a BadStore (refuse_if b NoRoom (Ok (encode_run next)))) ≡ refuse_if a BadStore (refuse_if b NoRoom (Ok None))
         by true b = refl
         by false true = refl
         by false false = refl
@@ -151,8 +151,8 @@ module _ (m : List ℕ) (w : World) (vs : List Verdict) (s : Stands m w vs) wher
       (by (ltb lent (size_of (counted vs))) (ltb lent (size_of (counted (vs ++ (v ∷ []))))) refl)
     where
       by : (a b : Bool) → ltb lent (size_of (counted (vs ++ (v ∷ [])))) ≡ b
-          → (let o = refuse_if a BadStore (refuse_if b NoRoom (given (encode_run (counted (vs ++ (v ∷ [])))))) in
-          Stands m (record { memory = leaves o (take lent w.memory) ++ drop lent w.memory; used = used_after o w.used }) (with_given (add lent v) (refuse_if a BadStore (refuse_if b NoRoom (given none))) vs))
+          → (let o = refuse_if a BadStore (refuse_if b NoRoom (Ok (encode_run (counted (vs ++ (v ∷ [])))))) in
+          Stands m (record { memory = leaves o (take lent w.memory) ++ drop lent w.memory; used = used_after o w.used }) (with_given (add lent v) (refuse_if a BadStore (refuse_if b NoRoom (Ok None))) vs))
       by true b e = same_world m w vs s lent
       by false true e = same_world m w vs s lent
       by false false e = new_world m w vs s lent h v t (ltb-false lent (size_of (counted (vs ++ (v ∷ [])))) e)
@@ -177,7 +177,7 @@ module _ (m : List ℕ) where
 -- ---- calls that are lent enough
 
 -- such an add is not refused
-never_refused : (lent : ℕ) (v : Verdict) (vs : List Verdict) → 36864 ≤ lent → decide (add lent v) vs ≡ given none
+never_refused : (lent : ℕ) (v : Verdict) (vs : List Verdict) → 36864 ≤ lent → decide (add lent v) vs ≡ Ok None
 unfolding decide
 never_refused lent v vs h =
     let a : ltb lent (size_of (counted vs)) ≡ false = le-ltb lent (size_of (counted vs)) (omega (arith, few vs)) in

@@ -5,11 +5,11 @@ use native.Mathlib.Omega.{arith}
 use mathlib.Core.Path.{◌≡◌, refl, sym, ap, ap₂, ◌∙◌}
 use mathlib.Core.Bool.{true}
 use mathlib.Core.List.{List, [], ◌∷◌, ◌++◌, append_assoc, append-nil}
-use mathlib.Core.Option.{some}
 use lib.ListN.{length, take, drop, get_or, length-append, length-drop, take-append-drop}
 use lib.Seq.{take_at, drop_at, get_or_at, drop-drop, drop-cons, length-take-le}
 use lib.Dec.{leb, eqb}
 use borrow.Author.Tests.{eq-eqb, le-leb}
+use Rattle.std.specs.Prelude.{Some}
 use Rattle.worst_minute.specs.Minute.{Verdict, rises_from, most_verdicts}
 use Rattle.worst_minute.specs.Layout.{value_of, bytes_of, entry_bytes, entry_in, entries_in, encode_run, verdicts_in, decode_run}
 use Rattle.worst_minute.proofs.NumberLaws.{Bytes, bytes_take, bytes_drop, length_bytes, value_bytes, bytes_value}
@@ -109,7 +109,7 @@ entries_back (suc k) s h l =
     ∙ entry_back s h (omega (arith, l))
 
 -- a run is read from its bytes
-pub decode_encode : (vs : List Verdict) → AllFit vs → length vs ≤ most_verdicts → rises_from 0 vs ≡ true → decode_run (encode_run vs) ≡ some vs
+pub decode_encode : (vs : List Verdict) → AllFit vs → length vs ≤ most_verdicts → rises_from 0 vs ≡ true → decode_run (encode_run vs) ≡ Some vs
 unfolding decode_run
 decode_encode vs f l r =
     let n : length (encode_run vs) / 9 ≡ length vs = ap (λ m. m / 9) (length_run vs) ∙ omega arith in

@@ -4,10 +4,10 @@ use native.Mathlib.Omega.{arith}
 use mathlib.Core.Path.{◌≡◌, refl, sym, ap, ap₂, ◌∙◌}
 use mathlib.Core.Bool.{Bool, true, false, cond, ◌&&◌, ◌||◌, false≢true}
 use mathlib.Core.List.{List, [], ◌∷◌}
-use mathlib.Core.Option.{some}
 use lib.ListN.{length}
 use lib.Dec.{ltb, eqb}
 use borrow.Author.Tests.{ltb-true, ltb-false, eqb-true, eq-eqb}
+use Rattle.std.specs.Prelude.{Some}
 use Rattle.worst_minute.specs.Minute.{Verdict, refusals_from, Minute, minute_of, is_worse, worse_of, worst_at, worst, time_of, IsWorstAt, IsWorst}
 
 -- ---- which of two is worse
@@ -87,7 +87,7 @@ module _ (run : List Verdict) (v : Verdict) (vs : List Verdict) (n : Minute) (w 
           let s : n.start ≤ time_of vs i = w.earliest i (omega arith) (e ∙ sym q) in
           omega arith
 
-  worse_one : IsWorstAt run (v ∷ vs) (worse_of m (some n))
+  worse_one : IsWorstAt run (v ∷ vs) (worse_of m (Some n))
   worse_one = by (is_worse n m) refl
     where
       by : (b : Bool) → is_worse n m ≡ b → IsWorstAt run (v ∷ vs) (cond b n m)
@@ -97,7 +97,7 @@ module _ (run : List Verdict) (v : Verdict) (vs : List Verdict) (n : Minute) (w 
 -- what was found over starts, and that it is the worst of them
 pub record Found (run starts : List Verdict) : Type 0 where
   pub minute : Minute
-  pub is : worst_at run starts ≡ some minute
+  pub is : worst_at run starts ≡ Some minute
   pub worst_of_lem : IsWorstAt run starts minute
 
 pub found : (run : List Verdict) (v : Verdict) (vs : List Verdict) → Found run (v ∷ vs)
@@ -106,7 +106,7 @@ found run v [] = record { minute = minute_of run v; is = refl; worst_of_lem = on
 found run v (u ∷ us) = by (found run u us)
   where
     by : Found run (u ∷ us) → Found run (v ∷ u ∷ us)
-    by f = record { minute = worse_of (minute_of run v) (some f.minute); is = ap (λ o. some (worse_of (minute_of run v) o)) f.is; worst_of_lem = worse_one run v (u ∷ us) f.minute f.worst_of_lem }
+    by f = record { minute = worse_of (minute_of run v) (Some f.minute); is = ap (λ o. Some (worse_of (minute_of run v) o)) f.is; worst_of_lem = worse_one run v (u ∷ us) f.minute f.worst_of_lem }
 
 -- ---- no other minute is the worst
 
@@ -124,5 +124,5 @@ only_one run m n a b =
 pub worst_is : (v : Verdict) (vs : List Verdict) → Found (v ∷ vs) (v ∷ vs)
 worst_is v vs = found (v ∷ vs) v vs
 
-pub worst_only : (v : Verdict) (vs : List Verdict) (m : Minute) → IsWorst (v ∷ vs) m → worst (v ∷ vs) ≡ some m
-worst_only v vs m a = let f = worst_is v vs in f.is ∙ ap some (only_one (v ∷ vs) f.minute m f.worst_of_lem a)
+pub worst_only : (v : Verdict) (vs : List Verdict) (m : Minute) → IsWorst (v ∷ vs) m → worst (v ∷ vs) ≡ Some m
+worst_only v vs m a = let f = worst_is v vs in f.is ∙ ap Some (only_one (v ∷ vs) f.minute m f.worst_of_lem a)

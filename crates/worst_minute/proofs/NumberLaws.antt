@@ -6,6 +6,9 @@ use mathlib.Core.Path.{◌≡◌, refl, sym, ap, ap₂, ◌∙◌}
 use mathlib.Core.List.{List, [], ◌∷◌, ◌++◌, append_assoc, append-nil}
 use lib.ListN.{length, take, drop, get_or, length-append, length-drop}
 use lib.Seq.{get_or-drop, drop-drop, take-add, length-take-le}
+use Rattle.std.specs.Prelude.{Option, Some}
+use Rattle.codec.specs.Codec.{Reading, eight}
+use Rattle.codec.proofs.ReadLaws.{four_at_lem}
 use Rattle.worst_minute.specs.Layout.{value_of, bytes_of}
 
 -- every element is a byte
@@ -61,7 +64,7 @@ pub bytes_value : (s : List ℕ) → Bytes s → bytes_of (length s) (value_of 0
 unfolding bytes_of
 bytes_value s h = ap (λ j. bytes_of j (value_of 0 s)) (sym (zero-add (length s))) ∙ bytes_after 0 0 s h
 
--- ---- eight bytes, as the code reads them
+-- ---- eight bytes, as `codec` reads them
 
 -- a word behind a number
 four_after : (n : ℕ) (t : List ℕ) → length t ≡ 4 → value_of n t ≡ n * 4294967296 + value_of 0 t
@@ -83,23 +86,25 @@ four_first (a ∷ b ∷ c ∷ []) h = absurd (omega (arith, h))
 four_first (a ∷ b ∷ c ∷ d ∷ t) h = omega arith
 
 -- those at a place
-pub word_told : (s : List ℕ) (at : ℕ) → at + 4 ≤ length s → {a b c d : ℕ} → a ≡ get_or s at 0 → b ≡ get_or s (at + 1) 0 → c ≡ get_or s (at + 2) 0 → d ≡ get_or s (at + 3) 0
-    → ((a * 256 + b) * 256 + c) * 256 + d ≡ value_of 0 (take 4 (drop at s))
-word_told s at h {a} {b} {c} {d} p q r t =
+word_told : (s : List ℕ) (at : ℕ) → at + 4 ≤ length s → ((get_or s at 0 * 256 + get_or s (at + 1) 0) * 256 + get_or s (at + 2) 0) * 256 + get_or s (at + 3) 0 ≡ value_of 0 (take 4 (drop at s))
+word_told s at h =
     let e : get_or (drop at s) 0 0 ≡ get_or s at 0 = get_or-drop at s 0 0 ∙ ap (λ i. get_or s i 0) (add-zero at) in
     omega (arith, e, get_or-drop at s 1 0, get_or-drop at s 2 0, get_or-drop at s 3 0, four_first (drop at s) (simp length-drop (omega arith)))
 
+same_value : {x y : ℕ} {s t : List ℕ} → ◌≡◌ {A = Option (Reading ℕ)} (Some (record { value = x; rest = s })) (Some (record { value = y; rest = t })) → x ≡ y
+same_value {x} {y} {s} {t} e = let q : ◌≡◌ {A = Reading ℕ} (record { value = x; rest = s }) (record { value = y; rest = t }) = cc in ap (λ (r : Reading ℕ). r.value) q
+
 -- two words, one after the other
-pub time_told : (s : List ℕ) (at : ℕ) → at + 8 ≤ length s → {a b : ℕ} → a ≡ value_of 0 (take 4 (drop at s)) → b ≡ value_of 0 (take 4 (drop (at + 4) s))
-    → a * 4294967296 + b ≡ value_of 0 (take 8 (drop at s))
-time_told s at h {a} {b} p q =
+pub time_told : (s : List ℕ) (at : ℕ) → at + 8 ≤ length s → {n : ℕ} {rest : List ℕ} → eight.read (drop at s) ≡ Some (record { value = n; rest = rest }) → n ≡ value_of 0 (take 8 (drop at s))
+time_told s at h {n} {rest} q =
     let t : List ℕ = take 4 (drop (at + 4) s) in
     let l : length t ≡ 4 = length-take-le 4 (drop (at + 4) s) (simp length-drop (omega arith)) in
     let e : take 8 (drop at s) ≡ take 4 (drop at s) ++ t = take-add 4 4 (drop at s) ∙ ap (λ u. take 4 (drop at s) ++ take 4 u) (drop-drop 4 at s) in
     let k : value_of 0 (take 8 (drop at s)) ≡ value_of (value_of 0 (take 4 (drop at s))) t = ap (value_of 0) e ∙ value_append 0 (take 4 (drop at s)) t in
-    omega (arith, k, four_after (value_of 0 (take 4 (drop at s))) t l)
+    let v = same_value (rw (four_at_lem s at (omega arith), four_at_lem s (at + 4) (omega arith)) at q) in
+    omega (arith, v, k, four_after (value_of 0 (take 4 (drop at s))) t l, word_told s at (omega arith), word_told s (at + 4) (omega arith))
 
--- ---- eight bytes, as the code writes them
+-- ---- eight bytes, as `codec` writes them
 
 low_24 : (n : ℕ) → n / 16777216 % 256 ≡ n % 4294967296 / 16777216
 low_24 n = omega arith
@@ -116,17 +121,7 @@ low_0 n = omega arith
 high_24 : (n : ℕ) → n < 18446744073709551616 → n / 4294967296 / 16777216 % 256 ≡ n / 4294967296 / 16777216
 high_24 n h = omega arith
 
-pub eight_written : (n : ℕ) → n < 18446744073709551616
-    → bytes_of 8 n
-    ≡ n / 4294967296 / 16777216
-    ∷ n / 4294967296 / 65536 % 256
-    ∷ n / 4294967296 / 256 % 256
-    ∷ n / 4294967296 % 256
-    ∷ n % 4294967296 / 16777216
-    ∷ n % 4294967296 / 65536 % 256
-    ∷ n % 4294967296 / 256 % 256
-    ∷ n % 4294967296 % 256
-    ∷ []
+pub eight_written : (n : ℕ) → n < 18446744073709551616 → bytes_of 8 n ≡ eight.write n
 unfolding bytes_of
 eight_written n h =
     rw (

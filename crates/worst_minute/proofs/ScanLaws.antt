@@ -7,12 +7,12 @@ use native.Mathlib.Numerals.{add-one}
 use mathlib.Core.Path.{◌≡◌, refl, sym, ap, subst, ◌∙◌}
 use mathlib.Core.Bool.{Bool, true, false, cond, ◌&&◌, and-false, false≢true}
 use mathlib.Core.List.{List, [], ◌∷◌, ◌++◌}
-use mathlib.Core.Option.{some}
 use mathlib.Core.Logic.{◌⊎◌, inl, inr, ⊎_elim}
 use lib.ListN.{length, take, drop, get_or, length-drop, take-append-drop}
 use lib.Seq.{get_or-take, get_or-drop, drop-drop, take-add, take-suc, drop_at, drop-cons, length-take-le}
 use lib.Dec.{leb, ltb}
 use borrow.Author.Tests.{leb-true, leb-false, ltb-true, ltb-false, le-leb, lt-leb, lt-ltb, le-ltb}
+use Rattle.std.specs.Prelude.{Some}
 use Rattle.worst_minute.specs.Minute.{Verdict, is_refusal, minute, is_within, refusals_from, Minute, worst, time_of, IsWorst, rises_from}
 use Rattle.worst_minute.specs.Steps.{refused_in, is_behind, left_behind, minute_in, or_more, counting, scan}
 use Rattle.worst_minute.proofs.ReadLaws.{nobody}
@@ -389,7 +389,7 @@ module _ (vs : List Verdict) (r : rises_from 0 vs ≡ true) where
       (subst (λ (s : List Verdict). IsWorst vs (scan s (counting (left lo k w h) (win lo k) m) rest)) (sym (next_window lo k w h)) i)
 
 -- one pass over a run that isn't empty gives its worst minute
-pub scan_worst : (v : Verdict) (vs : List Verdict) → rises_from 0 (v ∷ vs) ≡ true → worst (v ∷ vs) ≡ some (scan [] (record { start = v.time; refusals = 0 }) (v ∷ vs))
+pub scan_worst : (v : Verdict) (vs : List Verdict) → rises_from 0 (v ∷ vs) ≡ true → worst (v ∷ vs) ≡ Some (scan [] (record { start = v.time; refusals = 0 }) (v ∷ vs))
 scan_worst v vs r =
     worst_only v vs (scan [] (record { start = v.time; refusals = 0 }) (v ∷ vs))
     (pass (v ∷ vs) r (v ∷ vs) 0 0 (record { start = v.time; refusals = 0 }) refl

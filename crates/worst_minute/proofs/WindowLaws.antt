@@ -1,7 +1,6 @@
 -- The window of a pass moves over the verdicts that are left behind, one at a time. Assumes nothing.
 use Prim.Native.Nat.{ℕ, zero, suc, ◌+◌, ◌-◌, ◌*◌, ◌/◌, ◌≤◌, ◌<◌}
 use native.Mathlib.Omega.{arith}
-use native.Mathlib.Nat.{add-zero}
 use mathlib.Core.Path.{◌≡◌, refl, sym, ap, ap₂, ◌∙◌}
 use mathlib.Core.Bool.{true, false, not}
 use mathlib.Core.List.{List, ◌∷◌}
@@ -11,7 +10,7 @@ use lib.Dec.{eqb}
 use borrow.Author.Tests.{le-leb, lt-leb, eq-eqb, ne_eqb}
 use Rattle.worst_minute.specs.Minute.{Verdict, is_refusal, minute}
 use Rattle.worst_minute.specs.Layout.{entry_in, entries_in}
-use Rattle.worst_minute.specs.Steps.{refused_in, left_behind, time_at, between, Reaches, moved_by, moved_to}
+use Rattle.worst_minute.specs.Steps.{refused_in, left_behind, time_at, between, moved_by, moved_to}
 use Rattle.worst_minute.specs.declared.counting.Window.{Window}
 use Rattle.worst_minute.proofs.LayoutLaws.{drop_entries}
 
@@ -72,30 +71,7 @@ pub record Moving (s : List ℕ) (at t from₀ from start refusals : ℕ) : Type
   pub left : left_behind t (entries_in (i + m) (drop from₀ s)) ≡ i + left_behind t (entries_in m (drop from s))
   pub below : (j : ℕ) → j ≤ m → time_at s (from + j * 9) ≤ t
 
-pub moving : (s : List ℕ) (w : Window) (at : ℕ) → Reaches s w at → {t : ℕ} → t ≡ time_at s at → Moving s at t w.from w.from w.start w.refusals
-moving s w at r {t} e = record {
-  i = 0;
-  m = r.count;
-  here = omega arith;
-  up = r.up;
-  entry = r.entry;
-  time = e;
-  starts = r.starts;
-  counts = r.counts;
-  left = same;
-  below = λ j h. omega (arith, r.below j h, e);
-}
-  where
-    zero_plus : (n : ℕ) → 0 + n ≡ n
-    zero_plus n = omega arith
-
-    same : left_behind t (entries_in (0 + r.count) (drop w.from s)) ≡ 0 + left_behind t (entries_in r.count (drop w.from s))
-    same = ap (λ n. left_behind t (entries_in n (drop w.from s))) (zero_plus r.count) ∙ sym (zero_plus (left_behind t (entries_in r.count (drop w.from s))))
-
 module _ {s : List ℕ} {at t from₀ from start refusals : ℕ} (w : Moving s at t from₀ from start refusals) where
-  pub not_above : start ≤ t
-  not_above = let e : time_at s (from + 0 * 9) ≡ time_at s from = ap (time_at s) (add-zero from) in omega (arith, w.below 0 (omega arith), e, w.starts)
-
   -- the window hasn't come to the place
   module _ (h : minute ≤ t - start) where
     some_left : 0 < w.m

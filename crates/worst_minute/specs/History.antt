@@ -1,9 +1,9 @@
 -- Document 02, request 10: "Adding a verdict at the end and dropping the oldest, as a 4,097th does, must give what a fresh count over the times as taken gives." A list of calls
 -- on a run, from an empty one, each lent the first bytes of one memory, as many as it says, and the used length, as the last left them. A list of calls has the LATEST
 -- FIRST, so that what holds for every list holds at every earlier point of it.
-use Rattle.std.specs.Prelude.{ℕ, ◌*◌, ◌≤◌, ◌<◌, ◌≡◌, List, [], ◌∷◌, ◌++◌, length, take, drop, ltb}
-use Rattle.std.proofs.Math.Option.{Option, none}
-use Rattle.limits.specs.Outcome.{Outcome, refused, given, refuse_if}
+use Rattle.limits.specs.declared.Refusal.{Refusal}
+use Rattle.std.specs.Prelude.{ℕ, ◌*◌, ◌≤◌, ◌<◌, ◌≡◌, List, [], ◌∷◌, ◌++◌, length, take, drop, ltb, Err, None, Ok, Option, Result}
+use Rattle.limits.specs.Outcome.{refuse_if}
 use Rattle.limits.specs.declared.Refusal.TheVariants.{BadStore, NoRoom}
 use Rattle.output.specs.Output.{leaves}
 use Rattle.worst_minute.specs.Minute.{Verdict, Minute, worst, most_verdicts, counted}
@@ -23,13 +23,13 @@ size_of vs = length vs * entry_size
 
 -- what a call comes to, where these verdicts were given before it: 3 where what counts of them is over the lent, 18 where it is with the new one. The worst minute is
 -- that of a fresh count over the times as taken
-unfoldable pub decide : Call → List Verdict → Outcome (Option Minute)
-decide (add lent v) vs = refuse_if (ltb lent (size_of (counted vs))) BadStore (refuse_if (ltb lent (size_of (counted (vs ++ (v ∷ []))))) NoRoom (given none))
-decide (ask lent) vs = refuse_if (ltb lent (size_of (counted vs))) BadStore (given (worst (counted vs)))
+unfoldable pub decide : Call → List Verdict → Result (Option Minute) Refusal
+decide (add lent v) vs = refuse_if (ltb lent (size_of (counted vs))) BadStore (refuse_if (ltb lent (size_of (counted (vs ++ (v ∷ []))))) NoRoom (Ok None))
+decide (ask lent) vs = refuse_if (ltb lent (size_of (counted vs))) BadStore (Ok (worst (counted vs)))
 
-abbrev pub with_given : Call → Outcome (Option Minute) → List Verdict → List Verdict
-with_given (add lent v) (refused cause) vs = vs
-with_given (add lent v) (given o) vs = vs ++ (v ∷ [])
+abbrev pub with_given : Call → Result (Option Minute) Refusal → List Verdict → List Verdict
+with_given (add lent v) (Err cause) vs = vs
+with_given (add lent v) (Ok o) vs = vs ++ (v ∷ [])
 with_given (ask lent) o vs = vs
 
 -- the verdicts of the calls that were accepted, the oldest first, with the times as they were given
@@ -37,7 +37,7 @@ unfoldable pub verdicts : List Call → List Verdict
 verdicts [] = []
 verdicts (c ∷ cs) = with_given c (decide c (verdicts cs)) (verdicts cs)
 
-unfoldable pub answers : List Call → List (Outcome (Option Minute))
+unfoldable pub answers : List Call → List (Result (Option Minute) Refusal)
 answers [] = []
 answers (c ∷ cs) = decide c (verdicts cs) ∷ answers cs
 
@@ -58,16 +58,16 @@ pub record World : Type 0 where
 pub record Left : Type 0 where
   pub bytes : List ℕ
   pub used : ℕ
-  pub answer : Outcome (Option Minute)
+  pub answer : Result (Option Minute) Refusal
 
-abbrev pub used_after : Outcome (List ℕ) → ℕ → ℕ
-used_after (refused cause) used = used
-used_after (given s) used = length s
+abbrev pub used_after : Result (List ℕ) Refusal → ℕ → ℕ
+used_after (Err cause) used = used
+used_after (Ok s) used = length s
 
 -- an accepted `add_verdict` answers no minute
-abbrev pub nothing_asked : Outcome (List ℕ) → Outcome (Option Minute)
-nothing_asked (refused cause) = refused cause
-nothing_asked (given s) = given none
+abbrev pub nothing_asked : Result (List ℕ) Refusal → Result (Option Minute) Refusal
+nothing_asked (Err cause) = Err cause
+nothing_asked (Ok s) = Ok None
 
 abbrev pub lent_to : Call → ℕ
 lent_to (add lent v) = lent
@@ -84,7 +84,7 @@ unfoldable pub world : List ℕ → List Call → World
 world m [] = record { memory = m; used = 0 }
 world m (c ∷ cs) = record { memory = (lending c (world m cs)).bytes ++ drop (lent_to c) (world m cs).memory; used = (lending c (world m cs)).used }
 
-unfoldable pub run_answers : List ℕ → List Call → List (Outcome (Option Minute))
+unfoldable pub run_answers : List ℕ → List Call → List (Result (Option Minute) Refusal)
 run_answers m [] = []
 run_answers m (c ∷ cs) = (lending c (world m cs)).answer ∷ run_answers m cs
 

@@ -1,7 +1,6 @@
 -- Document 02, request 10. The bytes of a run of verdicts: docs/LAYOUTS.md, "The run of verdicts". An entry is a time in eight bytes, the highest first, and a number in one; the entries lie one
 -- after another, the oldest first; their times never fall; there are at most 4,096.
-use Rattle.std.specs.Prelude.{ℕ, zero, suc, ◌*◌, ◌+◌, ◌/◌, ◌%◌, Bool, cond, ◌&&◌, List, [], ◌∷◌, ◌++◌, length, take, drop, get_or, leb, eqb}
-use Rattle.std.proofs.Math.Option.{Option, none, some}
+use Rattle.std.specs.Prelude.{ℕ, zero, suc, ◌*◌, ◌+◌, ◌/◌, ◌%◌, Bool, cond, ◌&&◌, List, [], ◌∷◌, ◌++◌, length, take, drop, get_or, leb, eqb, None, Option, Some}
 use Rattle.worst_minute.specs.Minute.{Verdict, rises_from, most_verdicts}
 
 -- ---- numbers
@@ -48,4 +47,4 @@ verdicts_in s = entries_in (length s / entry_size) s
 
 -- the run that bytes are
 unfoldable pub decode_run : List ℕ → Option (List Verdict)
-decode_run s = cond (is_sized (length s) && rises_from 0 (verdicts_in s)) (some (verdicts_in s)) none
+decode_run s = cond (is_sized (length s) && rises_from 0 (verdicts_in s)) (Some (verdicts_in s)) None

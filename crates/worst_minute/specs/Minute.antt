@@ -1,8 +1,7 @@
 -- Document 02, request 10, "Refusals in the worst minute": "Over a run of up to 4,096 request verdicts, each with its time, give the most refusals in any 60 s (start included, end excluded) starting at
 -- a verdict, and the earliest start that has them. A time below the one before it is taken as that one, and keeps the value so taken. An empty run gives 0 and no
 -- start; of a longer one the last 4,096 count." Times are nanoseconds. A window starts at any verdict, accepted ones too.
-use Rattle.std.specs.Prelude.{ℕ, ◌+◌, ◌-◌, ◌≤◌, ◌<◌, max, ◌≡◌, Bool, true, cond, not, ◌&&◌, ◌||◌, List, [], ◌∷◌, length, drop, get_or, leb, ltb, eqb}
-use Rattle.std.proofs.Math.Option.{Option, none, some}
+use Rattle.std.specs.Prelude.{ℕ, ◌+◌, ◌-◌, ◌≤◌, ◌<◌, max, ◌≡◌, Bool, true, cond, not, ◌&&◌, ◌||◌, List, [], ◌∷◌, length, drop, get_or, leb, ltb, eqb, None, Option, Some}
 
 -- a request's verdict: when it was given, and its number, 0 where the request was taken
 pub record Verdict : Type 0 where
@@ -42,13 +41,13 @@ abbrev pub is_worse : Minute → Minute → Bool
 is_worse m n = ltb n.refusals m.refusals || (eqb m.refusals n.refusals && ltb m.start n.start)
 
 abbrev pub worse_of : Minute → Option Minute → Minute
-worse_of m none = m
-worse_of m (some n) = cond (is_worse n m) n m
+worse_of m None = m
+worse_of m (Some n) = cond (is_worse n m) n m
 
 -- the worst of those that start at the given verdicts
 unfoldable pub worst_at : List Verdict → (starts : List Verdict) → Option Minute
-worst_at run [] = none
-worst_at run (v ∷ vs) = some (worse_of (minute_of run v) (worst_at run vs))
+worst_at run [] = None
+worst_at run (v ∷ vs) = Some (worse_of (minute_of run v) (worst_at run vs))
 
 -- of an empty run there is none
 abbrev pub worst : List Verdict → Option Minute

@@ -1,6 +1,6 @@
 // One pass over a run with two ends: the first verdict of the 60 s that are counted, and the one read last.
-ghost use Rattle.std.specs.Prelude.{◌≡◌, ◌<◌, true, length};
-ghost use Rattle.limits.specs.Outcome.{given, and_then, or_refuse};
+ghost use Rattle.std.specs.Prelude.{◌≡◌, ◌<◌, true, length, Ok};
+ghost use Rattle.limits.specs.Outcome.{and_then, or_refuse};
 ghost use Rattle.limits.specs.declared.Refusal.TheVariants.{BadStore};
 ghost use Rattle.worst_minute.specs.Minute.{worst};
 ghost use Rattle.worst_minute.specs.Layout.{is_sized, decode_run};
@@ -14,14 +14,6 @@ use limits::Refusal;
 // 60 s in nanoseconds.
 const MINUTE: u64 = 60000000000;
 
-// The most refusals in 60 s, and the earliest start that has them.
-#[derive(Clone, Copy)]
-pub enum Worst {
-    Of(usize, u64),
-    Empty,
-    Refused(Refusal),
-}
-
 // The verdicts from a place up to the one read last: the time of the first, and how many of them are refusals.
 #[derive(Clone, Copy)]
 pub struct Window {
@@ -31,9 +23,9 @@ pub struct Window {
 }
 
 // The worst 60 s of whole entries that aren't none; 3 where a time falls.
-pub fn count(run: &[u8]) -> Worst
+pub fn count(run: &[u8]) -> Result<Option<(usize, u64)>, Refusal>
     requires { (0 < length run.now) × (is_sized (length run.now) ≡ true) }
-    ensures { result ≡ worst_answer (and_then (or_refuse BadStore (decode_run run.now)) (λ vs. given (worst vs))) }
+    ensures { result ≡ worst_answer (and_then (or_refuse BadStore (decode_run run.now)) (λ vs. Ok (worst vs))) }
 {
     let first = time_at(run, 0);
     let mut w = Window {
@@ -44,11 +36,11 @@ pub fn count(run: &[u8]) -> Worst
     let mut most = 0;
     let mut start = first;
     let mut last = first;
-    let mut at = 0;
-    while at < run.len() {
+    for k in 0..run.len() / ENTRY_SIZE {
+        let at = k * ENTRY_SIZE;
         let t = time_at(run, at);
         if t < last {
-            return Worst::Refused(Refusal::BadStore);
+            return Err(Refusal::BadStore);
         }
         if MINUTE <= t - w.start {
             if most < w.refusals {
@@ -61,12 +53,11 @@ pub fn count(run: &[u8]) -> Worst
             w.refusals += 1;
         }
         last = t;
-        at += ENTRY_SIZE;
     }
     if w.refusals <= most {
-        return Worst::Of(most, start);
+        return Ok(Some((most, start)));
     }
-    Worst::Of(w.refusals, w.start)
+    Ok(Some((w.refusals, w.start)))
 }
 
 // The window without the verdicts that are 60 s or more before the one at a place.
@@ -78,6 +69,7 @@ fn moved(run: &[u8], w: Window, at: usize) -> Window
     let mut from = w.from;
     let mut start = w.start;
     let mut refusals = w.refusals;
+    // A `while`, since the time decides where it ends, and no end of the bytes.
     while MINUTE <= t - start {
         if run[from + 8] != 0 {
             refusals -= 1;

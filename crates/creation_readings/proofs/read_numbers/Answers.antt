@@ -1,5 +1,6 @@
 -- `creation_readings::read_numbers` meets its contract: the number, then the interval. Assumes nothing.
 use mathlib.Core.Path.{sym, ◌∙◌}
+use Rattle.std.proofs.lemmas.Result.{err_from_is_err_and}
 use Rattle.limits.specs.Limits.{rust_limits}
 use Rattle.headers.specs.SessionExpires.{expires_named}
 use Rattle.record.specs.NumbersForm.{state_in}
@@ -8,11 +9,17 @@ use Rattle.creation_readings.specs.Steps.{side_for}
 use Rattle.creation_readings.proofs.ReadingLaws.{refused_number, refused_interval, given_numbers}
 use Rattle.creation_readings.proofs.read_numbers.Goals as goal
 
-pub returns-in-Refused-check_interval : goal.returns-in-Refused-check_interval
-returns-in-Refused-check_interval c = let a = c.args in refused_interval (sequence_in rust_limits a.request.now) (expires_named a.response.now) (side_for a.we_are_uac) (state_in a.state) (sym c.read_sequence.ensures ∙ c.in-Value.is) c.expires_named-expires.ensures (sym c.check_interval.ensures ∙ c.in-Refused-check_interval.is)
+pub returns-in_err-check_interval : goal.returns-in_err-check_interval
+returns-in_err-check_interval c =
+    let a = c.args in
+    let p = err_from_is_err_and c.from_residual-in_err-check_interval.result c.from_residual-in_err-check_interval.ensures.1 in
+    rw (p.1, p.2) (refused_interval (sequence_in rust_limits a.request.now) (expires_named a.response.now) (side_for a.we_are_uac) (state_in a.state) (sym c.read_sequence.ensures ∙ c.in_ok-n.was) c.expires_named-expires.ensures (sym c.check_interval.ensures ∙ c.in_err-check_interval.was))
 
-pub returns-in-Refused : goal.returns-in-Refused
-returns-in-Refused c = let a = c.args in refused_number (sequence_in rust_limits a.request.now) (expires_named a.response.now) (side_for a.we_are_uac) (state_in a.state) (sym c.read_sequence.ensures ∙ c.in-Refused.is)
+pub returns-in_err-n : goal.returns-in_err-n
+returns-in_err-n c =
+    let a = c.args in
+    let p = err_from_is_err_and c.from_residual.result c.from_residual.ensures.1 in
+    rw (p.1, p.2) (refused_number (sequence_in rust_limits a.request.now) (expires_named a.response.now) (side_for a.we_are_uac) (state_in a.state) (sym c.read_sequence.ensures ∙ c.in_err-n.was))
 
-pub returns-in_default : goal.returns-in_default
-returns-in_default c = let a = c.args in given_numbers (sequence_in rust_limits a.request.now) (expires_named a.response.now) (side_for a.we_are_uac) (state_in a.state) (sym c.read_sequence.ensures ∙ c.in-Value.is) c.expires_named-expires.ensures (sym c.check_interval.ensures ∙ c.in_default.is) c.first_numbers.ensures
+pub returns : goal.returns
+returns c = let a = c.args in given_numbers (sequence_in rust_limits a.request.now) (expires_named a.response.now) (side_for a.we_are_uac) (state_in a.state) (sym c.read_sequence.ensures ∙ c.in_ok-n.was) c.expires_named-expires.ensures (sym c.check_interval.ensures ∙ c.in_ok-check_interval.was) c.first_numbers.ensures

@@ -1,5 +1,6 @@
 -- `creation_readings::read_rest` meets its contract: the routes, then the numbers. Assumes nothing.
 use mathlib.Core.Path.{sym, ◌∙◌}
+use Rattle.std.proofs.lemmas.Result.{err_from_is_err_and}
 use Rattle.limits.specs.Limits.{rust_limits}
 use Rattle.route_set.specs.Routes.{routes_of}
 use Rattle.record.specs.NumbersForm.{state_in}
@@ -7,5 +8,8 @@ use Rattle.creation_readings.specs.Steps.{side_for, numbers_in}
 use Rattle.creation_readings.proofs.ReadingLaws.{refused_routes}
 use Rattle.creation_readings.proofs.read_rest.Goals as goal
 
-pub returns-in-Refused : goal.returns-in-Refused
-returns-in-Refused c = let a = c.args in refused_routes (routes_of rust_limits a.peer.now) (numbers_in rust_limits (side_for a.we_are_uac) (state_in a.state) a.request.now a.response.now) (sym c.measure_routes.ensures.value ∙ c.in-Refused.is)
+pub returns-in_err-size : goal.returns-in_err-size
+returns-in_err-size c =
+    let a = c.args in
+    let p = err_from_is_err_and c.from_residual.result c.from_residual.ensures.1 in
+    rw (p.1, p.2) (refused_routes (routes_of rust_limits a.peer.now) (numbers_in rust_limits (side_for a.we_are_uac) (state_in a.state) a.request.now a.response.now) (sym c.measure_routes.ensures.value ∙ c.in_err-size.was))

@@ -1,6 +1,6 @@
 -- `dialog_changes::terminate` meets its contract: 3, then the numbers of the one record changed. Assumes nothing.
 use mathlib.Core.Path.{sym, ap, ◌∙◌}
-use Rattle.limits.specs.Outcome.{given}
+use Rattle.std.specs.Prelude.{Ok}
 use Rattle.record.specs.Rules.{terminate_step}
 use Rattle.dialog_changes.proofs.ImageUpdateLaws.{unread_ended, changed_ended}
 use Rattle.dialog_changes.proofs.terminate.Goals as goal
@@ -8,12 +8,12 @@ use Rattle.dialog_changes.proofs.terminate.Goals as goal
 pub returns-in_default : goal.returns-in_default
 returns-in_default c =
     let a = c.args in
-    let old : _ × _ = unread_ended a.bytes.now a.used (λ x. given (terminate_step x)) (sym c.in_default.is ∙ c.read_used.ensures) in
+    let old : _ × _ = unread_ended a.bytes.now a.used (λ x. Ok (terminate_step x)) (sym c.in_default.is ∙ c.read_used.ensures) in
     record { value = old.0; bytes_after = old.1 }
 
 pub returns : goal.returns
 returns c =
     let a = c.args in
-    let old : _ × _ = changed_ended a.bytes.now a.used (λ x. given (terminate_step x)) (sym c.in-Of.is ∙ c.read_used.ensures) (ap given (sym c.terminate.ensures))
+    let old : _ × _ = changed_ended a.bytes.now a.used (λ x. Ok (terminate_step x)) (sym c.in-Ok.is ∙ c.read_used.ensures) (ap Ok (sym c.terminate.ensures))
     (λ i. (c.slice_known-1.given i).fits) (c.update_numbers.ensures.value, c.update_numbers.ensures.bytes_after) in
     record { value = old.0; bytes_after = old.1 }

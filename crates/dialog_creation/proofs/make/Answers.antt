@@ -3,15 +3,17 @@ use mathlib.Core.Path.{◌≡◌, sym, subst, ◌∙◌}
 use Prim.Native.Nat.{ℕ, ◌≤◌}
 use mathlib.Core.List.{List}
 use lib.ListN.{length}
-use Rattle.limits.specs.Outcome.{Outcome}
+use Rattle.std.specs.Prelude.{Result}
+use Rattle.std.proofs.lemmas.Result.{err_from_is_err_and}
+use Rattle.limits.specs.declared.Refusal.{Refusal}
 use Rattle.output.specs.Output.{leaves, written_from}
 use Rattle.dialog_creation.proofs.MadeLaws.{refusal, Named, named, id_fits, peer_short, target_short, no_identifier, no_state, over_estimate_lem, rest_refused, size_is, image_is}
 use Rattle.dialog_creation.proofs.make.Goals as goal
-use Rattle.dialog_creation.proofs.make.Goals.{After-peer_block-peer, In-At}
+use Rattle.dialog_creation.proofs.make.Goals.{After-peer_block-peer, In-Some}
 
 -- the identifier that was read
-id_named : (c : In-At) → Named c.args.we_are_uac c.args.response.now c.in-At.id
-id_named c = named c.args.we_are_uac c.args.response.now c.in-At.id (sym c.identifier.ensures ∙ c.in-At.is)
+id_named : (c : In-Some) → Named c.args.we_are_uac c.args.response.now c.in-Some.id
+id_named c = named c.args.we_are_uac c.args.response.now c.in-Some.id (sym c.identifier.ensures ∙ c.in-Some.is)
 
 -- the message with Contact and Record-Route is short
 peer_fits : (c : After-peer_block-peer) → length c.peer_block-peer.result.now ≤ 8192
@@ -26,19 +28,20 @@ returns-in_default c =
 pub returns-in_default-state_for : goal.returns-in_default-state_for
 returns-in_default-state_for c =
     let a = c.args in
-    let old : _ × _ = refusal a.out.now (no_state a.we_are_uac a.request.now a.status a.response.now a.local_uri.now a.remote_uri.now (length a.out.now) c.in-At.id (id_named (goal.at.returns-in_default-state_for c).In-At) (sym c.state_for.ensures ∙ c.in_default-state_for.is)) in
+    let old : _ × _ = refusal a.out.now (no_state a.we_are_uac a.request.now a.status a.response.now a.local_uri.now a.remote_uri.now (length a.out.now) c.in-Some.id (id_named (goal.at.returns-in_default-state_for c).In-Some) (sym c.state_for.ensures ∙ c.in_default-state_for.is)) in
     record { value = old.0; out_after = old.1 }
 
-pub returns-in-Refused : goal.returns-in-Refused
-returns-in-Refused c =
+pub returns-in_err-check_estimates : goal.returns-in_err-check_estimates
+returns-in_err-check_estimates c =
     let a = c.args in
-    let old : _ × _ = refusal a.out.now (over_estimate_lem a.we_are_uac a.request.now a.status a.response.now a.local_uri.now a.remote_uri.now (length a.out.now) c.in-At.id (id_named (goal.at.returns-in-Refused c).In-At) c.in-Of.state (sym c.state_for.ensures ∙ c.in-Of.is) c.peer_block-peer.result.now c.target-target.result.now c.peer_block-peer.ensures (c.target-target.ensures.result_value) (sym c.check_estimates.ensures ∙ c.in-Refused.is)) in
-    record { value = old.0; out_after = old.1 }
+    let old : _ × _ = refusal a.out.now (over_estimate_lem a.we_are_uac a.request.now a.status a.response.now a.local_uri.now a.remote_uri.now (length a.out.now) c.in-Some.id (id_named (goal.at.returns-in_err-check_estimates c).In-Some) c.in-Some-state_for.state (sym c.state_for.ensures ∙ c.in-Some-state_for.is) c.peer_block-peer.result.now c.target-target.result.now c.peer_block-peer.ensures (c.target-target.ensures.result_value) (sym c.check_estimates.ensures ∙ c.in_err-check_estimates.was)) in
+    let p = err_from_is_err_and c.from_residual.result c.from_residual.ensures.1 in
+    record { value = rw (p.1, p.2) old.0; out_after = old.1 }
 
 pub write_image-requires-clause-call_id_in_bounds : goal.write_image-requires-clause-call_id_in_bounds
 write_image-requires-clause-call_id_in_bounds c =
     let a = c.args in
-    id_fits a.we_are_uac a.response.now c.in-At.id (id_named (goal.at.write_image-requires-clause-call_id_in_bounds c).In-At)
+    id_fits a.we_are_uac a.response.now c.in-Some.id (id_named (goal.at.write_image-requires-clause-call_id_in_bounds c).In-Some)
 
 pub write_image-requires-clause-response_len_bound : goal.write_image-requires-clause-response_len_bound
 write_image-requires-clause-response_len_bound c =
@@ -49,18 +52,19 @@ write_image-requires-clause-response_len_bound c =
 pub write_image-requires-clause-size_value : goal.write_image-requires-clause-size_value
 write_image-requires-clause-size_value c =
     let a = c.args in
-    size_is a.we_are_uac a.request.now a.status a.response.now a.local_uri.now a.remote_uri.now (length a.out.now) c.in-At.id (id_named (goal.at.write_image-requires-clause-size_value c).In-At) c.in-Of.state (sym c.state_for.ensures ∙ c.in-Of.is) c.peer_block-peer.result.now c.target-target.result.now c.peer_block-peer.ensures (c.target-target.ensures.result_value) (sym c.check_estimates.ensures ∙ c.in_default-check_estimates.is) c.read_rest.result c.read_rest.ensures c.in-Of-read_rest.numbers c.in-Of-read_rest.size c.in-Of-read_rest.is
+    size_is a.we_are_uac a.request.now a.status a.response.now a.local_uri.now a.remote_uri.now (length a.out.now) c.in-Some.id (id_named (goal.at.write_image-requires-clause-size_value c).In-Some) c.in-Some-state_for.state (sym c.state_for.ensures ∙ c.in-Some-state_for.is) c.peer_block-peer.result.now c.target-target.result.now c.peer_block-peer.ensures (c.target-target.ensures.result_value) (sym c.check_estimates.ensures ∙ c.in_ok-check_estimates.was) c.read_rest.result c.read_rest.ensures c.in_ok-numbers.numbers c.in_ok-numbers.size c.in_ok-numbers.was
 
-pub returns-in-Refused-read_rest : goal.returns-in-Refused-read_rest
-returns-in-Refused-read_rest c =
+pub returns-in_err-numbers : goal.returns-in_err-numbers
+returns-in_err-numbers c =
     let a = c.args in
-    let old : _ × _ = refusal a.out.now (rest_refused a.we_are_uac a.request.now a.status a.response.now a.local_uri.now a.remote_uri.now (length a.out.now) c.in-At.id (id_named (goal.at.returns-in-Refused-read_rest c).In-At) c.in-Of.state (sym c.state_for.ensures ∙ c.in-Of.is) c.peer_block-peer.result.now c.target-target.result.now c.peer_block-peer.ensures (c.target-target.ensures.result_value) (sym c.check_estimates.ensures ∙ c.in_default-check_estimates.is) c.read_rest.result c.read_rest.ensures c.in-Refused-read_rest.is) in
-    record { value = old.0; out_after = old.1 }
+    let old : _ × _ = refusal a.out.now (rest_refused a.we_are_uac a.request.now a.status a.response.now a.local_uri.now a.remote_uri.now (length a.out.now) c.in-Some.id (id_named (goal.at.returns-in_err-numbers c).In-Some) c.in-Some-state_for.state (sym c.state_for.ensures ∙ c.in-Some-state_for.is) c.peer_block-peer.result.now c.target-target.result.now c.peer_block-peer.ensures (c.target-target.ensures.result_value) (sym c.check_estimates.ensures ∙ c.in_ok-check_estimates.was) c.read_rest.result c.read_rest.ensures c.in_err-numbers.was) in
+    let p = err_from_is_err_and c.from_residual-in_err-numbers.result c.from_residual-in_err-numbers.ensures.1 in
+    record { value = rw (p.1, p.2) old.0; out_after = old.1 }
 
-pub returns-in-Of-read_rest : goal.returns-in-Of-read_rest
-returns-in-Of-read_rest c =
+pub returns : goal.returns
+returns c =
     let a = c.args in
-    let old : _ × _ = subst (λ (o : Outcome (List ℕ)). (c.write_image.result ≡ written_from o) × (c.write_image.new.out ≡ leaves o a.out.now))
-    (sym (image_is a.we_are_uac a.request.now a.status a.response.now a.local_uri.now a.remote_uri.now (length a.out.now) c.in-At.id (id_named (goal.at.returns-in-Of-read_rest c).In-At) c.in-Of.state (sym c.state_for.ensures ∙ c.in-Of.is) c.peer_block-peer.result.now c.target-target.result.now c.peer_block-peer.ensures (c.target-target.ensures.result_value) (sym c.check_estimates.ensures ∙ c.in_default-check_estimates.is) c.read_rest.result c.read_rest.ensures c.in-Of-read_rest.numbers c.in-Of-read_rest.size c.in-Of-read_rest.is))
+    let old : _ × _ = subst (λ (o : Result (List ℕ) Refusal). (c.write_image.result ≡ written_from o) × (c.write_image.new.out ≡ leaves o a.out.now))
+    (sym (image_is a.we_are_uac a.request.now a.status a.response.now a.local_uri.now a.remote_uri.now (length a.out.now) c.in-Some.id (id_named (goal.at.returns c).In-Some) c.in-Some-state_for.state (sym c.state_for.ensures ∙ c.in-Some-state_for.is) c.peer_block-peer.result.now c.target-target.result.now c.peer_block-peer.ensures (c.target-target.ensures.result_value) (sym c.check_estimates.ensures ∙ c.in_ok-check_estimates.was) c.read_rest.result c.read_rest.ensures c.in_ok-numbers.numbers c.in_ok-numbers.size c.in_ok-numbers.was))
     (c.write_image.ensures.value, c.write_image.ensures.out_after) in
     record { value = old.0; out_after = old.1 }

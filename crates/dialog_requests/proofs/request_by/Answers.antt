@@ -3,11 +3,12 @@ use native.Mathlib.Omega.{arith}
 use Prim.Native.Nat.{◌≤◌, ℕ, ◌<◌}
 use mathlib.Core.Path.{◌≡◌, sym, ap, subst, ◌∙◌}
 use lib.ListN.{length, take, get_or}
+use Rattle.std.proofs.result.Match.{err_is}
+use Rattle.text.specs.declared.Span.{Span}
+use Rattle.std.specs.Prelude.{Err, Ok, Option}
 use Rattle.limits.specs.Limits.{rust_limits}
-use Rattle.limits.specs.Outcome.{refused, given}
 use Rattle.output.specs.Output.{fitted}
 use Rattle.msg.specs.Table.{end_of}
-use Rattle.msg.specs.declared.Found.{Found}
 use Rattle.msg.proofs.TableLaws.{end_of_lem}
 use Rattle.route_set.specs.Routes.{contact_name}
 use Rattle.route_set.proofs.ElementLaws.{contact_found}
@@ -24,7 +25,6 @@ use Rattle.dialog_rules.specs.Updates.{kind_of, retargeted, request_update}
 use Rattle.dialog_updates.specs.AtPlace.{stepped}
 use Rattle.dialog_updates.proofs.PlaceLaws.{numbers_read, stepped_refused, stepped_given, refused_leaves, result_as}
 use Rattle.dialog_requests.proofs.RequestLaws.{no_number, number_refused, number_taken}
-use native.Mathlib.Omega.{arith}
 use Rattle.dialog_requests.proofs.request_by.Goals as goal
 use Rattle.dialog_requests.proofs.request_by.Goals.{Start}
 
@@ -35,7 +35,7 @@ stood c f =
     held_used a.bytes.now a.used a.at f c.requires.used_in_bounds.0 c.requires.used_in_bounds.1 c.requires.bytes_value
 
 pub cseq_at-requires : goal.cseq_at-requires
-cseq_at-requires c = subst (λ (f : Found). end_of f ≤ length c.args.block.now) (sym c.requires.used_in_bounds.3) (end_of_lem cseq_name _)
+cseq_at-requires c = subst (λ (f : Option (Span × ℕ)). end_of f ≤ length c.args.block.now) (sym c.requires.used_in_bounds.3) (end_of_lem cseq_name _)
 
 pub returns-in_default : goal.returns-in_default
 returns-in_default c =
@@ -48,7 +48,7 @@ returns-in_default c =
     record { value = old.0; bytes_after = old.1 }
 
 pub contact_at-target-requires : goal.contact_at-target-requires
-contact_at-target-requires c = subst (λ (f : Found). end_of f ≤ length c.args.block.now) (sym c.requires.used_in_bounds.4) (end_of_lem contact_name _)
+contact_at-target-requires c = subst (λ (f : Option (Span × ℕ)). end_of f ≤ length c.args.block.now) (sym c.requires.used_in_bounds.4) (end_of_lem contact_name _)
 
 pub revise_to-requires-clause-used_in_bounds : goal.revise_to-requires-clause-used_in_bounds
 revise_to-requires-clause-used_in_bounds c =
@@ -58,35 +58,35 @@ pub revise_to-requires-clause-bytes_value : goal.revise_to-requires-clause-bytes
 revise_to-requires-clause-bytes_value c =
     c.requires.bytes_value
 
-pub returns-in-Taken : goal.returns-in-Taken
-returns-in-Taken c =
+pub returns : goal.returns
+returns c =
     let a = c.args in
     let s = take a.used a.bytes.now in
     let k = kind_of a.method.now in
-    let h = stood (goal.at.returns-in-Taken c).Start (λ i. (c.slice_known-1.given i).fits) in
-    let n = c.in-Value.n in
-    let x = meaning c.in-Taken.x in
-    let e : request_step rust_limits k n h.value.numbers ≡ given x =
+    let h = stood (goal.at.returns c).Start (λ i. (c.slice_known-1.given i).fits) in
+    let n = c.in-Some.n in
+    let x = meaning c.in_ok-x.x in
+    let e : request_step rust_limits k n h.value.numbers ≡ Ok x =
     ap (λ (y : Numbers). request_step rust_limits k n y) (sym (numbers_read s a.at a.r h))
     ∙ ap (λ (y : Kind). request_step rust_limits y n (meaning a.r.numbers)) (sym c.kind_of.ensures)
     ∙ sym c.request.ensures
-    ∙ ap outcome_in c.in-Taken.is in
-    let f = stepped_given s a.at a.r h (request_update rust_limits k a.block.now) (length a.bytes.now) (λ v. retargeted a.block.now (with_numbers x v)) (number_taken rust_limits k a.block.now h.value n x (readable (cseq_number a.block.now) (c.cseq_at.ensures ∙ cseq_found a.block.now _ c.requires.used_in_bounds.3) c.in-Value.is) e) in
+    ∙ ap outcome_in c.in_ok-x.was in
+    let f = stepped_given s a.at a.r h (request_update rust_limits k a.block.now) (length a.bytes.now) (λ v. retargeted a.block.now (with_numbers x v)) (number_taken rust_limits k a.block.now h.value n x (readable (cseq_number a.block.now) (c.cseq_at.ensures ∙ cseq_found a.block.now _ c.requires.used_in_bounds.3) c.in-Some.is) e) in
     let old : _ × _ = result_as a.bytes.now (stepped (request_update rust_limits k a.block.now) (length a.bytes.now) a.at s) (fitted (length a.bytes.now) (changed (λ v. retargeted a.block.now (with_numbers x v)) a.at s)) c.revise_to.result c.revise_to.new.bytes f (c.revise_to.ensures.value, c.revise_to.ensures.bytes_after) in
     record { value = old.0; bytes_after = old.1 }
 
-pub returns-in-Refused : goal.returns-in-Refused
-returns-in-Refused c =
+pub returns-in_err-x : goal.returns-in_err-x
+returns-in_err-x c =
     let a = c.args in
     let s = take a.used a.bytes.now in
     let k = kind_of a.method.now in
-    let h = stood (goal.at.returns-in-Refused c).Start (λ i. (c.slice_known-1.given i).fits) in
-    let n = c.in-Value.n in
-    let e : request_step rust_limits k n h.value.numbers ≡ refused c.in-Refused.cause =
+    let h = stood (goal.at.returns-in_err-x c).Start (λ i. (c.slice_known-1.given i).fits) in
+    let n = c.in-Some.n in
+    let e : request_step rust_limits k n h.value.numbers ≡ Err c.in_err-x.field-0.0 =
     ap (λ (y : Numbers). request_step rust_limits k n y) (sym (numbers_read s a.at a.r h))
     ∙ ap (λ (y : Kind). request_step rust_limits y n (meaning a.r.numbers)) (sym c.kind_of.ensures)
     ∙ sym c.request.ensures
-    ∙ ap outcome_in c.in-Refused.is in
+    ∙ ap outcome_in c.in_err-x.was in
     let old : _ × _ = refused_leaves a.bytes.now (stepped (request_update rust_limits k a.block.now) (length a.bytes.now) a.at s)
-    (stepped_refused s a.at a.r h (request_update rust_limits k a.block.now) (length a.bytes.now) (number_refused rust_limits k a.block.now h.value n (readable (cseq_number a.block.now) (c.cseq_at.ensures ∙ cseq_found a.block.now _ c.requires.used_in_bounds.3) c.in-Value.is) e)) in
-    record { value = old.0; bytes_after = old.1 }
+    (stepped_refused s a.at a.r h (request_update rust_limits k a.block.now) (length a.bytes.now) (number_refused rust_limits k a.block.now h.value n (readable (cseq_number a.block.now) (c.cseq_at.ensures ∙ cseq_found a.block.now _ c.requires.used_in_bounds.3) c.in-Some.is) e)) in
+    record { value = err_is c.from_residual.result _ c.from_residual.ensures.1 ∙ old.0; bytes_after = old.1 }

@@ -2,6 +2,7 @@
 use native.Mathlib.Omega.{arith}
 use mathlib.Core.Path.{sym, ◌∙◌}
 use lib.ListN.{length, take}
+use Rattle.std.proofs.result.Match.{err_is}
 use Rattle.limits.specs.Limits.{rust_limits}
 use Rattle.dialog_rules.specs.Updates.{kind_of, request_update}
 use Rattle.dialog_changes.proofs.ImageUpdateLaws.{one_used, used_refused}
@@ -10,7 +11,6 @@ use Rattle.dialog_updates.specs.Messages.{requested}
 use Rattle.dialog_updates.proofs.PlaceLaws.{stepped_one, refused_leaves, result_as}
 use Rattle.dialog_updates.proofs.BlockLaws.{short_block}
 use Rattle.dialog_requests.proofs.RequestLaws.{long_method, bad_block, no_record, as_image}
-use native.Mathlib.Omega.{arith}
 use Rattle.dialog_requests.proofs.update_from_request.Goals as goal
 
 pub returns-then-too_long : goal.returns-then-too_long
@@ -19,37 +19,37 @@ returns-then-too_long c =
     let old : _ × _ = refused_leaves a.bytes.now (requested rust_limits a.method.now a.block.now a.bytes.now a.used) (long_method rust_limits a.method.now a.block.now a.bytes.now a.used (sym c.too_long.ensures ∙ c.if-too_long.true)) in
     record { value = old.0; bytes_after = old.1 }
 
-pub returns-in-Refused : goal.returns-in-Refused
-returns-in-Refused c =
+pub returns-in_err-check_block : goal.returns-in_err-check_block
+returns-in_err-check_block c =
     let a = c.args in
-    let old : _ × _ = refused_leaves a.bytes.now (requested rust_limits a.method.now a.block.now a.bytes.now a.used) (bad_block rust_limits a.method.now a.block.now a.bytes.now a.used (sym c.too_long.ensures ∙ c.if-too_long.false) (sym c.check_block.ensures ∙ c.in-Refused.is)) in
-    record { value = old.0; bytes_after = old.1 }
+    let old : _ × _ = refused_leaves a.bytes.now (requested rust_limits a.method.now a.block.now a.bytes.now a.used) (bad_block rust_limits a.method.now a.block.now a.bytes.now a.used (sym c.too_long.ensures ∙ c.if-too_long.false) (sym c.check_block.ensures ∙ c.in_err-check_block.was)) in
+    record { value = err_is c.from_residual.result _ c.from_residual.ensures.1 ∙ old.0; bytes_after = old.1 }
 
-pub returns-in_default-read_used : goal.returns-in_default-read_used
-returns-in_default-read_used c =
+pub returns-in_default : goal.returns-in_default
+returns-in_default c =
     let a = c.args in
-    let old : _ × _ = refused_leaves a.bytes.now (requested rust_limits a.method.now a.block.now a.bytes.now a.used) (no_record rust_limits a.method.now a.block.now a.bytes.now a.used (sym c.too_long.ensures ∙ c.if-too_long.false) (sym c.check_block.ensures ∙ c.in_default.is) (used_refused a.bytes.now a.used (sym c.in_default-read_used.is ∙ c.read_used.ensures))) in
+    let old : _ × _ = refused_leaves a.bytes.now (requested rust_limits a.method.now a.block.now a.bytes.now a.used) (no_record rust_limits a.method.now a.block.now a.bytes.now a.used (sym c.too_long.ensures ∙ c.if-too_long.false) (sym c.check_block.ensures ∙ c.in_ok-check_block.was) (used_refused a.bytes.now a.used (sym c.in_default.is ∙ c.read_used.ensures))) in
     record { value = old.0; bytes_after = old.1 }
 
 pub request_at-requires-clause-used_in_bounds : goal.request_at-requires-clause-used_in_bounds
 request_at-requires-clause-used_in_bounds c =
     let a = c.args in
-    let o = one_used a.bytes.now a.used c.in-Of.r (sym c.in-Of.is ∙ c.read_used.ensures) in
-    (o.fits, omega arith, short_block rust_limits a.block.now (sym c.check_block.ensures ∙ c.in_default.is))
+    let o = one_used a.bytes.now a.used c.in-Ok.r (sym c.in-Ok.is ∙ c.read_used.ensures) in
+    (o.fits, omega arith, short_block rust_limits a.block.now (sym c.check_block.ensures ∙ c.in_ok-check_block.was))
 
 pub request_at-requires-clause-bytes_value : goal.request_at-requires-clause-bytes_value
 request_at-requires-clause-bytes_value c =
     let a = c.args in
-    let o = one_used a.bytes.now a.used c.in-Of.r (sym c.in-Of.is ∙ c.read_used.ensures) in
+    let o = one_used a.bytes.now a.used c.in-Ok.r (sym c.in-Ok.is ∙ c.read_used.ensures) in
     o.whole
 
 pub returns : goal.returns
 returns c =
     let a = c.args in
-    let o = one_used a.bytes.now a.used c.in-Of.r (sym c.in-Of.is ∙ c.read_used.ensures) in
+    let o = one_used a.bytes.now a.used c.in-Ok.r (sym c.in-Ok.is ∙ c.read_used.ensures) in
     let step = request_update rust_limits (kind_of a.method.now) a.block.now in
-    let e = as_image rust_limits a.method.now a.block.now a.bytes.now a.used (sym c.too_long.ensures ∙ c.if-too_long.false) (sym c.check_block.ensures ∙ c.in_default.is) in
+    let e = as_image rust_limits a.method.now a.block.now a.bytes.now a.used (sym c.too_long.ensures ∙ c.if-too_long.false) (sym c.check_block.ensures ∙ c.in_ok-check_block.was) in
     let old : _ × _ = result_as a.bytes.now (requested rust_limits a.method.now a.block.now a.bytes.now a.used) (stepped step (length a.bytes.now) 0 (take a.used a.bytes.now)) c.request_at.result c.request_at.new.bytes
-    (e ∙ stepped_one a.bytes.now a.used c.in-Of.r o (λ i. (c.slice_known-1.given i).fits) step)
+    (e ∙ stepped_one a.bytes.now a.used c.in-Ok.r o (λ i. (c.slice_known-1.given i).fits) step)
     (c.request_at.ensures.value, c.request_at.ensures.bytes_after) in
     record { value = old.0; bytes_after = old.1 }

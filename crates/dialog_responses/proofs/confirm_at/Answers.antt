@@ -44,39 +44,39 @@ returns-then-count-eq0 c =
     let a = c.args in
     let s = take a.used a.bytes.now in
     let x = meaning a.numbers in
-    let none : c.in-Of.count ≡ 0 = omega arith in
+    let none : c.in-Ok.count ≡ 0 = omega arith in
     let o = routes_of rust_limits a.block.now in
     let h = stood (goal.at.returns-then-count-eq0 c).Start (λ i. (c.slice_known-1.given i).fits) in
     let f : Record → Record = λ v. retargeted a.block.now (with_numbers x (with_routes (routes_or v.routes o) v)) in
     let g : Record → Record = λ v. retargeted a.block.now (with_numbers x v) in
     let old : _ × _ = result_as a.bytes.now (fitted (length a.bytes.now) (changed f a.at s)) (fitted (length a.bytes.now) (changed g a.at s)) c.revise-then-count-eq0.result c.revise-then-count-eq0.new.bytes
-    (ap (fitted (length a.bytes.now)) (changed_as s a.at a.r h f g (ap (retargeted a.block.now) (empty_routes o x h.value (sym c.measure_routes.ensures.value ∙ c.in-Of.is) none))))
+    (ap (fitted (length a.bytes.now)) (changed_as s a.at a.r h f g (ap (retargeted a.block.now) (empty_routes o x h.value (sym c.measure_routes.ensures.value ∙ c.in-Ok.is) none))))
     (c.revise-then-count-eq0.ensures.value, c.revise-then-count-eq0.ensures.bytes_after) in
     record { value = old.0; bytes_after = old.1 }
 
 pub renew-requires-clause-used_in_bounds : goal.renew-requires-clause-used_in_bounds
 renew-requires-clause-used_in_bounds c =
     let small : Small c.measure_routes.result = (c.measure_routes.ensures.small) in
-    let s = subst Small c.in-Of.is small in
+    let s = subst Small c.in-Ok.is small in
     (c.requires.used_in_bounds.0, c.requires.used_in_bounds.1, c.requires.used_in_bounds.2, s.1)
 
 pub renew-requires-clause-bytes_value : goal.renew-requires-clause-bytes_value
 renew-requires-clause-bytes_value c = c.requires.bytes_value
 
 pub renew-requires-clause-block_value : goal.renew-requires-clause-block_value
-renew-requires-clause-block_value c = sym c.measure_routes.ensures.value ∙ c.in-Of.is
+renew-requires-clause-block_value c = sym c.measure_routes.ensures.value ∙ c.in-Ok.is
 
 pub returns : goal.returns
 returns c =
     let a = c.args in
     let s = take a.used a.bytes.now in
     let x = meaning a.numbers in
-    let some : c.in-Of.count ≡ 0 → ⊥ = λ (q : c.in-Of.count ≡ 0). omega arith in
+    let some : c.in-Ok.count ≡ 0 → ⊥ = λ (q : c.in-Ok.count ≡ 0). omega arith in
     let o = routes_of rust_limits a.block.now in
     let h = stood (goal.at.returns c).Start (λ i. (c.slice_known-1.given i).fits) in
     let f : Record → Record = λ v. retargeted a.block.now (with_numbers x (with_routes (routes_or v.routes o) v)) in
     let g : Record → Record = λ v. retargeted a.block.now (renewed_by x o v) in
     let old : _ × _ = result_as a.bytes.now (fitted (length a.bytes.now) (changed f a.at s)) (fitted (length a.bytes.now) (changed g a.at s)) c.renew.result c.renew.new.bytes
-    (ap (fitted (length a.bytes.now)) (changed_as s a.at a.r h f g (ap (retargeted a.block.now) (some_routes o x h.value (sym c.measure_routes.ensures.value ∙ c.in-Of.is) some))))
+    (ap (fitted (length a.bytes.now)) (changed_as s a.at a.r h f g (ap (retargeted a.block.now) (some_routes o x h.value (sym c.measure_routes.ensures.value ∙ c.in-Ok.is) some))))
     (c.renew.ensures.value, c.renew.ensures.bytes_after) in
     record { value = old.0; bytes_after = old.1 }

@@ -4,8 +4,8 @@ use native.Mathlib.Omega.{arith}
 use mathlib.Core.Path.{◌≡◌, sym, ap, ◌∙◌}
 use mathlib.Core.Bool.{true, false}
 use lib.ListN.{length, take, get_or}
+use Rattle.std.specs.Prelude.{Ok}
 use Rattle.limits.specs.Limits.{rust_limits}
-use Rattle.limits.specs.Outcome.{given}
 use Rattle.output.specs.Output.{fitted}
 use Rattle.record.specs.Changes.{with_numbers, with_routes}
 use Rattle.record.specs.NumbersForm.{meaning}
@@ -17,7 +17,6 @@ use Rattle.dialog_rules.specs.Updates.{retargeted, confirms, routes_or, answered
 use Rattle.dialog_updates.specs.AtPlace.{stepped}
 use Rattle.dialog_updates.proofs.PlaceLaws.{numbers_read, stepped_given, result_as}
 use Rattle.dialog_responses.proofs.ResponseLaws.{confirming_step, other_step}
-use native.Mathlib.Omega.{arith}
 use Rattle.dialog_responses.proofs.response_at.Goals as goal
 use Rattle.dialog_responses.proofs.response_at.Goals.{Start}
 
@@ -39,8 +38,8 @@ returns-then-confirming c =
     let test : confirms a.status h.value.numbers.state ≡ true = ap (λ (y : Numbers). confirms a.status y.state) (sym numbers) ∙ sym c.confirming.ensures ∙ c.if-confirming.true in
     let f : Record → Record = λ v. retargeted block (with_numbers x (with_routes (routes_or v.routes (routes_of rust_limits block)) v)) in
     let e : response_update rust_limits a.status block h.value ≡ f h.value = confirming_step rust_limits a.status block h.value test ∙ ap (λ (y : Numbers). retargeted block (with_numbers y (with_routes (routes_or h.value.routes (routes_of rust_limits block)) h.value))) (sym is) in
-    let old : _ × _ = result_as a.bytes.now (stepped (λ v. given (response_update rust_limits a.status block v)) (length a.bytes.now) a.at s) (fitted (length a.bytes.now) (changed f a.at s)) c.confirm_at.result c.confirm_at.new.bytes
-    (stepped_given s a.at a.r h (λ v. given (response_update rust_limits a.status block v)) (length a.bytes.now) f (ap given e))
+    let old : _ × _ = result_as a.bytes.now (stepped (λ v. Ok (response_update rust_limits a.status block v)) (length a.bytes.now) a.at s) (fitted (length a.bytes.now) (changed f a.at s)) c.confirm_at.result c.confirm_at.new.bytes
+    (stepped_given s a.at a.r h (λ v. Ok (response_update rust_limits a.status block v)) (length a.bytes.now) f (ap Ok e))
     (c.confirm_at.ensures.value, c.confirm_at.ensures.bytes_after) in
     record { value = old.0; bytes_after = old.1 }
 
@@ -62,7 +61,7 @@ returns c =
     let test : confirms a.status h.value.numbers.state ≡ false = ap (λ (y : Numbers). confirms a.status y.state) (sym numbers) ∙ sym c.confirming.ensures ∙ c.if-confirming.false in
     let f : Record → Record = λ v. retargeted block (with_numbers x v) in
     let e : response_update rust_limits a.status block h.value ≡ f h.value = other_step rust_limits a.status block h.value test ∙ ap (λ (y : Numbers). retargeted block (with_numbers y h.value)) (sym is) in
-    let old : _ × _ = result_as a.bytes.now (stepped (λ v. given (response_update rust_limits a.status block v)) (length a.bytes.now) a.at s) (fitted (length a.bytes.now) (changed f a.at s)) c.revise.result c.revise.new.bytes
-    (stepped_given s a.at a.r h (λ v. given (response_update rust_limits a.status block v)) (length a.bytes.now) f (ap given e))
+    let old : _ × _ = result_as a.bytes.now (stepped (λ v. Ok (response_update rust_limits a.status block v)) (length a.bytes.now) a.at s) (fitted (length a.bytes.now) (changed f a.at s)) c.revise.result c.revise.new.bytes
+    (stepped_given s a.at a.r h (λ v. Ok (response_update rust_limits a.status block v)) (length a.bytes.now) f (ap Ok e))
     (c.revise.ensures.value, c.revise.ensures.bytes_after) in
     record { value = old.0; bytes_after = old.1 }

@@ -9,4 +9,4 @@ pub returns-in_default : goal.returns-in_default
 returns-in_default c = no_interval (expires_named c.args.block.now) (meaning c.args.x) (sym c.expires_named.ensures ∙ c.in_default.is)
 
 pub returns : goal.returns
-returns c = an_interval (expires_named c.args.block.now) (meaning c.args.x) c.in-Of.seconds c.in-Of.refresher (side_in c.side-who.result) (sym c.expires_named.ensures ∙ c.in-Of.is) c.side-who.ensures
+returns c = an_interval (expires_named c.args.block.now) (meaning c.args.x) c.in-Some.seconds c.in-Some.refresher (side_in c.side-who.result) (sym c.expires_named.ensures ∙ c.in-Some.is) c.side-who.ensures

@@ -12,20 +12,20 @@ first2 p = p.0
 second2 : {A B : Type 0} → A × B → B
 second2 p = p.1
 
-pub returns-in-Number-clause-value : goal.returns-in-Number-clause-value
-returns-in-Number-clause-value c =
-    rw c.in-Number.is (first2 (c.write_number.ensures.value, c.write_number.ensures.out_after))
+pub returns-in-Some-clause-value : goal.returns-in-Some-clause-value
+returns-in-Some-clause-value c =
+    rw c.in-Some.is (first2 (c.write_number.ensures.value, c.write_number.ensures.out_after))
 
-pub returns-in-Number-clause-out_after : goal.returns-in-Number-clause-out_after
-returns-in-Number-clause-out_after c =
-    rw c.in-Number.is (second2 (c.write_number.ensures.value, c.write_number.ensures.out_after))
+pub returns-in-Some-clause-out_after : goal.returns-in-Some-clause-out_after
+returns-in-Some-clause-out_after c =
+    rw c.in-Some.is (second2 (c.write_number.ensures.value, c.write_number.ensures.out_after))
 
-pub returns-in-Absent-clause-value : goal.returns-in-Absent-clause-value
-returns-in-Absent-clause-value c =
+pub returns-in-None-clause-value : goal.returns-in-None-clause-value
+returns-in-None-clause-value c =
     let a = c.args in
-    rw c.in-Absent.is (first2 (let w = column a.at 1 32 (45 ∷ []) (45 ∷ []) a.out.now refl (omega arith) c.write_text.ensures.value (c.write_text.ensures.out_after) in ((w.0.0, omega (arith, w.0.1)), w.1)))
+    rw c.in-None.is (first2 (let w = column a.at 1 32 (45 ∷ []) (45 ∷ []) a.out.now refl (omega arith) c.write_text.ensures.value (c.write_text.ensures.out_after) in ((w.0.0, omega (arith, w.0.1)), w.1)))
 
-pub returns-in-Absent-clause-out_after : goal.returns-in-Absent-clause-out_after
-returns-in-Absent-clause-out_after c =
+pub returns-in-None-clause-out_after : goal.returns-in-None-clause-out_after
+returns-in-None-clause-out_after c =
     let a = c.args in
-    rw c.in-Absent.is (let w = column a.at 1 32 (45 ∷ []) (45 ∷ []) a.out.now refl (omega arith) c.write_text.ensures.value (c.write_text.ensures.out_after) in w.1)
+    rw c.in-None.is (let w = column a.at 1 32 (45 ∷ []) (45 ∷ []) a.out.now refl (omega arith) c.write_text.ensures.value (c.write_text.ensures.out_after) in w.1)

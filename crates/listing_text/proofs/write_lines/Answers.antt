@@ -6,8 +6,8 @@ use mathlib.Core.List.{List, ◌++◌}
 use Prim.Native.Nat.{ℕ, ◌+◌, ◌≤◌, ◌<◌}
 use lib.ListN.{length, take, drop}
 use lib.Seq.{take_at}
+use Rattle.std.specs.Prelude.{Some}
 use Rattle.listing_lines.specs.Listing.{columns_of, line_of}
-use Rattle.image.specs.declared.RecordReading.TheVariants.{Whole}
 use Rattle.image.specs.Places.{record_from}
 use Rattle.record.specs.NumbersForm.{meaning}
 use Rattle.record.specs.Record.{image}
@@ -17,23 +17,23 @@ use Rattle.edit.specs.Edit.{over, put_at}
 use Rattle.listing_text.proofs.write_lines.Goals as goal
 use Rattle.listing_text.proofs.write_lines.Goals.{After-put, After-write_line-n}
 
-is_read : (c : After-write_line-n) → record_from c.loop-at.at (image.read (drop c.loop-at.at c.args.bytes.now)) ≡ Whole (c.in-Whole.r)
-is_read c = sym c.read_record.ensures ∙ c.in-Whole.is
+is_read : (c : After-write_line-n) → record_from c.loop-at.at (image.read (drop c.loop-at.at c.args.bytes.now)) ≡ Some (c.in-Some.r)
+is_read c = sym c.read_record.ensures ∙ c.in-Some.is
 
 abbrev its-line : After-write_line-n → List ℕ
-its-line c = line_of (columns_of c.loop-at.position (meaning (c.in-Whole.r).numbers) (c.in-Whole.r).we_are_uac (c.in-Whole.r).route_count)
+its-line c = line_of (columns_of c.loop-at.position (meaning (c.in-Some.r).numbers) (c.in-Some.r).we_are_uac (c.in-Some.r).route_count)
 
 abbrev its-line-at-After-put : After-put → List ℕ
-its-line-at-After-put c = line_of (columns_of c.loop-at.position (meaning (c.in-Whole.r).numbers) (c.in-Whole.r).we_are_uac (c.in-Whole.r).route_count)
+its-line-at-After-put c = line_of (columns_of c.loop-at.position (meaning (c.in-Some.r).numbers) (c.in-Some.r).we_are_uac (c.in-Some.r).route_count)
 
-moves : (c : After-write_line-n) → c.loop-at.at < (c.in-Whole.r).end
-moves c = further c.args.bytes.now c.loop-at.at c.loop-at.position c.loop-at.end c.loop-at.invariant.1.0 c.loop-at.invariant.1.1.0 c.loop-at-test.true (c.in-Whole.r) (is_read c)
+moves : (c : After-write_line-n) → c.loop-at.at < (c.in-Some.r).end
+moves c = further c.args.bytes.now c.loop-at.at c.loop-at.position c.loop-at.end c.loop-at.invariant.1.0 c.loop-at.invariant.1.1.0 c.loop-at-test.true (c.in-Some.r) (is_read c)
 
-next : (c : After-write_line-n) → Left c.args.bytes.now (c.in-Whole.r).end (c.loop-at.position + 1) (c.loop-at.end + c.write_line-n.result) (c.loop-at.invariant.1.0 ++ its-line c)
+next : (c : After-write_line-n) → Left c.args.bytes.now (c.in-Some.r).end (c.loop-at.position + 1) (c.loop-at.end + c.write_line-n.result) (c.loop-at.invariant.1.0 ++ its-line c)
 next c =
     let w = c.write_line-n.ensures in
     let h : c.write_line-n.result ≡ length (its-line c) = w.value in
-    subst (λ (n : ℕ). Left c.args.bytes.now (c.in-Whole.r).end (c.loop-at.position + 1) (c.loop-at.end + n) (c.loop-at.invariant.1.0 ++ its-line c)) (sym h) (step c.args.bytes.now c.loop-at.at c.loop-at.position c.loop-at.end c.loop-at.invariant.1.0 c.loop-at.invariant.1.1.0 c.loop-at-test.true (c.in-Whole.r) (is_read c) (omega (arith, w.upper_bound)))
+    subst (λ (n : ℕ). Left c.args.bytes.now (c.in-Some.r).end (c.loop-at.position + 1) (c.loop-at.end + n) (c.loop-at.invariant.1.0 ++ its-line c)) (sym h) (step c.args.bytes.now c.loop-at.at c.loop-at.position c.loop-at.end c.loop-at.invariant.1.0 c.loop-at.invariant.1.1.0 c.loop-at-test.true (c.in-Some.r) (is_read c) (omega (arith, w.upper_bound)))
 
 -- the line is the front of the buffer, and there is room for it
 front : (c : After-write_line-n) → take c.write_line-n.result c.write_line-n.new.out ≡ its-line c

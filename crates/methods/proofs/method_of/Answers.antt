@@ -14,12 +14,12 @@ compared c = ap (same c.args.s.now) (sym c.name_of-name.ensures.bytes_value) ∙
 pub returns-then-same_text : goal.returns-then-same_text
 returns-then-same_text c =
     let l = c.loop-number in
-    ap method_from (sym (l.invariant.2 ∙ position_hit method_names _ l.number (omega arith) (omega (arith, fourteen)) (compared (goal.at.returns-then-same_text c).After-same_text ∙ c.if-same_text.true)))
+    ap method_from (sym (l.invariant ∙ position_hit method_names _ l.number (omega arith) (omega (arith, fourteen)) (compared (goal.at.returns-then-same_text c).After-same_text ∙ c.if-same_text.true)))
 
 pub loop-number-preserved : goal.loop-number-preserved
 loop-number-preserved c =
     let l = c.loop-number in
-    (omega arith, omega arith, l.invariant.2 ∙ position_next method_names _ l.number (omega arith) (omega (arith, fourteen)) (compared (goal.at.loop-number-preserved c).After-same_text ∙ c.if-same_text.false))
+    l.invariant ∙ position_next method_names _ l.number (omega arith) (omega (arith, fourteen)) (compared (goal.at.loop-number-preserved c).After-same_text ∙ c.if-same_text.false)
 
 pub returns : goal.returns
-returns c = ap method_from (sym (c.loop-number.invariant.2 ∙ position_done method_names _ c.loop-number.number (omega (arith, fourteen))))
+returns c = ap method_from (sym (c.loop-number.invariant ∙ position_done method_names _ c.loop-number.number (omega (arith, fourteen))))

@@ -2,20 +2,20 @@
 use Prim.Native.Nat.{◌+◌, ◌-◌, ◌≤◌}
 use mathlib.Core.Path.{◌≡◌, sym, ◌∙◌}
 use lib.ListN.{length, take, drop}
+use Rattle.std.specs.Prelude.{Some}
 use Rattle.msg.specs.Block.{line_at}
-use Rattle.msg.specs.declared.Line.TheVariants.{Of}
 use Rattle.msg.proofs.LineLaws.{line_fits}
 use Rattle.msg.proofs.LookupLaws.{left_done, left_stop, since_none, since_next, since_reached}
 use native.Mathlib.Omega.{arith}
 use Rattle.msg.proofs.line_since.Goals as goal
-use Rattle.msg.proofs.line_since.Goals.{In-Of}
+use Rattle.msg.proofs.line_since.Goals.{In-Some}
 
 -- the line that was read, in the block
-line_is : (c : In-Of) → line_at (take (length c.args.block.now - c.loop-at.at) (drop c.loop-at.at c.args.block.now)) ≡ Of c.in-Of.n c.in-Of.m
-line_is c = sym c.read_line.ensures ∙ c.in-Of.is
+line_is : (c : In-Some) → line_at (take (length c.args.block.now - c.loop-at.at) (drop c.loop-at.at c.args.block.now)) ≡ Some (c.in-Some.n, c.in-Some.m)
+line_is c = sym c.read_line.ensures ∙ c.in-Some.is
 
 -- it ends within the block
-inside : (c : In-Of) → c.loop-at.at + (c.in-Of.n + c.in-Of.m + 3) ≤ length c.args.block.now
+inside : (c : In-Some) → c.loop-at.at + (c.in-Some.n + c.in-Some.m + 3) ≤ length c.args.block.now
 inside c = line_fits c.args.block.now c.loop-at.at _ _ (omega arith) (line_is c)
 
 pub returns-then-at-block-clause-block_value : goal.returns-then-at-block-clause-block_value

@@ -1,7 +1,7 @@
 -- `prack_cleaning::prune` meets its contract. Assumes nothing.
 use mathlib.Core.Path.{subst}
 use mathlib.Core.List.{List}
-use mathlib.Core.Option.{Option}
+use Rattle.std.specs.Prelude.{Option}
 use Rattle.prack_body.specs.Lists.{Pending, with_list}
 use Rattle.prack_body.specs.Body.{Holds}
 use Rattle.prack_cleaning.proofs.KeepLaws.{other_list}

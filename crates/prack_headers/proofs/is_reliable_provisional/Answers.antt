@@ -1,5 +1,6 @@
 -- `prack_headers::is_reliable_provisional` meets its contract: the block's causes, the status, then the line. Assumes nothing.
 use native.Mathlib.Omega.{arith}
+use borrow.Author.Rules.{rules}
 use mathlib.Core.Path.{sym, ap, ◌∙◌}
 use mathlib.Core.Bool.{true, false}
 use borrow.Author.Tests.{le-leb, lt-leb}
@@ -10,17 +11,17 @@ use Rattle.prack_headers.specs.Sequence.{rseq_name, reliable_answer}
 use Rattle.prack_headers.proofs.ReadingLaws.{stopped_test, done_test, found_line}
 use Rattle.prack_headers.proofs.is_reliable_provisional.Goals as goal
 
-pub returns-in-Refused : goal.returns-in-Refused
-returns-in-Refused c = ap reliable_answer (sym (stopped_test rust_limits _ _ c.check_block.ensures c.in-Refused.is))
+pub returns-in_err-check_block : goal.returns-in_err-check_block
+returns-in_err-check_block c = rw (stopped_test rust_limits _ _ c.check_block.ensures c.in_err-check_block.was) (search rules)
 
 pub returns-then-status-le100 : goal.returns-then-status-le100
-returns-then-status-le100 c = ap reliable_answer (sym (done_test rust_limits c.args.status _ c.check_block.ensures false c.in_default.is (rw (lt-leb 101 c.args.status (omega arith)))))
+returns-then-status-le100 c = ap reliable_answer (sym (done_test rust_limits c.args.status _ c.check_block.ensures false c.in_ok-check_block.was (rw (lt-leb 101 c.args.status (omega arith)))))
 
 pub returns-then-status-ge200 : goal.returns-then-status-ge200
-returns-then-status-ge200 c = ap reliable_answer (sym (done_test rust_limits c.args.status _ c.check_block.ensures false c.in_default.is (rw (le-leb 101 c.args.status (omega arith), lt-leb c.args.status 199 (omega arith)))))
+returns-then-status-ge200 c = ap reliable_answer (sym (done_test rust_limits c.args.status _ c.check_block.ensures false c.in_ok-check_block.was (rw (le-leb 101 c.args.status (omega arith), lt-leb c.args.status 199 (omega arith)))))
 
-pub returns-in_default-find : goal.returns-in_default-find
-returns-in_default-find c = ap reliable_answer (sym (done_test rust_limits c.args.status _ c.check_block.ensures false c.in_default.is (rw (le-leb 101 c.args.status (omega arith), le-leb c.args.status 199 (omega arith), found_none (first_named rseq_name (lines_of c.args.block.now)) (sym c.find.ensures ∙ c.in_default-find.is)))))
+pub returns-in_default : goal.returns-in_default
+returns-in_default c = ap reliable_answer (sym (done_test rust_limits c.args.status _ c.check_block.ensures false c.in_ok-check_block.was (rw (le-leb 101 c.args.status (omega arith), le-leb c.args.status 199 (omega arith), found_none (first_named rseq_name (lines_of c.args.block.now)) (sym c.find.ensures ∙ c.in_default.is)))))
 
 pub returns : goal.returns
-returns c = ap reliable_answer (sym (done_test rust_limits c.args.status _ c.check_block.ensures true c.in_default.is (rw (le-leb 101 c.args.status (omega arith), le-leb c.args.status 199 (omega arith), found_line (first_named rseq_name (lines_of c.args.block.now)) (sym c.find.ensures ∙ c.in-At.is)))))
+returns c = ap reliable_answer (sym (done_test rust_limits c.args.status _ c.check_block.ensures true c.in_ok-check_block.was (rw (le-leb 101 c.args.status (omega arith), le-leb c.args.status 199 (omega arith), found_line (first_named rseq_name (lines_of c.args.block.now)) (sym c.find.ensures ∙ c.in-Some.is)))))

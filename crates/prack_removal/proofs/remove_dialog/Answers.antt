@@ -3,9 +3,8 @@ use Prim.Native.Nat.{ℕ, ◌-◌, ◌≤◌}
 use mathlib.Core.Path.{◌≡◌, sym, ap, ◌∙◌}
 use mathlib.Core.Bool.{false}
 use mathlib.Core.List.{List}
-use mathlib.Core.Option.{none}
+use Rattle.std.specs.Prelude.{None, Ok}
 use Rattle.limits.specs.Limits.{rust_limits}
-use Rattle.limits.specs.Outcome.{given}
 use Rattle.text.specs.Answers.{too_long}
 use Rattle.codec.proofs.CodecLaws.{Bytes, bytes_all}
 use Rattle.ordered_store.specs.Entries.{without_entry}
@@ -39,7 +38,7 @@ known-at-In-Held c = bytes_all (c.args.bytes.now) (λ n. (c.slice_known-1.given 
 not_long : (c : After-find) → too_long rust_limits (c.args.id.now) ≡ false
 not_long c = sym c.too_long.ensures ∙ c.if-too_long.false
 
-clear : (c : After-find) → action_cause rust_limits (act-at-After-find c) ≡ none
+clear : (c : After-find) → action_cause rust_limits (act-at-After-find c) ≡ None
 clear c = rest_cause (act-at-After-find c) (not_long c)
 
 S : (c : In-Held) → Sought (c.args.id.now) (c.args.bytes.now) (c.args.used) (slots.Held (c.in-Held.t))
@@ -70,34 +69,34 @@ pub returns-in-Held-clause-value : goal.returns-in-Held-clause-value
 returns-in-Held-clause-value c =
     let w = c.replace.ensures in
     let l = cut_length_lem (S (goal.at.returns-in-Held-clause-value c).In-Held).within (F (goal.at.returns-in-Held-clause-value c).In-Held) in
-    (first (written_taken (c.args.bytes.now) (c.args.used) (by_changing (c.args.bytes.now) (c.args.used) (remove_dialog (c.args.id.now)) (clear (goal.at.returns-in-Held-clause-value c).After-find) (S (goal.at.returns-in-Held-clause-value c).In-Held) (without_entry key_of (key_of_text (c.args.id.now)) (S (goal.at.returns-in-Held-clause-value c).In-Held).list) (given no_value) (dialog_decides (c.args.id.now) (S (goal.at.returns-in-Held-clause-value c).In-Held).list) (F (goal.at.returns-in-Held-clause-value c).In-Held).without (l ∙ sym w.value) (omega (arith, w.value, (S (goal.at.returns-in-Held-clause-value c).In-Held).within, (F (goal.at.returns-in-Held-clause-value c).In-Held).end_within)) ∙ ap (λ (x : List ℕ). leaving x c.replace.result (given no_value)) (sym (w.bytes_after)))))
+    (first (written_taken (c.args.bytes.now) (c.args.used) (by_changing (c.args.bytes.now) (c.args.used) (remove_dialog (c.args.id.now)) (clear (goal.at.returns-in-Held-clause-value c).After-find) (S (goal.at.returns-in-Held-clause-value c).In-Held) (without_entry key_of (key_of_text (c.args.id.now)) (S (goal.at.returns-in-Held-clause-value c).In-Held).list) (Ok no_value) (dialog_decides (c.args.id.now) (S (goal.at.returns-in-Held-clause-value c).In-Held).list) (F (goal.at.returns-in-Held-clause-value c).In-Held).without (l ∙ sym w.value) (omega (arith, w.value, (S (goal.at.returns-in-Held-clause-value c).In-Held).within, (F (goal.at.returns-in-Held-clause-value c).In-Held).end_within)) ∙ ap (λ (x : List ℕ). leaving x c.replace.result (Ok no_value)) (sym (w.bytes_after)))))
 
 pub returns-in-Held-clause-bytes_after : goal.returns-in-Held-clause-bytes_after
 returns-in-Held-clause-bytes_after c =
     let w = c.replace.ensures in
     let l = cut_length_lem (S (goal.at.returns-in-Held-clause-bytes_after c).In-Held).within (F (goal.at.returns-in-Held-clause-bytes_after c).In-Held) in
-    (second_first (written_taken (c.args.bytes.now) (c.args.used) (by_changing (c.args.bytes.now) (c.args.used) (remove_dialog (c.args.id.now)) (clear (goal.at.returns-in-Held-clause-bytes_after c).After-find) (S (goal.at.returns-in-Held-clause-bytes_after c).In-Held) (without_entry key_of (key_of_text (c.args.id.now)) (S (goal.at.returns-in-Held-clause-bytes_after c).In-Held).list) (given no_value) (dialog_decides (c.args.id.now) (S (goal.at.returns-in-Held-clause-bytes_after c).In-Held).list) (F (goal.at.returns-in-Held-clause-bytes_after c).In-Held).without (l ∙ sym w.value) (omega (arith, w.value, (S (goal.at.returns-in-Held-clause-bytes_after c).In-Held).within, (F (goal.at.returns-in-Held-clause-bytes_after c).In-Held).end_within)) ∙ ap (λ (x : List ℕ). leaving x c.replace.result (given no_value)) (sym (w.bytes_after)))))
+    (second_first (written_taken (c.args.bytes.now) (c.args.used) (by_changing (c.args.bytes.now) (c.args.used) (remove_dialog (c.args.id.now)) (clear (goal.at.returns-in-Held-clause-bytes_after c).After-find) (S (goal.at.returns-in-Held-clause-bytes_after c).In-Held) (without_entry key_of (key_of_text (c.args.id.now)) (S (goal.at.returns-in-Held-clause-bytes_after c).In-Held).list) (Ok no_value) (dialog_decides (c.args.id.now) (S (goal.at.returns-in-Held-clause-bytes_after c).In-Held).list) (F (goal.at.returns-in-Held-clause-bytes_after c).In-Held).without (l ∙ sym w.value) (omega (arith, w.value, (S (goal.at.returns-in-Held-clause-bytes_after c).In-Held).within, (F (goal.at.returns-in-Held-clause-bytes_after c).In-Held).end_within)) ∙ ap (λ (x : List ℕ). leaving x c.replace.result (Ok no_value)) (sym (w.bytes_after)))))
 
 pub returns-in-Held-clause-used_value : goal.returns-in-Held-clause-used_value
 returns-in-Held-clause-used_value c =
     let w = c.replace.ensures in
     let l = cut_length_lem (S (goal.at.returns-in-Held-clause-used_value c).In-Held).within (F (goal.at.returns-in-Held-clause-used_value c).In-Held) in
-    (second_second (written_taken (c.args.bytes.now) (c.args.used) (by_changing (c.args.bytes.now) (c.args.used) (remove_dialog (c.args.id.now)) (clear (goal.at.returns-in-Held-clause-used_value c).After-find) (S (goal.at.returns-in-Held-clause-used_value c).In-Held) (without_entry key_of (key_of_text (c.args.id.now)) (S (goal.at.returns-in-Held-clause-used_value c).In-Held).list) (given no_value) (dialog_decides (c.args.id.now) (S (goal.at.returns-in-Held-clause-used_value c).In-Held).list) (F (goal.at.returns-in-Held-clause-used_value c).In-Held).without (l ∙ sym w.value) (omega (arith, w.value, (S (goal.at.returns-in-Held-clause-used_value c).In-Held).within, (F (goal.at.returns-in-Held-clause-used_value c).In-Held).end_within)) ∙ ap (λ (x : List ℕ). leaving x c.replace.result (given no_value)) (sym (w.bytes_after)))))
+    (second_second (written_taken (c.args.bytes.now) (c.args.used) (by_changing (c.args.bytes.now) (c.args.used) (remove_dialog (c.args.id.now)) (clear (goal.at.returns-in-Held-clause-used_value c).After-find) (S (goal.at.returns-in-Held-clause-used_value c).In-Held) (without_entry key_of (key_of_text (c.args.id.now)) (S (goal.at.returns-in-Held-clause-used_value c).In-Held).list) (Ok no_value) (dialog_decides (c.args.id.now) (S (goal.at.returns-in-Held-clause-used_value c).In-Held).list) (F (goal.at.returns-in-Held-clause-used_value c).In-Held).without (l ∙ sym w.value) (omega (arith, w.value, (S (goal.at.returns-in-Held-clause-used_value c).In-Held).within, (F (goal.at.returns-in-Held-clause-used_value c).In-Held).end_within)) ∙ ap (λ (x : List ℕ). leaving x c.replace.result (Ok no_value)) (sym (w.bytes_after)))))
 
 pub returns-in-Free-clause-value : goal.returns-in-Free-clause-value
 returns-in-Free-clause-value c =
     let w = free_sought (c.args.id.now) (c.args.bytes.now) (c.args.used) c.in-Free.field-0 (sym c.find.ensures ∙ c.in-Free.is) in
-    (first (written_taken (c.args.bytes.now) (c.args.used) (by_keeping (c.args.bytes.now) (c.args.used) (remove_dialog (c.args.id.now)) (clear (goal.at.returns-in-Free-clause-value c).After-find) w (without_entry key_of (key_of_text (c.args.id.now)) w.list) (given no_value) (dialog_decides (c.args.id.now) w.list) (bytes_all (c.args.bytes.now) (λ i. (c.slice_known-1.given i).fits)) (lacking (c.args.id.now) (c.args.bytes.now) (c.args.used) c.in-Free.field-0 (bytes_all (c.args.bytes.now) (λ i. (c.slice_known-1.given i).fits)) w).1.0)))
+    (first (written_taken (c.args.bytes.now) (c.args.used) (by_keeping (c.args.bytes.now) (c.args.used) (remove_dialog (c.args.id.now)) (clear (goal.at.returns-in-Free-clause-value c).After-find) w (without_entry key_of (key_of_text (c.args.id.now)) w.list) (Ok no_value) (dialog_decides (c.args.id.now) w.list) (bytes_all (c.args.bytes.now) (λ i. (c.slice_known-1.given i).fits)) (lacking (c.args.id.now) (c.args.bytes.now) (c.args.used) c.in-Free.field-0 (bytes_all (c.args.bytes.now) (λ i. (c.slice_known-1.given i).fits)) w).1.0)))
 
 pub returns-in-Free-clause-bytes_after : goal.returns-in-Free-clause-bytes_after
 returns-in-Free-clause-bytes_after c =
     let w = free_sought (c.args.id.now) (c.args.bytes.now) (c.args.used) c.in-Free.field-0 (sym c.find.ensures ∙ c.in-Free.is) in
-    (second_first (written_taken (c.args.bytes.now) (c.args.used) (by_keeping (c.args.bytes.now) (c.args.used) (remove_dialog (c.args.id.now)) (clear (goal.at.returns-in-Free-clause-bytes_after c).After-find) w (without_entry key_of (key_of_text (c.args.id.now)) w.list) (given no_value) (dialog_decides (c.args.id.now) w.list) (bytes_all (c.args.bytes.now) (λ i. (c.slice_known-1.given i).fits)) (lacking (c.args.id.now) (c.args.bytes.now) (c.args.used) c.in-Free.field-0 (bytes_all (c.args.bytes.now) (λ i. (c.slice_known-1.given i).fits)) w).1.0)))
+    (second_first (written_taken (c.args.bytes.now) (c.args.used) (by_keeping (c.args.bytes.now) (c.args.used) (remove_dialog (c.args.id.now)) (clear (goal.at.returns-in-Free-clause-bytes_after c).After-find) w (without_entry key_of (key_of_text (c.args.id.now)) w.list) (Ok no_value) (dialog_decides (c.args.id.now) w.list) (bytes_all (c.args.bytes.now) (λ i. (c.slice_known-1.given i).fits)) (lacking (c.args.id.now) (c.args.bytes.now) (c.args.used) c.in-Free.field-0 (bytes_all (c.args.bytes.now) (λ i. (c.slice_known-1.given i).fits)) w).1.0)))
 
 pub returns-in-Free-clause-used_value : goal.returns-in-Free-clause-used_value
 returns-in-Free-clause-used_value c =
     let w = free_sought (c.args.id.now) (c.args.bytes.now) (c.args.used) c.in-Free.field-0 (sym c.find.ensures ∙ c.in-Free.is) in
-    (second_second (written_taken (c.args.bytes.now) (c.args.used) (by_keeping (c.args.bytes.now) (c.args.used) (remove_dialog (c.args.id.now)) (clear (goal.at.returns-in-Free-clause-used_value c).After-find) w (without_entry key_of (key_of_text (c.args.id.now)) w.list) (given no_value) (dialog_decides (c.args.id.now) w.list) (bytes_all (c.args.bytes.now) (λ i. (c.slice_known-1.given i).fits)) (lacking (c.args.id.now) (c.args.bytes.now) (c.args.used) c.in-Free.field-0 (bytes_all (c.args.bytes.now) (λ i. (c.slice_known-1.given i).fits)) w).1.0)))
+    (second_second (written_taken (c.args.bytes.now) (c.args.used) (by_keeping (c.args.bytes.now) (c.args.used) (remove_dialog (c.args.id.now)) (clear (goal.at.returns-in-Free-clause-used_value c).After-find) w (without_entry key_of (key_of_text (c.args.id.now)) w.list) (Ok no_value) (dialog_decides (c.args.id.now) w.list) (bytes_all (c.args.bytes.now) (λ i. (c.slice_known-1.given i).fits)) (lacking (c.args.id.now) (c.args.bytes.now) (c.args.used) c.in-Free.field-0 (bytes_all (c.args.bytes.now) (λ i. (c.slice_known-1.given i).fits)) w).1.0)))
 
 pub returns-in-Broken-clause-value : goal.returns-in-Broken-clause-value
 returns-in-Broken-clause-value c =

@@ -1,11 +1,10 @@
 -- `remove_pracked` meets its contract: the acknowledged entries of an RSeq go from what is held, or nothing is changed. Assumes nothing.
 use mathlib.Core.Path.{◌≡◌, refl, sym, ◌∙◌}
 use mathlib.Core.Bool.{false}
-use mathlib.Core.Option.{none, some}
 use lib.ListN.{length}
 use lib.Seq.{length-take-le}
+use Rattle.std.specs.Prelude.{None, Ok, Some}
 use Rattle.limits.specs.Limits.{rust_limits}
-use Rattle.limits.specs.Outcome.{given}
 use Rattle.text.specs.Answers.{too_long}
 use Rattle.output.specs.Output.{fitted}
 use Rattle.codec.proofs.CodecLaws.{Bytes, bytes_all}
@@ -49,7 +48,7 @@ known-at-After-prune-m c = bytes_all (c.args.bytes.now) (λ n. (c.slice_known-1.
 not_long : (c : After-find-slot) → too_long rust_limits (c.args.id.now) ≡ false
 not_long c = sym c.too_long.ensures ∙ c.if-too_long.false
 
-clear : (c : After-find-slot) → action_cause rust_limits (act-at-After-find-slot c) ≡ none
+clear : (c : After-find-slot) → action_cause rust_limits (act-at-After-find-slot c) ≡ None
 clear c = rest_cause (act-at-After-find-slot c) (not_long c)
 
 S : (c : In-Held) → Sought (c.args.id.now) (c.args.bytes.now) (c.args.used) (slots.Held (c.in-Held.t))
@@ -113,32 +112,32 @@ slice_bounds-set-end c =
 pub returns-in-Held-clause-value : goal.returns-in-Held-clause-value
 unfolding F-at-After-prune-m F known-at-After-prune-m known-at-In-Held S-at-After-prune-m S
 returns-in-Held-clause-value c =
-    (first (written_set (c.args.bytes.now) (c.args.used) no_value (fitted (length (c.args.bytes.now)) (encode_tracked rust_limits (set_entry key_of (left (goal.at.returns-in-Held-clause-value c).After-prune-m) (S (goal.at.returns-in-Held-clause-value c).In-Held).list))) (by_fitting (c.args.bytes.now) (c.args.used) (remove_pracked (c.args.id.now) (c.args.rseq)) (clear (goal.at.returns-in-Held-clause-value c).After-find-slot) (S (goal.at.returns-in-Held-clause-value c).In-Held) (set_entry key_of (left (goal.at.returns-in-Held-clause-value c).After-prune-m) (S (goal.at.returns-in-Held-clause-value c).In-Held).list) (given no_value) (pruning_decides (c.args.id.now) (S (goal.at.returns-in-Held-clause-value c).In-Held).list (c.args.rseq) (some (F (goal.at.returns-in-Held-clause-value c).In-Held).t) (F (goal.at.returns-in-Held-clause-value c).In-Held).is)) (c.set.ensures.value (S (goal.at.returns-in-Held-clause-value c).In-Held) (left (goal.at.returns-in-Held-clause-value c).After-prune-m) (F (goal.at.returns-in-Held-clause-value c).In-Held).same (pruned (goal.at.returns-in-Held-clause-value c).After-prune-m).are) ((c.set.ensures.bytes_after) (S (goal.at.returns-in-Held-clause-value c).In-Held) (left (goal.at.returns-in-Held-clause-value c).After-prune-m) (F (goal.at.returns-in-Held-clause-value c).In-Held).same (pruned (goal.at.returns-in-Held-clause-value c).After-prune-m).are)))
+    (first (written_set (c.args.bytes.now) (c.args.used) no_value (fitted (length (c.args.bytes.now)) (encode_tracked rust_limits (set_entry key_of (left (goal.at.returns-in-Held-clause-value c).After-prune-m) (S (goal.at.returns-in-Held-clause-value c).In-Held).list))) (by_fitting (c.args.bytes.now) (c.args.used) (remove_pracked (c.args.id.now) (c.args.rseq)) (clear (goal.at.returns-in-Held-clause-value c).After-find-slot) (S (goal.at.returns-in-Held-clause-value c).In-Held) (set_entry key_of (left (goal.at.returns-in-Held-clause-value c).After-prune-m) (S (goal.at.returns-in-Held-clause-value c).In-Held).list) (Ok no_value) (pruning_decides (c.args.id.now) (S (goal.at.returns-in-Held-clause-value c).In-Held).list (c.args.rseq) (Some (F (goal.at.returns-in-Held-clause-value c).In-Held).t) (F (goal.at.returns-in-Held-clause-value c).In-Held).is)) (c.set.ensures.value (S (goal.at.returns-in-Held-clause-value c).In-Held) (left (goal.at.returns-in-Held-clause-value c).After-prune-m) (F (goal.at.returns-in-Held-clause-value c).In-Held).same (pruned (goal.at.returns-in-Held-clause-value c).After-prune-m).are) ((c.set.ensures.bytes_after) (S (goal.at.returns-in-Held-clause-value c).In-Held) (left (goal.at.returns-in-Held-clause-value c).After-prune-m) (F (goal.at.returns-in-Held-clause-value c).In-Held).same (pruned (goal.at.returns-in-Held-clause-value c).After-prune-m).are)))
 
 pub returns-in-Held-clause-bytes_after : goal.returns-in-Held-clause-bytes_after
 unfolding F-at-After-prune-m F known-at-After-prune-m known-at-In-Held S-at-After-prune-m S
 returns-in-Held-clause-bytes_after c =
-    (second_first (written_set (c.args.bytes.now) (c.args.used) no_value (fitted (length (c.args.bytes.now)) (encode_tracked rust_limits (set_entry key_of (left (goal.at.returns-in-Held-clause-bytes_after c).After-prune-m) (S (goal.at.returns-in-Held-clause-bytes_after c).In-Held).list))) (by_fitting (c.args.bytes.now) (c.args.used) (remove_pracked (c.args.id.now) (c.args.rseq)) (clear (goal.at.returns-in-Held-clause-bytes_after c).After-find-slot) (S (goal.at.returns-in-Held-clause-bytes_after c).In-Held) (set_entry key_of (left (goal.at.returns-in-Held-clause-bytes_after c).After-prune-m) (S (goal.at.returns-in-Held-clause-bytes_after c).In-Held).list) (given no_value) (pruning_decides (c.args.id.now) (S (goal.at.returns-in-Held-clause-bytes_after c).In-Held).list (c.args.rseq) (some (F (goal.at.returns-in-Held-clause-bytes_after c).In-Held).t) (F (goal.at.returns-in-Held-clause-bytes_after c).In-Held).is)) (c.set.ensures.value (S (goal.at.returns-in-Held-clause-bytes_after c).In-Held) (left (goal.at.returns-in-Held-clause-bytes_after c).After-prune-m) (F (goal.at.returns-in-Held-clause-bytes_after c).In-Held).same (pruned (goal.at.returns-in-Held-clause-bytes_after c).After-prune-m).are) ((c.set.ensures.bytes_after) (S (goal.at.returns-in-Held-clause-bytes_after c).In-Held) (left (goal.at.returns-in-Held-clause-bytes_after c).After-prune-m) (F (goal.at.returns-in-Held-clause-bytes_after c).In-Held).same (pruned (goal.at.returns-in-Held-clause-bytes_after c).After-prune-m).are)))
+    (second_first (written_set (c.args.bytes.now) (c.args.used) no_value (fitted (length (c.args.bytes.now)) (encode_tracked rust_limits (set_entry key_of (left (goal.at.returns-in-Held-clause-bytes_after c).After-prune-m) (S (goal.at.returns-in-Held-clause-bytes_after c).In-Held).list))) (by_fitting (c.args.bytes.now) (c.args.used) (remove_pracked (c.args.id.now) (c.args.rseq)) (clear (goal.at.returns-in-Held-clause-bytes_after c).After-find-slot) (S (goal.at.returns-in-Held-clause-bytes_after c).In-Held) (set_entry key_of (left (goal.at.returns-in-Held-clause-bytes_after c).After-prune-m) (S (goal.at.returns-in-Held-clause-bytes_after c).In-Held).list) (Ok no_value) (pruning_decides (c.args.id.now) (S (goal.at.returns-in-Held-clause-bytes_after c).In-Held).list (c.args.rseq) (Some (F (goal.at.returns-in-Held-clause-bytes_after c).In-Held).t) (F (goal.at.returns-in-Held-clause-bytes_after c).In-Held).is)) (c.set.ensures.value (S (goal.at.returns-in-Held-clause-bytes_after c).In-Held) (left (goal.at.returns-in-Held-clause-bytes_after c).After-prune-m) (F (goal.at.returns-in-Held-clause-bytes_after c).In-Held).same (pruned (goal.at.returns-in-Held-clause-bytes_after c).After-prune-m).are) ((c.set.ensures.bytes_after) (S (goal.at.returns-in-Held-clause-bytes_after c).In-Held) (left (goal.at.returns-in-Held-clause-bytes_after c).After-prune-m) (F (goal.at.returns-in-Held-clause-bytes_after c).In-Held).same (pruned (goal.at.returns-in-Held-clause-bytes_after c).After-prune-m).are)))
 
 pub returns-in-Held-clause-used_value : goal.returns-in-Held-clause-used_value
 unfolding F-at-After-prune-m F known-at-After-prune-m known-at-In-Held S-at-After-prune-m S
 returns-in-Held-clause-used_value c =
-    (second_second (written_set (c.args.bytes.now) (c.args.used) no_value (fitted (length (c.args.bytes.now)) (encode_tracked rust_limits (set_entry key_of (left (goal.at.returns-in-Held-clause-used_value c).After-prune-m) (S (goal.at.returns-in-Held-clause-used_value c).In-Held).list))) (by_fitting (c.args.bytes.now) (c.args.used) (remove_pracked (c.args.id.now) (c.args.rseq)) (clear (goal.at.returns-in-Held-clause-used_value c).After-find-slot) (S (goal.at.returns-in-Held-clause-used_value c).In-Held) (set_entry key_of (left (goal.at.returns-in-Held-clause-used_value c).After-prune-m) (S (goal.at.returns-in-Held-clause-used_value c).In-Held).list) (given no_value) (pruning_decides (c.args.id.now) (S (goal.at.returns-in-Held-clause-used_value c).In-Held).list (c.args.rseq) (some (F (goal.at.returns-in-Held-clause-used_value c).In-Held).t) (F (goal.at.returns-in-Held-clause-used_value c).In-Held).is)) (c.set.ensures.value (S (goal.at.returns-in-Held-clause-used_value c).In-Held) (left (goal.at.returns-in-Held-clause-used_value c).After-prune-m) (F (goal.at.returns-in-Held-clause-used_value c).In-Held).same (pruned (goal.at.returns-in-Held-clause-used_value c).After-prune-m).are) ((c.set.ensures.bytes_after) (S (goal.at.returns-in-Held-clause-used_value c).In-Held) (left (goal.at.returns-in-Held-clause-used_value c).After-prune-m) (F (goal.at.returns-in-Held-clause-used_value c).In-Held).same (pruned (goal.at.returns-in-Held-clause-used_value c).After-prune-m).are)))
+    (second_second (written_set (c.args.bytes.now) (c.args.used) no_value (fitted (length (c.args.bytes.now)) (encode_tracked rust_limits (set_entry key_of (left (goal.at.returns-in-Held-clause-used_value c).After-prune-m) (S (goal.at.returns-in-Held-clause-used_value c).In-Held).list))) (by_fitting (c.args.bytes.now) (c.args.used) (remove_pracked (c.args.id.now) (c.args.rseq)) (clear (goal.at.returns-in-Held-clause-used_value c).After-find-slot) (S (goal.at.returns-in-Held-clause-used_value c).In-Held) (set_entry key_of (left (goal.at.returns-in-Held-clause-used_value c).After-prune-m) (S (goal.at.returns-in-Held-clause-used_value c).In-Held).list) (Ok no_value) (pruning_decides (c.args.id.now) (S (goal.at.returns-in-Held-clause-used_value c).In-Held).list (c.args.rseq) (Some (F (goal.at.returns-in-Held-clause-used_value c).In-Held).t) (F (goal.at.returns-in-Held-clause-used_value c).In-Held).is)) (c.set.ensures.value (S (goal.at.returns-in-Held-clause-used_value c).In-Held) (left (goal.at.returns-in-Held-clause-used_value c).After-prune-m) (F (goal.at.returns-in-Held-clause-used_value c).In-Held).same (pruned (goal.at.returns-in-Held-clause-used_value c).After-prune-m).are) ((c.set.ensures.bytes_after) (S (goal.at.returns-in-Held-clause-used_value c).In-Held) (left (goal.at.returns-in-Held-clause-used_value c).After-prune-m) (F (goal.at.returns-in-Held-clause-used_value c).In-Held).same (pruned (goal.at.returns-in-Held-clause-used_value c).After-prune-m).are)))
 
 pub returns-in-Free-clause-value : goal.returns-in-Free-clause-value
 returns-in-Free-clause-value c =
     let w = free_sought (c.args.id.now) (c.args.bytes.now) (c.args.used) c.in-Free.field-0 (sym c.find-slot.ensures ∙ c.in-Free.is) in
-    (first (written_taken (c.args.bytes.now) (c.args.used) (by_keeping (c.args.bytes.now) (c.args.used) (remove_pracked (c.args.id.now) (c.args.rseq)) (clear (goal.at.returns-in-Free-clause-value c).After-find-slot) w w.list (given no_value) (pruning_decides (c.args.id.now) w.list (c.args.rseq) none (lacking (c.args.id.now) (c.args.bytes.now) (c.args.used) c.in-Free.field-0 (bytes_all (c.args.bytes.now) (λ i. (c.slice_known-1.given i).fits)) w).0) (bytes_all (c.args.bytes.now) (λ i. (c.slice_known-1.given i).fits)) refl)))
+    (first (written_taken (c.args.bytes.now) (c.args.used) (by_keeping (c.args.bytes.now) (c.args.used) (remove_pracked (c.args.id.now) (c.args.rseq)) (clear (goal.at.returns-in-Free-clause-value c).After-find-slot) w w.list (Ok no_value) (pruning_decides (c.args.id.now) w.list (c.args.rseq) None (lacking (c.args.id.now) (c.args.bytes.now) (c.args.used) c.in-Free.field-0 (bytes_all (c.args.bytes.now) (λ i. (c.slice_known-1.given i).fits)) w).0) (bytes_all (c.args.bytes.now) (λ i. (c.slice_known-1.given i).fits)) refl)))
 
 pub returns-in-Free-clause-bytes_after : goal.returns-in-Free-clause-bytes_after
 returns-in-Free-clause-bytes_after c =
     let w = free_sought (c.args.id.now) (c.args.bytes.now) (c.args.used) c.in-Free.field-0 (sym c.find-slot.ensures ∙ c.in-Free.is) in
-    (second_first (written_taken (c.args.bytes.now) (c.args.used) (by_keeping (c.args.bytes.now) (c.args.used) (remove_pracked (c.args.id.now) (c.args.rseq)) (clear (goal.at.returns-in-Free-clause-bytes_after c).After-find-slot) w w.list (given no_value) (pruning_decides (c.args.id.now) w.list (c.args.rseq) none (lacking (c.args.id.now) (c.args.bytes.now) (c.args.used) c.in-Free.field-0 (bytes_all (c.args.bytes.now) (λ i. (c.slice_known-1.given i).fits)) w).0) (bytes_all (c.args.bytes.now) (λ i. (c.slice_known-1.given i).fits)) refl)))
+    (second_first (written_taken (c.args.bytes.now) (c.args.used) (by_keeping (c.args.bytes.now) (c.args.used) (remove_pracked (c.args.id.now) (c.args.rseq)) (clear (goal.at.returns-in-Free-clause-bytes_after c).After-find-slot) w w.list (Ok no_value) (pruning_decides (c.args.id.now) w.list (c.args.rseq) None (lacking (c.args.id.now) (c.args.bytes.now) (c.args.used) c.in-Free.field-0 (bytes_all (c.args.bytes.now) (λ i. (c.slice_known-1.given i).fits)) w).0) (bytes_all (c.args.bytes.now) (λ i. (c.slice_known-1.given i).fits)) refl)))
 
 pub returns-in-Free-clause-used_value : goal.returns-in-Free-clause-used_value
 returns-in-Free-clause-used_value c =
     let w = free_sought (c.args.id.now) (c.args.bytes.now) (c.args.used) c.in-Free.field-0 (sym c.find-slot.ensures ∙ c.in-Free.is) in
-    (second_second (written_taken (c.args.bytes.now) (c.args.used) (by_keeping (c.args.bytes.now) (c.args.used) (remove_pracked (c.args.id.now) (c.args.rseq)) (clear (goal.at.returns-in-Free-clause-used_value c).After-find-slot) w w.list (given no_value) (pruning_decides (c.args.id.now) w.list (c.args.rseq) none (lacking (c.args.id.now) (c.args.bytes.now) (c.args.used) c.in-Free.field-0 (bytes_all (c.args.bytes.now) (λ i. (c.slice_known-1.given i).fits)) w).0) (bytes_all (c.args.bytes.now) (λ i. (c.slice_known-1.given i).fits)) refl)))
+    (second_second (written_taken (c.args.bytes.now) (c.args.used) (by_keeping (c.args.bytes.now) (c.args.used) (remove_pracked (c.args.id.now) (c.args.rseq)) (clear (goal.at.returns-in-Free-clause-used_value c).After-find-slot) w w.list (Ok no_value) (pruning_decides (c.args.id.now) w.list (c.args.rseq) None (lacking (c.args.id.now) (c.args.bytes.now) (c.args.used) c.in-Free.field-0 (bytes_all (c.args.bytes.now) (λ i. (c.slice_known-1.given i).fits)) w).0) (bytes_all (c.args.bytes.now) (λ i. (c.slice_known-1.given i).fits)) refl)))
 
 pub returns-in-Broken-clause-value : goal.returns-in-Broken-clause-value
 returns-in-Broken-clause-value c =

@@ -1,12 +1,13 @@
 -- `get_pending` meets its contract: what is held is cleaned, the output's room is measured, then the store and the output are written. Assumes nothing.
 use Prim.Native.Nat.{ℕ, ◌≤◌}
-use mathlib.Core.Path.{◌≡◌, sym, ◌∙◌}
+use mathlib.Core.Path.{◌≡◌, sym, ap, ◌∙◌}
 use mathlib.Core.Bool.{false}
 use mathlib.Core.List.{List}
-use mathlib.Core.Option.{none}
 use lib.ListN.{length}
+use Rattle.std.proofs.result.Match.{err_is}
+use Rattle.std.specs.Prelude.{None, Ok, Result}
 use Rattle.limits.specs.Limits.{rust_limits}
-use Rattle.limits.specs.Outcome.{Outcome, given}
+use Rattle.limits.specs.declared.Refusal.{Refusal}
 use Rattle.text.specs.Answers.{too_long}
 use Rattle.output.specs.Output.{fitted}
 use Rattle.codec.proofs.CodecLaws.{Bytes, bytes_all}
@@ -19,6 +20,7 @@ use Rattle.prack_entries.specs.Entries.{key_of, encode_tracked, clean_for}
 use Rattle.prack_entries.specs.Places.{Sought}
 use Rattle.prack_entries.proofs.SlotLaws.{sought}
 use Rattle.prack_validator.specs.Validator.{Action, get_pending, written, action_cause, ran}
+use Rattle.prack_validator.specs.Answers.{used_listed}
 use Rattle.prack_validator.proofs.OperationLaws.{long_cause_lem, rest_cause, short, left_by, by_arguments, by_store, by_cause, by_fitting, pending_refuses, pending_decides, clean_id}
 use Rattle.prack_validator.proofs.AnswerLaws.{listed_kept, listed_taken, set_taken, set_refused}
 use native.Mathlib.Omega.{arith}
@@ -59,10 +61,10 @@ not_long-at-After-open_size c = sym c.too_long.ensures ∙ c.if-too_long.false
 not_long-at-After-clean_copy-n : (c : After-clean_copy-n) → too_long rust_limits (c.args.id.now) ≡ false
 not_long-at-After-clean_copy-n c = sym c.too_long.ensures ∙ c.if-too_long.false
 
-clear : (c : After-find-slot) → action_cause rust_limits (act-at-After-find-slot c) ≡ none
+clear : (c : After-find-slot) → action_cause rust_limits (act-at-After-find-slot c) ≡ None
 clear c = rest_cause (act-at-After-find-slot c) (not_long c)
 
-clear-at-After-clean_copy-n : (c : After-clean_copy-n) → action_cause rust_limits (act-at-After-clean_copy-n c) ≡ none
+clear-at-After-clean_copy-n : (c : After-clean_copy-n) → action_cause rust_limits (act-at-After-clean_copy-n c) ≡ None
 clear-at-After-clean_copy-n c = rest_cause (act-at-After-clean_copy-n c) (not_long-at-After-clean_copy-n c)
 
 -- the bytes are a store's
@@ -104,12 +106,12 @@ size : (c : After-open_size) → c.open_size.result ≡ length (waiting-at-After
 size c = c.open_size.ensures (clean-at-After-open_size c) (copied-at-After-open_size c)
 
 -- the store with it, where it fits
-abbrev stored : After-clean_copy-n → Outcome (List ℕ)
+abbrev stored : After-clean_copy-n → Result (List ℕ) Refusal
 stored c = fitted (length (c.args.bytes.now)) (encode_tracked rust_limits (set_entry key_of (clean c) (S-at-After-clean_copy-n c).list))
 
-settled : (c : After-clean_copy-n) → length (waiting c) ≤ length (c.args.out.now) → ran rust_limits (act-at-After-clean_copy-n c) (c.args.bytes.now) (c.args.used) ≡ left_by (c.args.bytes.now) (c.args.used) (given (written (waiting c))) (stored c)
+settled : (c : After-clean_copy-n) → length (waiting c) ≤ length (c.args.out.now) → ran rust_limits (act-at-After-clean_copy-n c) (c.args.bytes.now) (c.args.used) ≡ left_by (c.args.bytes.now) (c.args.used) (Ok (written (waiting c))) (stored c)
 settled c h =
-    by_fitting (c.args.bytes.now) (c.args.used) (act-at-After-clean_copy-n c) (clear-at-After-clean_copy-n c) (S-at-After-clean_copy-n c) (set_entry key_of (clean c) (S-at-After-clean_copy-n c).list) (given (written (waiting c)))
+    by_fitting (c.args.bytes.now) (c.args.used) (act-at-After-clean_copy-n c) (clear-at-After-clean_copy-n c) (S-at-After-clean_copy-n c) (set_entry key_of (clean c) (S-at-After-clean_copy-n c).list) (Ok (written (waiting c)))
     (pending_decides (c.args.id.now) (S-at-After-clean_copy-n c).list (c.args.time) (length (c.args.out.now)) h)
 
 pub returns-then-too_long-clause-value : goal.returns-then-too_long-clause-value
@@ -164,50 +166,50 @@ pub open_bytes-requires : goal.open_bytes-requires
 open_bytes-requires c =
     (holds_within (copied (goal.at.open_bytes-requires c).After-clean_copy-n), (clean (goal.at.open_bytes-requires c).After-clean_copy-n, (copied (goal.at.open_bytes-requires c).After-clean_copy-n, omega (arith, c.if-out-open_size.false, size (goal.at.open_bytes-requires c).After-open_size))))
 
-pub returns-in-Length-clause-value : goal.returns-in-Length-clause-value
-returns-in-Length-clause-value c =
+pub returns-clause-value : goal.returns-clause-value
+returns-clause-value c =
     let w = c.set.ensures in
-    let h : length (waiting (goal.at.returns-in-Length-clause-value c).After-clean_copy-n) ≤ length (c.args.out.now) = omega (arith, c.if-out-open_size.false, size (goal.at.returns-in-Length-clause-value c).After-open_size) in
-    (first4 (listed_taken (c.args.bytes.now) (c.args.used) (c.args.out.now) (set_taken (c.args.bytes.now) (c.args.used) (given (written (waiting (goal.at.returns-in-Length-clause-value c).After-clean_copy-n))) (stored (goal.at.returns-in-Length-clause-value c).After-clean_copy-n) (settled (goal.at.returns-in-Length-clause-value c).After-clean_copy-n h) (w.value (S (goal.at.returns-in-Length-clause-value c).In_default) (clean (goal.at.returns-in-Length-clause-value c).After-clean_copy-n) (same (goal.at.returns-in-Length-clause-value c).After-clean_copy-n) (copied (goal.at.returns-in-Length-clause-value c).After-clean_copy-n).are) ((w.bytes_after) (S (goal.at.returns-in-Length-clause-value c).In_default) (clean (goal.at.returns-in-Length-clause-value c).After-clean_copy-n) (same (goal.at.returns-in-Length-clause-value c).After-clean_copy-n) (copied (goal.at.returns-in-Length-clause-value c).After-clean_copy-n).are) c.in-Length.is) (c.open_bytes.ensures (clean (goal.at.returns-in-Length-clause-value c).After-clean_copy-n) (copied (goal.at.returns-in-Length-clause-value c).After-clean_copy-n))))
+    let h : length (waiting (goal.at.returns-clause-value c).After-clean_copy-n) ≤ length (c.args.out.now) = omega (arith, c.if-out-open_size.false, size (goal.at.returns-clause-value c).After-open_size) in
+    (first4 (listed_taken (c.args.bytes.now) (c.args.used) (c.args.out.now) (set_taken (c.args.bytes.now) (c.args.used) (Ok (written (waiting (goal.at.returns-clause-value c).After-clean_copy-n))) (stored (goal.at.returns-clause-value c).After-clean_copy-n) (settled (goal.at.returns-clause-value c).After-clean_copy-n h) (w.value (S (goal.at.returns-clause-value c).In_default) (clean (goal.at.returns-clause-value c).After-clean_copy-n) (same (goal.at.returns-clause-value c).After-clean_copy-n) (copied (goal.at.returns-clause-value c).After-clean_copy-n).are) ((w.bytes_after) (S (goal.at.returns-clause-value c).In_default) (clean (goal.at.returns-clause-value c).After-clean_copy-n) (same (goal.at.returns-clause-value c).After-clean_copy-n) (copied (goal.at.returns-clause-value c).After-clean_copy-n).are) c.in_ok-after.was) (c.open_bytes.ensures (clean (goal.at.returns-clause-value c).After-clean_copy-n) (copied (goal.at.returns-clause-value c).After-clean_copy-n))))
 
-pub returns-in-Length-clause-bytes_after : goal.returns-in-Length-clause-bytes_after
-returns-in-Length-clause-bytes_after c =
+pub returns-clause-bytes_after : goal.returns-clause-bytes_after
+returns-clause-bytes_after c =
     let w = c.set.ensures in
-    let h : length (waiting (goal.at.returns-in-Length-clause-bytes_after c).After-clean_copy-n) ≤ length (c.args.out.now) = omega (arith, c.if-out-open_size.false, size (goal.at.returns-in-Length-clause-bytes_after c).After-open_size) in
-    (second4 (listed_taken (c.args.bytes.now) (c.args.used) (c.args.out.now) (set_taken (c.args.bytes.now) (c.args.used) (given (written (waiting (goal.at.returns-in-Length-clause-bytes_after c).After-clean_copy-n))) (stored (goal.at.returns-in-Length-clause-bytes_after c).After-clean_copy-n) (settled (goal.at.returns-in-Length-clause-bytes_after c).After-clean_copy-n h) (w.value (S (goal.at.returns-in-Length-clause-bytes_after c).In_default) (clean (goal.at.returns-in-Length-clause-bytes_after c).After-clean_copy-n) (same (goal.at.returns-in-Length-clause-bytes_after c).After-clean_copy-n) (copied (goal.at.returns-in-Length-clause-bytes_after c).After-clean_copy-n).are) ((w.bytes_after) (S (goal.at.returns-in-Length-clause-bytes_after c).In_default) (clean (goal.at.returns-in-Length-clause-bytes_after c).After-clean_copy-n) (same (goal.at.returns-in-Length-clause-bytes_after c).After-clean_copy-n) (copied (goal.at.returns-in-Length-clause-bytes_after c).After-clean_copy-n).are) c.in-Length.is) (c.open_bytes.ensures (clean (goal.at.returns-in-Length-clause-bytes_after c).After-clean_copy-n) (copied (goal.at.returns-in-Length-clause-bytes_after c).After-clean_copy-n))))
+    let h : length (waiting (goal.at.returns-clause-bytes_after c).After-clean_copy-n) ≤ length (c.args.out.now) = omega (arith, c.if-out-open_size.false, size (goal.at.returns-clause-bytes_after c).After-open_size) in
+    (second4 (listed_taken (c.args.bytes.now) (c.args.used) (c.args.out.now) (set_taken (c.args.bytes.now) (c.args.used) (Ok (written (waiting (goal.at.returns-clause-bytes_after c).After-clean_copy-n))) (stored (goal.at.returns-clause-bytes_after c).After-clean_copy-n) (settled (goal.at.returns-clause-bytes_after c).After-clean_copy-n h) (w.value (S (goal.at.returns-clause-bytes_after c).In_default) (clean (goal.at.returns-clause-bytes_after c).After-clean_copy-n) (same (goal.at.returns-clause-bytes_after c).After-clean_copy-n) (copied (goal.at.returns-clause-bytes_after c).After-clean_copy-n).are) ((w.bytes_after) (S (goal.at.returns-clause-bytes_after c).In_default) (clean (goal.at.returns-clause-bytes_after c).After-clean_copy-n) (same (goal.at.returns-clause-bytes_after c).After-clean_copy-n) (copied (goal.at.returns-clause-bytes_after c).After-clean_copy-n).are) c.in_ok-after.was) (c.open_bytes.ensures (clean (goal.at.returns-clause-bytes_after c).After-clean_copy-n) (copied (goal.at.returns-clause-bytes_after c).After-clean_copy-n))))
 
-pub returns-in-Length-clause-used_value : goal.returns-in-Length-clause-used_value
-returns-in-Length-clause-used_value c =
+pub returns-clause-used_value : goal.returns-clause-used_value
+returns-clause-used_value c =
     let w = c.set.ensures in
-    let h : length (waiting (goal.at.returns-in-Length-clause-used_value c).After-clean_copy-n) ≤ length (c.args.out.now) = omega (arith, c.if-out-open_size.false, size (goal.at.returns-in-Length-clause-used_value c).After-open_size) in
-    (third4 (listed_taken (c.args.bytes.now) (c.args.used) (c.args.out.now) (set_taken (c.args.bytes.now) (c.args.used) (given (written (waiting (goal.at.returns-in-Length-clause-used_value c).After-clean_copy-n))) (stored (goal.at.returns-in-Length-clause-used_value c).After-clean_copy-n) (settled (goal.at.returns-in-Length-clause-used_value c).After-clean_copy-n h) (w.value (S (goal.at.returns-in-Length-clause-used_value c).In_default) (clean (goal.at.returns-in-Length-clause-used_value c).After-clean_copy-n) (same (goal.at.returns-in-Length-clause-used_value c).After-clean_copy-n) (copied (goal.at.returns-in-Length-clause-used_value c).After-clean_copy-n).are) ((w.bytes_after) (S (goal.at.returns-in-Length-clause-used_value c).In_default) (clean (goal.at.returns-in-Length-clause-used_value c).After-clean_copy-n) (same (goal.at.returns-in-Length-clause-used_value c).After-clean_copy-n) (copied (goal.at.returns-in-Length-clause-used_value c).After-clean_copy-n).are) c.in-Length.is) (c.open_bytes.ensures (clean (goal.at.returns-in-Length-clause-used_value c).After-clean_copy-n) (copied (goal.at.returns-in-Length-clause-used_value c).After-clean_copy-n))))
+    let h : length (waiting (goal.at.returns-clause-used_value c).After-clean_copy-n) ≤ length (c.args.out.now) = omega (arith, c.if-out-open_size.false, size (goal.at.returns-clause-used_value c).After-open_size) in
+    (third4 (listed_taken (c.args.bytes.now) (c.args.used) (c.args.out.now) (set_taken (c.args.bytes.now) (c.args.used) (Ok (written (waiting (goal.at.returns-clause-used_value c).After-clean_copy-n))) (stored (goal.at.returns-clause-used_value c).After-clean_copy-n) (settled (goal.at.returns-clause-used_value c).After-clean_copy-n h) (w.value (S (goal.at.returns-clause-used_value c).In_default) (clean (goal.at.returns-clause-used_value c).After-clean_copy-n) (same (goal.at.returns-clause-used_value c).After-clean_copy-n) (copied (goal.at.returns-clause-used_value c).After-clean_copy-n).are) ((w.bytes_after) (S (goal.at.returns-clause-used_value c).In_default) (clean (goal.at.returns-clause-used_value c).After-clean_copy-n) (same (goal.at.returns-clause-used_value c).After-clean_copy-n) (copied (goal.at.returns-clause-used_value c).After-clean_copy-n).are) c.in_ok-after.was) (c.open_bytes.ensures (clean (goal.at.returns-clause-used_value c).After-clean_copy-n) (copied (goal.at.returns-clause-used_value c).After-clean_copy-n))))
 
-pub returns-in-Length-clause-out_after : goal.returns-in-Length-clause-out_after
-returns-in-Length-clause-out_after c =
+pub returns-clause-out_after : goal.returns-clause-out_after
+returns-clause-out_after c =
     let w = c.set.ensures in
-    let h : length (waiting (goal.at.returns-in-Length-clause-out_after c).After-clean_copy-n) ≤ length (c.args.out.now) = omega (arith, c.if-out-open_size.false, size (goal.at.returns-in-Length-clause-out_after c).After-open_size) in
-    (fourth4 (listed_taken (c.args.bytes.now) (c.args.used) (c.args.out.now) (set_taken (c.args.bytes.now) (c.args.used) (given (written (waiting (goal.at.returns-in-Length-clause-out_after c).After-clean_copy-n))) (stored (goal.at.returns-in-Length-clause-out_after c).After-clean_copy-n) (settled (goal.at.returns-in-Length-clause-out_after c).After-clean_copy-n h) (w.value (S (goal.at.returns-in-Length-clause-out_after c).In_default) (clean (goal.at.returns-in-Length-clause-out_after c).After-clean_copy-n) (same (goal.at.returns-in-Length-clause-out_after c).After-clean_copy-n) (copied (goal.at.returns-in-Length-clause-out_after c).After-clean_copy-n).are) ((w.bytes_after) (S (goal.at.returns-in-Length-clause-out_after c).In_default) (clean (goal.at.returns-in-Length-clause-out_after c).After-clean_copy-n) (same (goal.at.returns-in-Length-clause-out_after c).After-clean_copy-n) (copied (goal.at.returns-in-Length-clause-out_after c).After-clean_copy-n).are) c.in-Length.is) (c.open_bytes.ensures (clean (goal.at.returns-in-Length-clause-out_after c).After-clean_copy-n) (copied (goal.at.returns-in-Length-clause-out_after c).After-clean_copy-n))))
+    let h : length (waiting (goal.at.returns-clause-out_after c).After-clean_copy-n) ≤ length (c.args.out.now) = omega (arith, c.if-out-open_size.false, size (goal.at.returns-clause-out_after c).After-open_size) in
+    (fourth4 (listed_taken (c.args.bytes.now) (c.args.used) (c.args.out.now) (set_taken (c.args.bytes.now) (c.args.used) (Ok (written (waiting (goal.at.returns-clause-out_after c).After-clean_copy-n))) (stored (goal.at.returns-clause-out_after c).After-clean_copy-n) (settled (goal.at.returns-clause-out_after c).After-clean_copy-n h) (w.value (S (goal.at.returns-clause-out_after c).In_default) (clean (goal.at.returns-clause-out_after c).After-clean_copy-n) (same (goal.at.returns-clause-out_after c).After-clean_copy-n) (copied (goal.at.returns-clause-out_after c).After-clean_copy-n).are) ((w.bytes_after) (S (goal.at.returns-clause-out_after c).In_default) (clean (goal.at.returns-clause-out_after c).After-clean_copy-n) (same (goal.at.returns-clause-out_after c).After-clean_copy-n) (copied (goal.at.returns-clause-out_after c).After-clean_copy-n).are) c.in_ok-after.was) (c.open_bytes.ensures (clean (goal.at.returns-clause-out_after c).After-clean_copy-n) (copied (goal.at.returns-clause-out_after c).After-clean_copy-n))))
 
-pub returns-in-Refused-clause-value : goal.returns-in-Refused-clause-value
-returns-in-Refused-clause-value c =
+pub returns-in_err-after-clause-value : goal.returns-in_err-after-clause-value
+returns-in_err-after-clause-value c =
     let w = c.set.ensures in
-    let h : length (waiting (goal.at.returns-in-Refused-clause-value c).After-clean_copy-n) ≤ length (c.args.out.now) = omega (arith, c.if-out-open_size.false, size (goal.at.returns-in-Refused-clause-value c).After-open_size) in
-    (first4 (listed_kept c.set.new.bytes (c.args.used) (set_refused (c.args.bytes.now) (c.args.used) (given (written (waiting (goal.at.returns-in-Refused-clause-value c).After-clean_copy-n))) (stored (goal.at.returns-in-Refused-clause-value c).After-clean_copy-n) (settled (goal.at.returns-in-Refused-clause-value c).After-clean_copy-n h) (w.value (S (goal.at.returns-in-Refused-clause-value c).In_default) (clean (goal.at.returns-in-Refused-clause-value c).After-clean_copy-n) (same (goal.at.returns-in-Refused-clause-value c).After-clean_copy-n) (copied (goal.at.returns-in-Refused-clause-value c).After-clean_copy-n).are) ((w.bytes_after) (S (goal.at.returns-in-Refused-clause-value c).In_default) (clean (goal.at.returns-in-Refused-clause-value c).After-clean_copy-n) (same (goal.at.returns-in-Refused-clause-value c).After-clean_copy-n) (copied (goal.at.returns-in-Refused-clause-value c).After-clean_copy-n).are) c.in-Refused.is) (c.args.out.now)))
+    let h : length (waiting (goal.at.returns-in_err-after-clause-value c).After-clean_copy-n) ≤ length (c.args.out.now) = omega (arith, c.if-out-open_size.false, size (goal.at.returns-in_err-after-clause-value c).After-open_size) in
+    err_is c.from_residual.result _ c.from_residual.ensures.1 ∙ (first4 (listed_kept c.set.new.bytes (c.args.used) (set_refused (c.args.bytes.now) (c.args.used) (Ok (written (waiting (goal.at.returns-in_err-after-clause-value c).After-clean_copy-n))) (stored (goal.at.returns-in_err-after-clause-value c).After-clean_copy-n) (settled (goal.at.returns-in_err-after-clause-value c).After-clean_copy-n h) (w.value (S (goal.at.returns-in_err-after-clause-value c).In_default) (clean (goal.at.returns-in_err-after-clause-value c).After-clean_copy-n) (same (goal.at.returns-in_err-after-clause-value c).After-clean_copy-n) (copied (goal.at.returns-in_err-after-clause-value c).After-clean_copy-n).are) ((w.bytes_after) (S (goal.at.returns-in_err-after-clause-value c).In_default) (clean (goal.at.returns-in_err-after-clause-value c).After-clean_copy-n) (same (goal.at.returns-in_err-after-clause-value c).After-clean_copy-n) (copied (goal.at.returns-in_err-after-clause-value c).After-clean_copy-n).are) c.in_err-after.was) (c.args.out.now)))
 
-pub returns-in-Refused-clause-bytes_after : goal.returns-in-Refused-clause-bytes_after
-returns-in-Refused-clause-bytes_after c =
+pub returns-in_err-after-clause-bytes_after : goal.returns-in_err-after-clause-bytes_after
+returns-in_err-after-clause-bytes_after c =
     let w = c.set.ensures in
-    let h : length (waiting (goal.at.returns-in-Refused-clause-bytes_after c).After-clean_copy-n) ≤ length (c.args.out.now) = omega (arith, c.if-out-open_size.false, size (goal.at.returns-in-Refused-clause-bytes_after c).After-open_size) in
-    (second4 (listed_kept c.set.new.bytes (c.args.used) (set_refused (c.args.bytes.now) (c.args.used) (given (written (waiting (goal.at.returns-in-Refused-clause-bytes_after c).After-clean_copy-n))) (stored (goal.at.returns-in-Refused-clause-bytes_after c).After-clean_copy-n) (settled (goal.at.returns-in-Refused-clause-bytes_after c).After-clean_copy-n h) (w.value (S (goal.at.returns-in-Refused-clause-bytes_after c).In_default) (clean (goal.at.returns-in-Refused-clause-bytes_after c).After-clean_copy-n) (same (goal.at.returns-in-Refused-clause-bytes_after c).After-clean_copy-n) (copied (goal.at.returns-in-Refused-clause-bytes_after c).After-clean_copy-n).are) ((w.bytes_after) (S (goal.at.returns-in-Refused-clause-bytes_after c).In_default) (clean (goal.at.returns-in-Refused-clause-bytes_after c).After-clean_copy-n) (same (goal.at.returns-in-Refused-clause-bytes_after c).After-clean_copy-n) (copied (goal.at.returns-in-Refused-clause-bytes_after c).After-clean_copy-n).are) c.in-Refused.is) (c.args.out.now)))
+    let h : length (waiting (goal.at.returns-in_err-after-clause-bytes_after c).After-clean_copy-n) ≤ length (c.args.out.now) = omega (arith, c.if-out-open_size.false, size (goal.at.returns-in_err-after-clause-bytes_after c).After-open_size) in
+    (second4 (listed_kept c.set.new.bytes (c.args.used) (set_refused (c.args.bytes.now) (c.args.used) (Ok (written (waiting (goal.at.returns-in_err-after-clause-bytes_after c).After-clean_copy-n))) (stored (goal.at.returns-in_err-after-clause-bytes_after c).After-clean_copy-n) (settled (goal.at.returns-in_err-after-clause-bytes_after c).After-clean_copy-n h) (w.value (S (goal.at.returns-in_err-after-clause-bytes_after c).In_default) (clean (goal.at.returns-in_err-after-clause-bytes_after c).After-clean_copy-n) (same (goal.at.returns-in_err-after-clause-bytes_after c).After-clean_copy-n) (copied (goal.at.returns-in_err-after-clause-bytes_after c).After-clean_copy-n).are) ((w.bytes_after) (S (goal.at.returns-in_err-after-clause-bytes_after c).In_default) (clean (goal.at.returns-in_err-after-clause-bytes_after c).After-clean_copy-n) (same (goal.at.returns-in_err-after-clause-bytes_after c).After-clean_copy-n) (copied (goal.at.returns-in_err-after-clause-bytes_after c).After-clean_copy-n).are) c.in_err-after.was) (c.args.out.now)))
 
-pub returns-in-Refused-clause-used_value : goal.returns-in-Refused-clause-used_value
-returns-in-Refused-clause-used_value c =
+pub returns-in_err-after-clause-used_value : goal.returns-in_err-after-clause-used_value
+returns-in_err-after-clause-used_value c =
     let w = c.set.ensures in
-    let h : length (waiting (goal.at.returns-in-Refused-clause-used_value c).After-clean_copy-n) ≤ length (c.args.out.now) = omega (arith, c.if-out-open_size.false, size (goal.at.returns-in-Refused-clause-used_value c).After-open_size) in
-    (third4 (listed_kept c.set.new.bytes (c.args.used) (set_refused (c.args.bytes.now) (c.args.used) (given (written (waiting (goal.at.returns-in-Refused-clause-used_value c).After-clean_copy-n))) (stored (goal.at.returns-in-Refused-clause-used_value c).After-clean_copy-n) (settled (goal.at.returns-in-Refused-clause-used_value c).After-clean_copy-n h) (w.value (S (goal.at.returns-in-Refused-clause-used_value c).In_default) (clean (goal.at.returns-in-Refused-clause-used_value c).After-clean_copy-n) (same (goal.at.returns-in-Refused-clause-used_value c).After-clean_copy-n) (copied (goal.at.returns-in-Refused-clause-used_value c).After-clean_copy-n).are) ((w.bytes_after) (S (goal.at.returns-in-Refused-clause-used_value c).In_default) (clean (goal.at.returns-in-Refused-clause-used_value c).After-clean_copy-n) (same (goal.at.returns-in-Refused-clause-used_value c).After-clean_copy-n) (copied (goal.at.returns-in-Refused-clause-used_value c).After-clean_copy-n).are) c.in-Refused.is) (c.args.out.now)))
+    let h : length (waiting (goal.at.returns-in_err-after-clause-used_value c).After-clean_copy-n) ≤ length (c.args.out.now) = omega (arith, c.if-out-open_size.false, size (goal.at.returns-in_err-after-clause-used_value c).After-open_size) in
+    ap (λ (r : Result (ℕ × ℕ) Refusal). used_listed r c.args.used) (err_is c.from_residual.result _ c.from_residual.ensures.1) ∙ (third4 (listed_kept c.set.new.bytes (c.args.used) (set_refused (c.args.bytes.now) (c.args.used) (Ok (written (waiting (goal.at.returns-in_err-after-clause-used_value c).After-clean_copy-n))) (stored (goal.at.returns-in_err-after-clause-used_value c).After-clean_copy-n) (settled (goal.at.returns-in_err-after-clause-used_value c).After-clean_copy-n h) (w.value (S (goal.at.returns-in_err-after-clause-used_value c).In_default) (clean (goal.at.returns-in_err-after-clause-used_value c).After-clean_copy-n) (same (goal.at.returns-in_err-after-clause-used_value c).After-clean_copy-n) (copied (goal.at.returns-in_err-after-clause-used_value c).After-clean_copy-n).are) ((w.bytes_after) (S (goal.at.returns-in_err-after-clause-used_value c).In_default) (clean (goal.at.returns-in_err-after-clause-used_value c).After-clean_copy-n) (same (goal.at.returns-in_err-after-clause-used_value c).After-clean_copy-n) (copied (goal.at.returns-in_err-after-clause-used_value c).After-clean_copy-n).are) c.in_err-after.was) (c.args.out.now)))
 
-pub returns-in-Refused-clause-out_after : goal.returns-in-Refused-clause-out_after
-returns-in-Refused-clause-out_after c =
+pub returns-in_err-after-clause-out_after : goal.returns-in_err-after-clause-out_after
+returns-in_err-after-clause-out_after c =
     let w = c.set.ensures in
-    let h : length (waiting (goal.at.returns-in-Refused-clause-out_after c).After-clean_copy-n) ≤ length (c.args.out.now) = omega (arith, c.if-out-open_size.false, size (goal.at.returns-in-Refused-clause-out_after c).After-open_size) in
-    (fourth4 (listed_kept c.set.new.bytes (c.args.used) (set_refused (c.args.bytes.now) (c.args.used) (given (written (waiting (goal.at.returns-in-Refused-clause-out_after c).After-clean_copy-n))) (stored (goal.at.returns-in-Refused-clause-out_after c).After-clean_copy-n) (settled (goal.at.returns-in-Refused-clause-out_after c).After-clean_copy-n h) (w.value (S (goal.at.returns-in-Refused-clause-out_after c).In_default) (clean (goal.at.returns-in-Refused-clause-out_after c).After-clean_copy-n) (same (goal.at.returns-in-Refused-clause-out_after c).After-clean_copy-n) (copied (goal.at.returns-in-Refused-clause-out_after c).After-clean_copy-n).are) ((w.bytes_after) (S (goal.at.returns-in-Refused-clause-out_after c).In_default) (clean (goal.at.returns-in-Refused-clause-out_after c).After-clean_copy-n) (same (goal.at.returns-in-Refused-clause-out_after c).After-clean_copy-n) (copied (goal.at.returns-in-Refused-clause-out_after c).After-clean_copy-n).are) c.in-Refused.is) (c.args.out.now)))
+    let h : length (waiting (goal.at.returns-in_err-after-clause-out_after c).After-clean_copy-n) ≤ length (c.args.out.now) = omega (arith, c.if-out-open_size.false, size (goal.at.returns-in_err-after-clause-out_after c).After-open_size) in
+    (fourth4 (listed_kept c.set.new.bytes (c.args.used) (set_refused (c.args.bytes.now) (c.args.used) (Ok (written (waiting (goal.at.returns-in_err-after-clause-out_after c).After-clean_copy-n))) (stored (goal.at.returns-in_err-after-clause-out_after c).After-clean_copy-n) (settled (goal.at.returns-in_err-after-clause-out_after c).After-clean_copy-n h) (w.value (S (goal.at.returns-in_err-after-clause-out_after c).In_default) (clean (goal.at.returns-in_err-after-clause-out_after c).After-clean_copy-n) (same (goal.at.returns-in_err-after-clause-out_after c).After-clean_copy-n) (copied (goal.at.returns-in_err-after-clause-out_after c).After-clean_copy-n).are) ((w.bytes_after) (S (goal.at.returns-in_err-after-clause-out_after c).In_default) (clean (goal.at.returns-in_err-after-clause-out_after c).After-clean_copy-n) (same (goal.at.returns-in_err-after-clause-out_after c).After-clean_copy-n) (copied (goal.at.returns-in_err-after-clause-out_after c).After-clean_copy-n).are) c.in_err-after.was) (c.args.out.now)))

@@ -1,9 +1,8 @@
 -- `is_pracked` meets its contract: the flag of the first entry of the RSeq, where it lies. Assumes nothing.
 use mathlib.Core.Path.{◌≡◌, refl, sym, ap, ◌∙◌}
 use mathlib.Core.Bool.{Bool, false}
-use mathlib.Core.Option.{none, some}
+use Rattle.std.specs.Prelude.{None, Ok, Some}
 use Rattle.limits.specs.Limits.{rust_limits}
-use Rattle.limits.specs.Outcome.{given}
 use Rattle.codec.proofs.CodecLaws.{Bytes, bytes_all}
 use Rattle.prack_body.specs.Lists.{entries_of, first_of_rseq, is_acknowledged}
 use Rattle.prack_list.specs.Steps.{position_in}
@@ -11,7 +10,6 @@ use Rattle.prack_entries.specs.Places.{Sought}
 use Rattle.prack_entries.specs.declared.finding.Slot.TheVariants as slots
 use Rattle.prack_entries.proofs.SlotLaws.{held_sought, free_sought, Found, found, lacking}
 use Rattle.prack_validator.specs.Validator.{Action, is_pracked, flag, action_cause, deciding, ran}
-use Rattle.prack_validator.specs.declared.Pracked.TheVariants as pracked
 use Rattle.prack_validator.proofs.OperationLaws.{long_cause_lem, rest_cause, by_arguments, by_store, by_keeping, pracked_decides, at_flag, no_list_flag, unknown_flag, body_there}
 use Rattle.prack_validator.proofs.AnswerLaws.{DonePracked, pracked_kept, pracked_taken}
 use native.Mathlib.Omega.{arith}
@@ -40,10 +38,10 @@ known-at-In-Held c = bytes_all (c.args.bytes.now) (λ n. (c.type_inv.bytes n).fi
 abbrev known-at-After-first_of : (c : After-first_of) → Bytes (c.args.bytes.now)
 known-at-After-first_of c = bytes_all (c.args.bytes.now) (λ n. (c.type_inv.bytes n).fits)
 
-clear-at-In-Held : (c : In-Held) → action_cause rust_limits (act-at-In-Held c) ≡ none
+clear-at-In-Held : (c : In-Held) → action_cause rust_limits (act-at-In-Held c) ≡ None
 clear-at-In-Held c = rest_cause (act-at-In-Held c) (sym c.too_long.ensures ∙ c.if-too_long.false)
 
-clear : (c : After-find) → action_cause rust_limits (act-at-After-find c) ≡ none
+clear : (c : After-find) → action_cause rust_limits (act-at-After-find c) ≡ None
 clear c = rest_cause (act-at-After-find c) (sym c.too_long.ensures ∙ c.if-too_long.false)
 
 abbrev S : (c : In-Held) → Sought (c.args.id.now) (c.args.bytes.now) (c.args.used) (slots.Held (c.in-Held.t))
@@ -62,10 +60,10 @@ position : (c : After-first_of) → c.first_of.result ≡ position_in (c.args.rs
 position c = c.first_of.ensures (F-at-After-first_of c).t (body_there (known-at-After-first_of c) (S-at-After-first_of c).within (F-at-After-first_of c))
 
 answers : (c : In-Held) (b : Bool) → is_acknowledged (first_of_rseq (c.args.rseq) (entries_of (F c).t.list)) ≡ b
-    → DonePracked (c.args.bytes.now) (c.args.used) (ran rust_limits (act-at-In-Held c) (c.args.bytes.now) (c.args.used)) (pracked.Is b)
+    → DonePracked (c.args.bytes.now) (c.args.used) (ran rust_limits (act-at-In-Held c) (c.args.bytes.now) (c.args.used)) (Ok b)
 answers c b q =
-    pracked_taken (c.args.bytes.now) (c.args.used) (by_keeping (c.args.bytes.now) (c.args.used) (act-at-In-Held c) (clear-at-In-Held c) (S c) (S c).list (given (flag b))
-    (pracked_decides (c.args.id.now) (S c).list (c.args.rseq) (some (F c).t) (F c).is ∙ ap (λ (x : Bool). deciding (S c).list (given (flag x))) q) (known-at-In-Held c) refl)
+    pracked_taken (c.args.bytes.now) (c.args.used) (by_keeping (c.args.bytes.now) (c.args.used) (act-at-In-Held c) (clear-at-In-Held c) (S c) (S c).list (Ok (flag b))
+    (pracked_decides (c.args.id.now) (S c).list (c.args.rseq) (Some (F c).t) (F c).is ∙ ap (λ (x : Bool). deciding (S c).list (Ok (flag x))) q) (known-at-In-Held c) refl)
 
 pub returns-then-too_long-clause-value : goal.returns-then-too_long-clause-value
 returns-then-too_long-clause-value c =
@@ -121,17 +119,17 @@ returns-in-Unknown-clause-used_value c =
 pub returns-in-Free-clause-value : goal.returns-in-Free-clause-value
 returns-in-Free-clause-value c =
     let w = free_sought (c.args.id.now) (c.args.bytes.now) (c.args.used) c.in-Free.field-0 (sym c.find.ensures ∙ c.in-Free.is) in
-    (first (pracked_taken (c.args.bytes.now) (c.args.used) (by_keeping (c.args.bytes.now) (c.args.used) (is_pracked c.args.id.now c.args.rseq) (clear (goal.at.returns-in-Free-clause-value c).After-find) w w.list (given (flag false)) (pracked_decides (c.args.id.now) w.list (c.args.rseq) none (lacking (c.args.id.now) (c.args.bytes.now) (c.args.used) c.in-Free.field-0 (bytes_all (c.args.bytes.now) (λ i. (c.type_inv.bytes i).fits)) w).0 ∙ ap (λ (x : Bool). deciding w.list (given (flag x))) (no_list_flag (c.args.rseq) none refl)) (bytes_all (c.args.bytes.now) (λ i. (c.type_inv.bytes i).fits)) refl)))
+    (first (pracked_taken (c.args.bytes.now) (c.args.used) (by_keeping (c.args.bytes.now) (c.args.used) (is_pracked c.args.id.now c.args.rseq) (clear (goal.at.returns-in-Free-clause-value c).After-find) w w.list (Ok (flag false)) (pracked_decides (c.args.id.now) w.list (c.args.rseq) None (lacking (c.args.id.now) (c.args.bytes.now) (c.args.used) c.in-Free.field-0 (bytes_all (c.args.bytes.now) (λ i. (c.type_inv.bytes i).fits)) w).0 ∙ ap (λ (x : Bool). deciding w.list (Ok (flag x))) (no_list_flag (c.args.rseq) None refl)) (bytes_all (c.args.bytes.now) (λ i. (c.type_inv.bytes i).fits)) refl)))
 
 pub returns-in-Free-clause-bytes_value : goal.returns-in-Free-clause-bytes_value
 returns-in-Free-clause-bytes_value c =
     let w = free_sought (c.args.id.now) (c.args.bytes.now) (c.args.used) c.in-Free.field-0 (sym c.find.ensures ∙ c.in-Free.is) in
-    (second_first (pracked_taken (c.args.bytes.now) (c.args.used) (by_keeping (c.args.bytes.now) (c.args.used) (is_pracked c.args.id.now c.args.rseq) (clear (goal.at.returns-in-Free-clause-bytes_value c).After-find) w w.list (given (flag false)) (pracked_decides (c.args.id.now) w.list (c.args.rseq) none (lacking (c.args.id.now) (c.args.bytes.now) (c.args.used) c.in-Free.field-0 (bytes_all (c.args.bytes.now) (λ i. (c.type_inv.bytes i).fits)) w).0 ∙ ap (λ (x : Bool). deciding w.list (given (flag x))) (no_list_flag (c.args.rseq) none refl)) (bytes_all (c.args.bytes.now) (λ i. (c.type_inv.bytes i).fits)) refl)))
+    (second_first (pracked_taken (c.args.bytes.now) (c.args.used) (by_keeping (c.args.bytes.now) (c.args.used) (is_pracked c.args.id.now c.args.rseq) (clear (goal.at.returns-in-Free-clause-bytes_value c).After-find) w w.list (Ok (flag false)) (pracked_decides (c.args.id.now) w.list (c.args.rseq) None (lacking (c.args.id.now) (c.args.bytes.now) (c.args.used) c.in-Free.field-0 (bytes_all (c.args.bytes.now) (λ i. (c.type_inv.bytes i).fits)) w).0 ∙ ap (λ (x : Bool). deciding w.list (Ok (flag x))) (no_list_flag (c.args.rseq) None refl)) (bytes_all (c.args.bytes.now) (λ i. (c.type_inv.bytes i).fits)) refl)))
 
 pub returns-in-Free-clause-used_value : goal.returns-in-Free-clause-used_value
 returns-in-Free-clause-used_value c =
     let w = free_sought (c.args.id.now) (c.args.bytes.now) (c.args.used) c.in-Free.field-0 (sym c.find.ensures ∙ c.in-Free.is) in
-    (second_second (pracked_taken (c.args.bytes.now) (c.args.used) (by_keeping (c.args.bytes.now) (c.args.used) (is_pracked c.args.id.now c.args.rseq) (clear (goal.at.returns-in-Free-clause-used_value c).After-find) w w.list (given (flag false)) (pracked_decides (c.args.id.now) w.list (c.args.rseq) none (lacking (c.args.id.now) (c.args.bytes.now) (c.args.used) c.in-Free.field-0 (bytes_all (c.args.bytes.now) (λ i. (c.type_inv.bytes i).fits)) w).0 ∙ ap (λ (x : Bool). deciding w.list (given (flag x))) (no_list_flag (c.args.rseq) none refl)) (bytes_all (c.args.bytes.now) (λ i. (c.type_inv.bytes i).fits)) refl)))
+    (second_second (pracked_taken (c.args.bytes.now) (c.args.used) (by_keeping (c.args.bytes.now) (c.args.used) (is_pracked c.args.id.now c.args.rseq) (clear (goal.at.returns-in-Free-clause-used_value c).After-find) w w.list (Ok (flag false)) (pracked_decides (c.args.id.now) w.list (c.args.rseq) None (lacking (c.args.id.now) (c.args.bytes.now) (c.args.used) c.in-Free.field-0 (bytes_all (c.args.bytes.now) (λ i. (c.type_inv.bytes i).fits)) w).0 ∙ ap (λ (x : Bool). deciding w.list (Ok (flag x))) (no_list_flag (c.args.rseq) None refl)) (bytes_all (c.args.bytes.now) (λ i. (c.type_inv.bytes i).fits)) refl)))
 
 pub returns-in-Broken-clause-value : goal.returns-in-Broken-clause-value
 returns-in-Broken-clause-value c =

@@ -1,12 +1,11 @@
 -- `register` meets its contract: what is held is cleaned, one response is pushed, and the store is written. Assumes nothing.
 use mathlib.Core.Path.{◌≡◌, sym, ◌∙◌}
 use mathlib.Core.Bool.{true, false}
-use mathlib.Core.Option.{none}
 use lib.ListN.{length}
 use lib.Seq.{length-take-le}
 use borrow.Author.Tests.{not-true, not-false}
+use Rattle.std.specs.Prelude.{None, Ok}
 use Rattle.limits.specs.Limits.{rust_limits}
-use Rattle.limits.specs.Outcome.{given}
 use Rattle.text.specs.Answers.{too_long}
 use Rattle.methods.specs.Methods.{is_method}
 use Rattle.output.specs.Output.{fitted}
@@ -55,7 +54,7 @@ not_long-at-After-push-m c = sym c.too_long.ensures ∙ c.if-too_long.false
 known_method : (c : After-find-slot) → is_method (p-at-After-find-slot c).method ≡ true
 known_method c = sym c.is_method.ensures ∙ not-false c.is_method.result c.if-not-is_method.false-raw
 
-clear : (c : After-find-slot) → action_cause rust_limits (call-at-After-find-slot c) ≡ none
+clear : (c : After-find-slot) → action_cause rust_limits (call-at-After-find-slot c) ≡ None
 clear c = rest_cause (call-at-After-find-slot c) (not_long c) ∙ method_cause_lem (p-at-After-find-slot c).method true (known_method c)
 
 abbrev S-at-After-push-m : (c : After-push-m) → Sought (c.args.id.now) (c.args.bytes.now) (c.args.used) c.find-slot.result
@@ -132,18 +131,18 @@ returns-clause-value c =
     let x : Tracked = registered rust_limits (pending_of c.args.rseq c.args.cseq c.args.method c.args.code c.args.time) (clean (goal.at.returns-clause-value c).After-clean_copy-n) in
     let w : Sought (c.args.id.now) (c.args.bytes.now) (c.args.used) c.find-slot.result = S (goal.at.returns-clause-value c).In_default in
     let n : x.id ≡ c.args.id.now = clean_id (bytes_all (c.args.bytes.now) (λ i. (c.slice_known-1.given i).fits)) w (pending_of c.args.rseq c.args.cseq c.args.method c.args.code c.args.time).registered_at in
-    (first (written_set (c.args.bytes.now) (c.args.used) no_value (fitted (length (c.args.bytes.now)) (encode_tracked rust_limits (set_entry key_of x w.list))) (by_fitting (c.args.bytes.now) (c.args.used) (register c.args.id.now c.args.rseq c.args.cseq c.args.method c.args.code c.args.time) (clear (goal.at.returns-clause-value c).After-find-slot) w (set_entry key_of x w.list) (given no_value) (register_decides (c.args.id.now) w.list (pending_of c.args.rseq c.args.cseq c.args.method c.args.code c.args.time).rseq (pending_of c.args.rseq c.args.cseq c.args.method c.args.code c.args.time).cseq (pending_of c.args.rseq c.args.cseq c.args.method c.args.code c.args.time).method (pending_of c.args.rseq c.args.cseq c.args.method c.args.code c.args.time).code (pending_of c.args.rseq c.args.cseq c.args.method c.args.code c.args.time).registered_at)) (c.set.ensures.value w x n (pushed (goal.at.returns-clause-value c).After-push-m).are) ((c.set.ensures.bytes_after) w x n (pushed (goal.at.returns-clause-value c).After-push-m).are)))
+    (first (written_set (c.args.bytes.now) (c.args.used) no_value (fitted (length (c.args.bytes.now)) (encode_tracked rust_limits (set_entry key_of x w.list))) (by_fitting (c.args.bytes.now) (c.args.used) (register c.args.id.now c.args.rseq c.args.cseq c.args.method c.args.code c.args.time) (clear (goal.at.returns-clause-value c).After-find-slot) w (set_entry key_of x w.list) (Ok no_value) (register_decides (c.args.id.now) w.list (pending_of c.args.rseq c.args.cseq c.args.method c.args.code c.args.time).rseq (pending_of c.args.rseq c.args.cseq c.args.method c.args.code c.args.time).cseq (pending_of c.args.rseq c.args.cseq c.args.method c.args.code c.args.time).method (pending_of c.args.rseq c.args.cseq c.args.method c.args.code c.args.time).code (pending_of c.args.rseq c.args.cseq c.args.method c.args.code c.args.time).registered_at)) (c.set.ensures.value w x n (pushed (goal.at.returns-clause-value c).After-push-m).are) ((c.set.ensures.bytes_after) w x n (pushed (goal.at.returns-clause-value c).After-push-m).are)))
 
 pub returns-clause-bytes_after : goal.returns-clause-bytes_after
 returns-clause-bytes_after c =
     let x : Tracked = registered rust_limits (pending_of c.args.rseq c.args.cseq c.args.method c.args.code c.args.time) (clean (goal.at.returns-clause-bytes_after c).After-clean_copy-n) in
     let w : Sought (c.args.id.now) (c.args.bytes.now) (c.args.used) c.find-slot.result = S (goal.at.returns-clause-bytes_after c).In_default in
     let n : x.id ≡ c.args.id.now = clean_id (bytes_all (c.args.bytes.now) (λ i. (c.slice_known-1.given i).fits)) w (pending_of c.args.rseq c.args.cseq c.args.method c.args.code c.args.time).registered_at in
-    (second_first (written_set (c.args.bytes.now) (c.args.used) no_value (fitted (length (c.args.bytes.now)) (encode_tracked rust_limits (set_entry key_of x w.list))) (by_fitting (c.args.bytes.now) (c.args.used) (register c.args.id.now c.args.rseq c.args.cseq c.args.method c.args.code c.args.time) (clear (goal.at.returns-clause-bytes_after c).After-find-slot) w (set_entry key_of x w.list) (given no_value) (register_decides (c.args.id.now) w.list (pending_of c.args.rseq c.args.cseq c.args.method c.args.code c.args.time).rseq (pending_of c.args.rseq c.args.cseq c.args.method c.args.code c.args.time).cseq (pending_of c.args.rseq c.args.cseq c.args.method c.args.code c.args.time).method (pending_of c.args.rseq c.args.cseq c.args.method c.args.code c.args.time).code (pending_of c.args.rseq c.args.cseq c.args.method c.args.code c.args.time).registered_at)) (c.set.ensures.value w x n (pushed (goal.at.returns-clause-bytes_after c).After-push-m).are) ((c.set.ensures.bytes_after) w x n (pushed (goal.at.returns-clause-bytes_after c).After-push-m).are)))
+    (second_first (written_set (c.args.bytes.now) (c.args.used) no_value (fitted (length (c.args.bytes.now)) (encode_tracked rust_limits (set_entry key_of x w.list))) (by_fitting (c.args.bytes.now) (c.args.used) (register c.args.id.now c.args.rseq c.args.cseq c.args.method c.args.code c.args.time) (clear (goal.at.returns-clause-bytes_after c).After-find-slot) w (set_entry key_of x w.list) (Ok no_value) (register_decides (c.args.id.now) w.list (pending_of c.args.rseq c.args.cseq c.args.method c.args.code c.args.time).rseq (pending_of c.args.rseq c.args.cseq c.args.method c.args.code c.args.time).cseq (pending_of c.args.rseq c.args.cseq c.args.method c.args.code c.args.time).method (pending_of c.args.rseq c.args.cseq c.args.method c.args.code c.args.time).code (pending_of c.args.rseq c.args.cseq c.args.method c.args.code c.args.time).registered_at)) (c.set.ensures.value w x n (pushed (goal.at.returns-clause-bytes_after c).After-push-m).are) ((c.set.ensures.bytes_after) w x n (pushed (goal.at.returns-clause-bytes_after c).After-push-m).are)))
 
 pub returns-clause-used_value : goal.returns-clause-used_value
 returns-clause-used_value c =
     let x : Tracked = registered rust_limits (pending_of c.args.rseq c.args.cseq c.args.method c.args.code c.args.time) (clean (goal.at.returns-clause-used_value c).After-clean_copy-n) in
     let w : Sought (c.args.id.now) (c.args.bytes.now) (c.args.used) c.find-slot.result = S (goal.at.returns-clause-used_value c).In_default in
     let n : x.id ≡ c.args.id.now = clean_id (bytes_all (c.args.bytes.now) (λ i. (c.slice_known-1.given i).fits)) w (pending_of c.args.rseq c.args.cseq c.args.method c.args.code c.args.time).registered_at in
-    (second_second (written_set (c.args.bytes.now) (c.args.used) no_value (fitted (length (c.args.bytes.now)) (encode_tracked rust_limits (set_entry key_of x w.list))) (by_fitting (c.args.bytes.now) (c.args.used) (register c.args.id.now c.args.rseq c.args.cseq c.args.method c.args.code c.args.time) (clear (goal.at.returns-clause-used_value c).After-find-slot) w (set_entry key_of x w.list) (given no_value) (register_decides (c.args.id.now) w.list (pending_of c.args.rseq c.args.cseq c.args.method c.args.code c.args.time).rseq (pending_of c.args.rseq c.args.cseq c.args.method c.args.code c.args.time).cseq (pending_of c.args.rseq c.args.cseq c.args.method c.args.code c.args.time).method (pending_of c.args.rseq c.args.cseq c.args.method c.args.code c.args.time).code (pending_of c.args.rseq c.args.cseq c.args.method c.args.code c.args.time).registered_at)) (c.set.ensures.value w x n (pushed (goal.at.returns-clause-used_value c).After-push-m).are) ((c.set.ensures.bytes_after) w x n (pushed (goal.at.returns-clause-used_value c).After-push-m).are)))
+    (second_second (written_set (c.args.bytes.now) (c.args.used) no_value (fitted (length (c.args.bytes.now)) (encode_tracked rust_limits (set_entry key_of x w.list))) (by_fitting (c.args.bytes.now) (c.args.used) (register c.args.id.now c.args.rseq c.args.cseq c.args.method c.args.code c.args.time) (clear (goal.at.returns-clause-used_value c).After-find-slot) w (set_entry key_of x w.list) (Ok no_value) (register_decides (c.args.id.now) w.list (pending_of c.args.rseq c.args.cseq c.args.method c.args.code c.args.time).rseq (pending_of c.args.rseq c.args.cseq c.args.method c.args.code c.args.time).cseq (pending_of c.args.rseq c.args.cseq c.args.method c.args.code c.args.time).method (pending_of c.args.rseq c.args.cseq c.args.method c.args.code c.args.time).code (pending_of c.args.rseq c.args.cseq c.args.method c.args.code c.args.time).registered_at)) (c.set.ensures.value w x n (pushed (goal.at.returns-clause-used_value c).After-push-m).are) ((c.set.ensures.bytes_after) w x n (pushed (goal.at.returns-clause-used_value c).After-push-m).are)))

@@ -3,10 +3,10 @@ use Prim.Native.Nat.{ℕ}
 use mathlib.Core.Path.{◌≡◌, sym, ◌∙◌}
 use mathlib.Core.Bool.{false}
 use mathlib.Core.List.{List}
-use mathlib.Core.Option.{none}
 use lib.ListN.{length}
+use Rattle.std.specs.Prelude.{None, Result}
 use Rattle.limits.specs.Limits.{rust_limits}
-use Rattle.limits.specs.Outcome.{Outcome}
+use Rattle.limits.specs.declared.Refusal.{Refusal}
 use Rattle.limits.proofs.Laws.{passed, stopped}
 use Rattle.text.specs.Answers.{too_long}
 use Rattle.msg.specs.Block.{block_cause}
@@ -24,7 +24,7 @@ use Rattle.prack_validator.specs.Validator.{Action, validate, action_cause, judg
 use Rattle.prack_validator.proofs.OperationLaws.{long_cause_lem, rest_cause, short, left_by, by_arguments, by_store, by_fitting, validate_decides, clean_id}
 use Rattle.prack_validator.proofs.AnswerLaws.{validated_kept, validated_taken, set_taken, set_refused}
 use Rattle.prack_validator.proofs.validate.Goals as goal
-use Rattle.prack_validator.proofs.validate.Goals.{After-check_block, After-clean_copy-n, After-find-slot, After-hold_against-verdict, In_default-slot, Start}
+use Rattle.prack_validator.proofs.validate.Goals.{After-check_block, After-clean_copy-n, After-find-slot, After-hold_against-verdict, In_default-slot}
 
 -- the parts of what several clauses say together
 first2 : {A B : Type 0} → A × B → A
@@ -54,10 +54,10 @@ not_long-at-After-clean_copy-n c = sym c.too_long.ensures ∙ c.if-too_long.fals
 not_long-at-After-hold_against-verdict : (c : After-hold_against-verdict) → too_long rust_limits (c.args.id.now) ≡ false
 not_long-at-After-hold_against-verdict c = sym c.too_long.ensures ∙ c.if-too_long.false
 
-clear : (c : After-find-slot) → action_cause rust_limits (act-at-After-find-slot c) ≡ none
+clear : (c : After-find-slot) → action_cause rust_limits (act-at-After-find-slot c) ≡ None
 clear c = rest_cause (act-at-After-find-slot c) (not_long-at-After-find-slot c) ∙ passed (block_cause rust_limits (c.args.block.now)) (sym c.check_block.ensures ∙ c.in_default.is)
 
-clear-at-After-hold_against-verdict : (c : After-hold_against-verdict) → action_cause rust_limits (act-at-After-hold_against-verdict c) ≡ none
+clear-at-After-hold_against-verdict : (c : After-hold_against-verdict) → action_cause rust_limits (act-at-After-hold_against-verdict c) ≡ None
 clear-at-After-hold_against-verdict c = rest_cause (act-at-After-hold_against-verdict c) (not_long-at-After-hold_against-verdict c) ∙ passed (block_cause rust_limits (c.args.block.now)) (sym c.check_block.ensures ∙ c.in_default.is)
 
 abbrev S-at-After-clean_copy-n : (c : After-clean_copy-n) → Sought (c.args.id.now) (c.args.bytes.now) (c.args.used) c.find-slot.result
@@ -86,7 +86,7 @@ copied-at-After-hold_against-verdict : (c : After-hold_against-verdict) → Hold
 copied-at-After-hold_against-verdict c = (c.clean_copy-n.ensures.by_index) (c.args.id.now) (S-at-After-hold_against-verdict c) (short (c.args.id.now) (not_long-at-After-hold_against-verdict c))
 
 -- and the PRACK held against it
-abbrev verdict : After-hold_against-verdict → Outcome RAck
+abbrev verdict : After-hold_against-verdict → Result RAck Refusal
 verdict c = judged_for rust_limits (c.args.id.now) (c.args.block.now) (c.args.time) (S-at-After-hold_against-verdict c).list
 
 abbrev marked : After-hold_against-verdict → Tracked
@@ -96,7 +96,7 @@ held : (c : After-hold_against-verdict) → Holds c.hold_against-verdict.new.bod
 held c = (c.hold_against-verdict.ensures.holds) (clean-at-After-hold_against-verdict c) (copied-at-After-hold_against-verdict c)
 
 -- the store with it, where it fits
-abbrev stored : After-hold_against-verdict → Outcome (List ℕ)
+abbrev stored : After-hold_against-verdict → Result (List ℕ) Refusal
 stored c = fitted (length (c.args.bytes.now)) (encode_tracked rust_limits (set_entry key_of (marked c) (S-at-After-hold_against-verdict c).list))
 
 settled : (c : After-hold_against-verdict) → ran rust_limits (act-at-After-hold_against-verdict c) (c.args.bytes.now) (c.args.used) ≡ left_by (c.args.bytes.now) (c.args.used) (rack_value (verdict c)) (stored c)
@@ -115,13 +115,13 @@ pub returns-then-too_long-clause-bytes_after : goal.returns-then-too_long-clause
 returns-then-too_long-clause-bytes_after c =
     (second2 (validated_kept (c.args.bytes.now) (c.args.used) (by_arguments (c.args.bytes.now) (c.args.used) (validate (c.args.id.now) (c.args.block.now) (c.args.time)) (long_cause_lem (validate (c.args.id.now) (c.args.block.now) (c.args.time)) (sym c.too_long.ensures ∙ c.if-too_long.true)))))
 
-pub returns-in-Refused-clause-value : goal.returns-in-Refused-clause-value
-returns-in-Refused-clause-value c =
-    (first2 (validated_kept (c.args.bytes.now) (c.args.used) (by_arguments (c.args.bytes.now) (c.args.used) (validate (c.args.id.now) (c.args.block.now) (c.args.time)) (rest_cause (validate (c.args.id.now) (c.args.block.now) (c.args.time)) (not_long (goal.at.returns-in-Refused-clause-value c).After-check_block) ∙ stopped (block_cause rust_limits (c.args.block.now)) (sym c.check_block.ensures ∙ c.in-Refused.is)))))
+pub returns-in-Err-clause-value : goal.returns-in-Err-clause-value
+returns-in-Err-clause-value c =
+    (first2 (validated_kept (c.args.bytes.now) (c.args.used) (by_arguments (c.args.bytes.now) (c.args.used) (validate (c.args.id.now) (c.args.block.now) (c.args.time)) (rest_cause (validate (c.args.id.now) (c.args.block.now) (c.args.time)) (not_long (goal.at.returns-in-Err-clause-value c).After-check_block) ∙ stopped (block_cause rust_limits (c.args.block.now)) (sym c.check_block.ensures ∙ c.in-Err.is)))))
 
-pub returns-in-Refused-clause-bytes_after : goal.returns-in-Refused-clause-bytes_after
-returns-in-Refused-clause-bytes_after c =
-    (second2 (validated_kept (c.args.bytes.now) (c.args.used) (by_arguments (c.args.bytes.now) (c.args.used) (validate (c.args.id.now) (c.args.block.now) (c.args.time)) (rest_cause (validate (c.args.id.now) (c.args.block.now) (c.args.time)) (not_long (goal.at.returns-in-Refused-clause-bytes_after c).After-check_block) ∙ stopped (block_cause rust_limits (c.args.block.now)) (sym c.check_block.ensures ∙ c.in-Refused.is)))))
+pub returns-in-Err-clause-bytes_after : goal.returns-in-Err-clause-bytes_after
+returns-in-Err-clause-bytes_after c =
+    (second2 (validated_kept (c.args.bytes.now) (c.args.used) (by_arguments (c.args.bytes.now) (c.args.used) (validate (c.args.id.now) (c.args.block.now) (c.args.time)) (rest_cause (validate (c.args.id.now) (c.args.block.now) (c.args.time)) (not_long (goal.at.returns-in-Err-clause-bytes_after c).After-check_block) ∙ stopped (block_cause rust_limits (c.args.block.now)) (sym c.check_block.ensures ∙ c.in-Err.is)))))
 
 pub returns-in-Broken-clause-value : goal.returns-in-Broken-clause-value
 returns-in-Broken-clause-value c =
@@ -135,22 +135,22 @@ pub hold_against-verdict-requires : goal.hold_against-verdict-requires
 hold_against-verdict-requires c =
     (holds_within (copied (goal.at.hold_against-verdict-requires c).After-clean_copy-n), (clean (goal.at.hold_against-verdict-requires c).After-clean_copy-n, copied (goal.at.hold_against-verdict-requires c).After-clean_copy-n))
 
-pub returns-in-Length-clause-value : goal.returns-in-Length-clause-value
-returns-in-Length-clause-value c =
+pub returns-in-Ok-clause-value : goal.returns-in-Ok-clause-value
+returns-in-Ok-clause-value c =
     let w = c.set.ensures in
-    (first2 (validated_taken (c.args.bytes.now) (c.args.used) (verdict (goal.at.returns-in-Length-clause-value c).After-hold_against-verdict) (set_taken (c.args.bytes.now) (c.args.used) (rack_value (verdict (goal.at.returns-in-Length-clause-value c).After-hold_against-verdict)) (stored (goal.at.returns-in-Length-clause-value c).After-hold_against-verdict) (settled (goal.at.returns-in-Length-clause-value c).After-hold_against-verdict) (w.value (S (goal.at.returns-in-Length-clause-value c).In_default-slot) (marked (goal.at.returns-in-Length-clause-value c).After-hold_against-verdict) (same (goal.at.returns-in-Length-clause-value c).After-hold_against-verdict) (held (goal.at.returns-in-Length-clause-value c).After-hold_against-verdict).are) ((w.bytes_after) (S (goal.at.returns-in-Length-clause-value c).In_default-slot) (marked (goal.at.returns-in-Length-clause-value c).After-hold_against-verdict) (same (goal.at.returns-in-Length-clause-value c).After-hold_against-verdict) (held (goal.at.returns-in-Length-clause-value c).After-hold_against-verdict).are) c.in-Length.is) c.judged.ensures (c.hold_against-verdict.ensures.value (clean (goal.at.returns-in-Length-clause-value c).After-clean_copy-n) (copied (goal.at.returns-in-Length-clause-value c).After-clean_copy-n))))
+    (first2 (validated_taken (c.args.bytes.now) (c.args.used) (verdict (goal.at.returns-in-Ok-clause-value c).After-hold_against-verdict) (set_taken (c.args.bytes.now) (c.args.used) (rack_value (verdict (goal.at.returns-in-Ok-clause-value c).After-hold_against-verdict)) (stored (goal.at.returns-in-Ok-clause-value c).After-hold_against-verdict) (settled (goal.at.returns-in-Ok-clause-value c).After-hold_against-verdict) (w.value (S (goal.at.returns-in-Ok-clause-value c).In_default-slot) (marked (goal.at.returns-in-Ok-clause-value c).After-hold_against-verdict) (same (goal.at.returns-in-Ok-clause-value c).After-hold_against-verdict) (held (goal.at.returns-in-Ok-clause-value c).After-hold_against-verdict).are) ((w.bytes_after) (S (goal.at.returns-in-Ok-clause-value c).In_default-slot) (marked (goal.at.returns-in-Ok-clause-value c).After-hold_against-verdict) (same (goal.at.returns-in-Ok-clause-value c).After-hold_against-verdict) (held (goal.at.returns-in-Ok-clause-value c).After-hold_against-verdict).are) c.in-Ok.is) c.judged.ensures (c.hold_against-verdict.ensures.value (clean (goal.at.returns-in-Ok-clause-value c).After-clean_copy-n) (copied (goal.at.returns-in-Ok-clause-value c).After-clean_copy-n))))
 
-pub returns-in-Length-clause-bytes_after : goal.returns-in-Length-clause-bytes_after
-returns-in-Length-clause-bytes_after c =
+pub returns-in-Ok-clause-bytes_after : goal.returns-in-Ok-clause-bytes_after
+returns-in-Ok-clause-bytes_after c =
     let w = c.set.ensures in
-    (second2 (validated_taken (c.args.bytes.now) (c.args.used) (verdict (goal.at.returns-in-Length-clause-bytes_after c).After-hold_against-verdict) (set_taken (c.args.bytes.now) (c.args.used) (rack_value (verdict (goal.at.returns-in-Length-clause-bytes_after c).After-hold_against-verdict)) (stored (goal.at.returns-in-Length-clause-bytes_after c).After-hold_against-verdict) (settled (goal.at.returns-in-Length-clause-bytes_after c).After-hold_against-verdict) (w.value (S (goal.at.returns-in-Length-clause-bytes_after c).In_default-slot) (marked (goal.at.returns-in-Length-clause-bytes_after c).After-hold_against-verdict) (same (goal.at.returns-in-Length-clause-bytes_after c).After-hold_against-verdict) (held (goal.at.returns-in-Length-clause-bytes_after c).After-hold_against-verdict).are) ((w.bytes_after) (S (goal.at.returns-in-Length-clause-bytes_after c).In_default-slot) (marked (goal.at.returns-in-Length-clause-bytes_after c).After-hold_against-verdict) (same (goal.at.returns-in-Length-clause-bytes_after c).After-hold_against-verdict) (held (goal.at.returns-in-Length-clause-bytes_after c).After-hold_against-verdict).are) c.in-Length.is) c.judged.ensures (c.hold_against-verdict.ensures.value (clean (goal.at.returns-in-Length-clause-bytes_after c).After-clean_copy-n) (copied (goal.at.returns-in-Length-clause-bytes_after c).After-clean_copy-n))))
+    (second2 (validated_taken (c.args.bytes.now) (c.args.used) (verdict (goal.at.returns-in-Ok-clause-bytes_after c).After-hold_against-verdict) (set_taken (c.args.bytes.now) (c.args.used) (rack_value (verdict (goal.at.returns-in-Ok-clause-bytes_after c).After-hold_against-verdict)) (stored (goal.at.returns-in-Ok-clause-bytes_after c).After-hold_against-verdict) (settled (goal.at.returns-in-Ok-clause-bytes_after c).After-hold_against-verdict) (w.value (S (goal.at.returns-in-Ok-clause-bytes_after c).In_default-slot) (marked (goal.at.returns-in-Ok-clause-bytes_after c).After-hold_against-verdict) (same (goal.at.returns-in-Ok-clause-bytes_after c).After-hold_against-verdict) (held (goal.at.returns-in-Ok-clause-bytes_after c).After-hold_against-verdict).are) ((w.bytes_after) (S (goal.at.returns-in-Ok-clause-bytes_after c).In_default-slot) (marked (goal.at.returns-in-Ok-clause-bytes_after c).After-hold_against-verdict) (same (goal.at.returns-in-Ok-clause-bytes_after c).After-hold_against-verdict) (held (goal.at.returns-in-Ok-clause-bytes_after c).After-hold_against-verdict).are) c.in-Ok.is) c.judged.ensures (c.hold_against-verdict.ensures.value (clean (goal.at.returns-in-Ok-clause-bytes_after c).After-clean_copy-n) (copied (goal.at.returns-in-Ok-clause-bytes_after c).After-clean_copy-n))))
 
-pub returns-in-Refused-set-clause-value : goal.returns-in-Refused-set-clause-value
-returns-in-Refused-set-clause-value c =
+pub returns-in-Err-set-clause-value : goal.returns-in-Err-set-clause-value
+returns-in-Err-set-clause-value c =
     let w = c.set.ensures in
-    (first2 (validated_kept c.set.new.bytes (c.args.used) (set_refused (c.args.bytes.now) (c.args.used) (rack_value (verdict (goal.at.returns-in-Refused-set-clause-value c).After-hold_against-verdict)) (stored (goal.at.returns-in-Refused-set-clause-value c).After-hold_against-verdict) (settled (goal.at.returns-in-Refused-set-clause-value c).After-hold_against-verdict) (w.value (S (goal.at.returns-in-Refused-set-clause-value c).In_default-slot) (marked (goal.at.returns-in-Refused-set-clause-value c).After-hold_against-verdict) (same (goal.at.returns-in-Refused-set-clause-value c).After-hold_against-verdict) (held (goal.at.returns-in-Refused-set-clause-value c).After-hold_against-verdict).are) ((w.bytes_after) (S (goal.at.returns-in-Refused-set-clause-value c).In_default-slot) (marked (goal.at.returns-in-Refused-set-clause-value c).After-hold_against-verdict) (same (goal.at.returns-in-Refused-set-clause-value c).After-hold_against-verdict) (held (goal.at.returns-in-Refused-set-clause-value c).After-hold_against-verdict).are) c.in-Refused-set.is)))
+    (first2 (validated_kept c.set.new.bytes (c.args.used) (set_refused (c.args.bytes.now) (c.args.used) (rack_value (verdict (goal.at.returns-in-Err-set-clause-value c).After-hold_against-verdict)) (stored (goal.at.returns-in-Err-set-clause-value c).After-hold_against-verdict) (settled (goal.at.returns-in-Err-set-clause-value c).After-hold_against-verdict) (w.value (S (goal.at.returns-in-Err-set-clause-value c).In_default-slot) (marked (goal.at.returns-in-Err-set-clause-value c).After-hold_against-verdict) (same (goal.at.returns-in-Err-set-clause-value c).After-hold_against-verdict) (held (goal.at.returns-in-Err-set-clause-value c).After-hold_against-verdict).are) ((w.bytes_after) (S (goal.at.returns-in-Err-set-clause-value c).In_default-slot) (marked (goal.at.returns-in-Err-set-clause-value c).After-hold_against-verdict) (same (goal.at.returns-in-Err-set-clause-value c).After-hold_against-verdict) (held (goal.at.returns-in-Err-set-clause-value c).After-hold_against-verdict).are) c.in-Err-set.is)))
 
-pub returns-in-Refused-set-clause-bytes_after : goal.returns-in-Refused-set-clause-bytes_after
-returns-in-Refused-set-clause-bytes_after c =
+pub returns-in-Err-set-clause-bytes_after : goal.returns-in-Err-set-clause-bytes_after
+returns-in-Err-set-clause-bytes_after c =
     let w = c.set.ensures in
-    (second2 (validated_kept c.set.new.bytes (c.args.used) (set_refused (c.args.bytes.now) (c.args.used) (rack_value (verdict (goal.at.returns-in-Refused-set-clause-bytes_after c).After-hold_against-verdict)) (stored (goal.at.returns-in-Refused-set-clause-bytes_after c).After-hold_against-verdict) (settled (goal.at.returns-in-Refused-set-clause-bytes_after c).After-hold_against-verdict) (w.value (S (goal.at.returns-in-Refused-set-clause-bytes_after c).In_default-slot) (marked (goal.at.returns-in-Refused-set-clause-bytes_after c).After-hold_against-verdict) (same (goal.at.returns-in-Refused-set-clause-bytes_after c).After-hold_against-verdict) (held (goal.at.returns-in-Refused-set-clause-bytes_after c).After-hold_against-verdict).are) ((w.bytes_after) (S (goal.at.returns-in-Refused-set-clause-bytes_after c).In_default-slot) (marked (goal.at.returns-in-Refused-set-clause-bytes_after c).After-hold_against-verdict) (same (goal.at.returns-in-Refused-set-clause-bytes_after c).After-hold_against-verdict) (held (goal.at.returns-in-Refused-set-clause-bytes_after c).After-hold_against-verdict).are) c.in-Refused-set.is)))
+    (second2 (validated_kept c.set.new.bytes (c.args.used) (set_refused (c.args.bytes.now) (c.args.used) (rack_value (verdict (goal.at.returns-in-Err-set-clause-bytes_after c).After-hold_against-verdict)) (stored (goal.at.returns-in-Err-set-clause-bytes_after c).After-hold_against-verdict) (settled (goal.at.returns-in-Err-set-clause-bytes_after c).After-hold_against-verdict) (w.value (S (goal.at.returns-in-Err-set-clause-bytes_after c).In_default-slot) (marked (goal.at.returns-in-Err-set-clause-bytes_after c).After-hold_against-verdict) (same (goal.at.returns-in-Err-set-clause-bytes_after c).After-hold_against-verdict) (held (goal.at.returns-in-Err-set-clause-bytes_after c).After-hold_against-verdict).are) ((w.bytes_after) (S (goal.at.returns-in-Err-set-clause-bytes_after c).In_default-slot) (marked (goal.at.returns-in-Err-set-clause-bytes_after c).After-hold_against-verdict) (same (goal.at.returns-in-Err-set-clause-bytes_after c).After-hold_against-verdict) (held (goal.at.returns-in-Err-set-clause-bytes_after c).After-hold_against-verdict).are) c.in-Err-set.is)))

@@ -34,12 +34,12 @@ returns-in_default c = ap rack_from (sym (first_bad _ (unreadable _ (first (goal
 pub returns-in_default-read_u32 : goal.returns-in_default-read_u32
 returns-in_default-read_u32 c = ap rack_from (sym (second_bad _ (unreadable _ (second (goal.at.returns-in_default-read_u32 c).After-read_u32-2) c.in_default-read_u32.is)))
 
-pub returns-in_default-method_of : goal.returns-in_default-method_of
-returns-in_default-method_of c = ap rack_from (sym (third_bad _ (unknown _ (third (goal.at.returns-in_default-method_of c).After-method_of) c.in_default-method_of.is)))
+pub returns-in_err-method : goal.returns-in_err-method
+returns-in_err-method c = c.from_residual.ensures ∙ ap rack_from (sym (third_bad _ (unknown _ (third (goal.at.returns-in_err-method c).After-method_of) c.in_err-method.was)))
 
 pub returns-then-fourth-ne0 : goal.returns-then-fourth-ne0
 returns-then-fourth-ne0 c = ap rack_from (sym (too_many _ _ (left (goal.at.returns-then-fourth-ne0 c).After-after_word) (some_word _ _ _ c.first_word-fourth.ensures.value (λ e. omega arith))))
 
 pub returns : goal.returns
 returns c =
-    ap rack_from (sym (three _ _ (left (goal.at.returns c).After-after_word) (readable _ (first (goal.at.returns c).After-read_u32) c.in-Value.is) (readable _ (second (goal.at.returns c).After-read_u32-2) c.in-Value-read_u32.is) (known _ (third (goal.at.returns c).After-method_of) c.in-Of.is) (no_word _ _ _ c.first_word-fourth.ensures.value (omega arith))))
+    ap rack_from (sym (three _ _ (left (goal.at.returns c).After-after_word) (readable _ (first (goal.at.returns c).After-read_u32) c.in-Some.is) (readable _ (second (goal.at.returns c).After-read_u32-2) c.in-Some-read_u32.is) (known _ (third (goal.at.returns c).After-method_of) c.in_ok-method.was) (no_word _ _ _ c.first_word-fourth.ensures.value (omega arith))))

@@ -4,8 +4,9 @@ use mathlib.Core.Bool.{true, ◌||◌}
 use mathlib.Core.List.{List, [], ◌∷◌, ◌++◌}
 use Prim.Native.Nat.{ℕ, ◌+◌, ◌-◌, ◌≤◌, ◌<◌}
 use lib.ListN.{length, take, drop, length-append, get_or}
+use Rattle.std.specs.Prelude.{Result}
+use Rattle.limits.specs.declared.Refusal.{Refusal}
 use Rattle.limits.specs.Limits.{rust_limits}
-use Rattle.limits.specs.Outcome.{Outcome}
 use Rattle.text.specs.Text.{Piece}
 use Rattle.edit.specs.Edit.{put_at}
 use Rattle.record.specs.Changes.{with_numbers, with_routes, with_target}
@@ -36,7 +37,7 @@ read c = measured c.args.block.now c.args.count c.args.size c.requires.block_val
 
 -- what the change makes of the record
 becomes : (c : Start) (f : (i : ℕ) → get_or c.args.bytes.now i 0 < 256) → renewed (meaning c.args.numbers) (routes_of rust_limits c.args.block.now) c.args.target.now (stood c f).value ≡ with_target c.args.target.now (with_numbers (meaning c.args.numbers) (with_routes (route_texts true (read c).pieces) (stood c f).value))
-becomes c f = ap (λ (o : Outcome (List Piece)). renewed (meaning c.args.numbers) o c.args.target.now (stood c f).value) (read c).is
+becomes c f = ap (λ (o : Result (List Piece) Refusal). renewed (meaning c.args.numbers) o c.args.target.now (stood c f).value) (read c).is
 
 -- its places in their order
 within : (c : Start) (f : (i : ℕ) → get_or c.args.bytes.now i 0 < 256) → (c.args.at + 2 ≤ c.args.r.state) × (c.args.r.uris.target.start ≡ c.args.r.state + 3) × (c.args.r.uris.target.start + c.args.r.uris.target.length ≤ c.args.r.uris.end) × (c.args.r.uris.end ≤ c.args.r.end) × (c.args.r.end ≤ c.args.used)

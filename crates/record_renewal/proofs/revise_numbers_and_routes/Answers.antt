@@ -5,8 +5,9 @@ use mathlib.Core.List.{List}
 use Prim.Native.Nat.{◌+◌, ◌-◌, ◌≤◌, ℕ, ◌<◌}
 use lib.ListN.{length, take, get_or}
 use lib.Seq.{length-take-le}
+use Rattle.std.specs.Prelude.{Result}
+use Rattle.limits.specs.declared.Refusal.{Refusal}
 use Rattle.limits.specs.Limits.{rust_limits}
-use Rattle.limits.specs.Outcome.{Outcome}
 use Rattle.text.specs.Text.{Piece}
 use Rattle.record.specs.Changes.{with_numbers, with_routes}
 use Rattle.record.specs.NumbersForm.{meaning}
@@ -33,7 +34,7 @@ read c = measured c.args.block.now c.args.count c.args.size c.requires.block_val
 
 -- what the change makes of the record
 becomes : (c : Start) (f : (i : ℕ) → get_or c.args.bytes.now i 0 < 256) → renewed_by (meaning c.args.numbers) (routes_of rust_limits c.args.block.now) (stood c f).value ≡ with_numbers (meaning c.args.numbers) (with_routes (route_texts true (read c).pieces) (stood c f).value)
-becomes c f = ap (λ (o : Outcome (List Piece)). renewed_by (meaning c.args.numbers) o (stood c f).value) (read c).is
+becomes c f = ap (λ (o : Result (List Piece) Refusal). renewed_by (meaning c.args.numbers) o (stood c f).value) (read c).is
 
 -- its places in their order
 within : (c : Start) (f : (i : ℕ) → get_or c.args.bytes.now i 0 < 256) → (c.args.r.uris.end ≤ c.args.r.end) × (c.args.r.end ≤ c.args.used)

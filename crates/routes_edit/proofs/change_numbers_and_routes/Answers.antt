@@ -7,8 +7,9 @@ use mathlib.Core.List.{List, [], ◌∷◌, ◌++◌}
 use Prim.Native.Nat.{◌+◌, ◌-◌, ◌≤◌}
 use lib.ListN.{length, take}
 use lib.Seq.{length-take-le}
+use Rattle.std.specs.Prelude.{Result}
+use Rattle.limits.specs.declared.Refusal.{Refusal}
 use Rattle.limits.specs.Limits.{rust_limits}
-use Rattle.limits.specs.Outcome.{Outcome}
 use Rattle.text.specs.Text.{Piece}
 use Rattle.edit.specs.Edit.{over, put_at, spliced}
 use Rattle.codec.specs.Codec.{two}
@@ -40,7 +41,7 @@ read c = measured c.args.block.now c.args.count c.args.size c.requires.block_val
 
 -- what the change makes of the record
 renewed : (c : After-new_map-map) → renewed_by (meaning c.args.numbers) (routes_of rust_limits c.args.block.now) (stood c).value ≡ with_numbers (meaning c.args.numbers) (with_routes (route_texts true (read c).pieces) (stood c).value)
-renewed c = ap (λ (o : Outcome (List Piece)). renewed_by (meaning c.args.numbers) o (stood c).value) (read c).is
+renewed c = ap (λ (o : Result (List Piece) Refusal). renewed_by (meaning c.args.numbers) o (stood c).value) (read c).is
 
 -- the places in their order
 ordered : (c : After-new_map-map) → (c.args.at + 2 ≤ c.args.r.state) × (c.args.r.state + 1 ≤ c.args.r.uris.end) × (c.args.r.uris.end ≤ c.args.r.end) × (c.args.r.end ≤ c.args.used)
@@ -64,7 +65,7 @@ overflow_sub-r c = (ordered (goal.at.overflow_sub-r c).After-new_map-map).2
 pub replace_sections-n-requires-clause-block_len_bound : goal.replace_sections-n-requires-clause-block_len_bound
 replace_sections-n-requires-clause-block_len_bound c =
     let a = c.args in
-    let z : a.size ≡ length (section_in true (routes_of rust_limits a.block.now)) = (read (goal.at.replace_sections-n-requires-clause-block_len_bound c).After-new_map-map).size_is ∙ ap (λ (q : Outcome (List Piece)). length (section_in true q)) (sym (read (goal.at.replace_sections-n-requires-clause-block_len_bound c).After-new_map-map).is) in
+    let z : a.size ≡ length (section_in true (routes_of rust_limits a.block.now)) = (read (goal.at.replace_sections-n-requires-clause-block_len_bound c).After-new_map-map).size_is ∙ ap (λ (q : Result (List Piece) Refusal). length (section_in true q)) (sym (read (goal.at.replace_sections-n-requires-clause-block_len_bound c).After-new_map-map).is) in
     (c.requires.used_in_bounds.2, z)
 
 pub replace_sections-n-requires-clause-old_length_bound : goal.replace_sections-n-requires-clause-old_length_bound
@@ -111,7 +112,7 @@ returns-clause-bytes_after c =
     let g : state.result ≡ state_byte_number (record { state = x.state; we_are_uac = a.r.we_are_uac; secure = a.r.uris.local_secure || a.r.uris.remote_secure }) =
     state.ensures ∙ ap (λ (t : Bool). state_byte_number (record { state = x.state; we_are_uac = a.r.we_are_uac; secure = t })) secure in
     let t : m.new.bytes ≡ over (spliced a.r.uris.end (a.r.end - a.r.uris.end) (numbers_bytes x ++ section_of l) s) a.bytes.now =
-    (m.ensures.bytes_after) ∙ ap (λ (q : Outcome (List Piece)). over (spliced a.r.uris.end (a.r.end - a.r.uris.end) (numbers_bytes x ++ section_in true q) s) a.bytes.now) (read (goal.at.returns-clause-bytes_after c).After-new_map-map).is in
+    (m.ensures.bytes_after) ∙ ap (λ (q : Result (List Piece) Refusal). over (spliced a.r.uris.end (a.r.end - a.r.uris.end) (numbers_bytes x ++ section_in true q) s) a.bytes.now) (read (goal.at.returns-clause-bytes_after c).After-new_map-map).is in
     (w.ensures.out_after)
     ∙ ap (put_at a.at (two.write map.result)) ((b.ensures.out_after) ∙ ap (put_at a.r.state (state.result ∷ [])) t)
     ∙ routes_edit s a.at a.r (stood (goal.at.returns-clause-bytes_after c).After-new_map-map) f x l (renewed (goal.at.returns-clause-bytes_after c).After-new_map-map) a.bytes.now (e ∙ ap (map_from x a.r.ids) (read (goal.at.returns-clause-bytes_after c).After-new_map-map).count_is) g

@@ -10,14 +10,14 @@ returns-then-bytes-used c =
     let old : _ × (_ × _) = len_over a.bytes.now a.used c.if-bytes-used.true in
     record { value = old.0; bytes_value = old.1.0; used_value = old.1.1 }
 
-pub returns-in-Entries : goal.returns-in-Entries
-returns-in-Entries c =
+pub returns-in-Some : goal.returns-in-Some
+returns-in-Some c =
     let a = c.args in
-    let old : _ × (_ × _) = len_is a.bytes.now a.used c.if-bytes-used.false (bytes_all a.bytes.now (λ i. (c.type_inv.bytes i).fits)) (sym c.count_entries.ensures ∙ c.in-Entries.is) in
+    let old : _ × (_ × _) = len_is a.bytes.now a.used c.if-bytes-used.false (bytes_all a.bytes.now (λ i. (c.type_inv.bytes i).fits)) (sym c.count_entries.ensures ∙ c.in-Some.is) in
     record { value = old.0; bytes_value = old.1.0; used_value = old.1.1 }
 
-pub returns-in-Broken : goal.returns-in-Broken
-returns-in-Broken c =
+pub returns-in-None : goal.returns-in-None
+returns-in-None c =
     let a = c.args in
-    let old : _ × (_ × _) = len_broken a.bytes.now a.used c.if-bytes-used.false (sym c.count_entries.ensures ∙ c.in-Broken.is) in
+    let old : _ × (_ × _) = len_broken a.bytes.now a.used c.if-bytes-used.false (sym c.count_entries.ensures ∙ c.in-None.is) in
     record { value = old.0; bytes_value = old.1.0; used_value = old.1.1 }

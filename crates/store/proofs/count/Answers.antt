@@ -11,4 +11,4 @@ pub returns-in_default : goal.returns-in_default
 returns-in_default c = let a = c.args in not_store a.bytes.now a.used (omega arith) (sym c.read_store.ensures ∙ c.in_default.is)
 
 pub returns : goal.returns
-returns c = let a = c.args in so_many a.bytes.now a.used (omega arith) c.in-Records.n (sym c.read_store.ensures ∙ c.in-Records.is)
+returns c = let a = c.args in so_many a.bytes.now a.used (omega arith) c.in-Some.n (sym c.read_store.ensures ∙ c.in-Some.is)

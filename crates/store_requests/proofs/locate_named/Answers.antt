@@ -1,17 +1,17 @@
 -- `store_requests::locate_named` meets its contract: the record of the identifier that the block names. Assumes nothing.
 use native.Mathlib.Omega.{arith}
 use mathlib.Core.Path.{sym, ap, ◌∙◌}
-use mathlib.Core.Option.{Option}
+use Rattle.std.specs.Prelude.{Option}
 use Rattle.dialog_rules.proofs.PlacedLaws.{Asked, asked, not_asked}
 use Rattle.dialog_id.specs.Ident.{Ident}
 use Rattle.store_entries.specs.Entries.{spot_named, standing_of}
 use Rattle.store_requests.proofs.RequestLaws.{named_is, named_none}
 use Rattle.store_requests.proofs.locate_named.Goals as goal
-use Rattle.store_requests.proofs.locate_named.Goals.{In-At}
+use Rattle.store_requests.proofs.locate_named.Goals.{In-Some}
 
 -- the identifier of the request
-request_asked : (c : In-At) → Asked c.args.block.now c.in-At.i
-request_asked c = asked c.args.block.now c.in-At.i (sym c.in-At.is ∙ c.request_id_in.ensures)
+request_asked : (c : In-Some) → Asked c.args.block.now c.in-Some.i
+request_asked c = asked c.args.block.now c.in-Some.i (sym c.in-Some.is ∙ c.request_id_in.ensures)
 
 pub returns-in_default-clause-value : goal.returns-in_default-clause-value
 returns-in_default-clause-value c =
@@ -20,7 +20,7 @@ returns-in_default-clause-value c =
 
 pub locate_parts-requires : goal.locate_parts-requires
 locate_parts-requires c =
-    let q = request_asked (goal.at.locate_parts-requires c).In-At in
+    let q = request_asked (goal.at.locate_parts-requires c).In-Some in
     let a = q.placed.call_id.fits in
     let l = q.placed.local_tag.fits in
     let r = q.placed.remote_tag.fits in
@@ -29,4 +29,4 @@ locate_parts-requires c =
 pub returns-clause-value : goal.returns-clause-value
 returns-clause-value c =
     let a = c.args in
-    c.locate_parts.ensures.value ∙ ap (λ (o : Option Ident). standing_of (spot_named o a.bytes.now a.used)) (sym (named_is a.block.now c.in-At.i (request_asked (goal.at.returns-clause-value c).In-At)))
+    c.locate_parts.ensures.value ∙ ap (λ (o : Option Ident). standing_of (spot_named o a.bytes.now a.used)) (sym (named_is a.block.now c.in-Some.i (request_asked (goal.at.returns-clause-value c).In-Some)))

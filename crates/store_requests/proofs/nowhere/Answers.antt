@@ -12,4 +12,4 @@ returns-in_default-clause-value c =
 pub returns-clause-value : goal.returns-clause-value
 returns-clause-value c =
     let a = c.args in
-    nowhere_read a.bytes.now a.used (kept a.bytes.now a.used (sym c.count.ensures ∙ c.in-Records.is))
+    nowhere_read a.bytes.now a.used (kept a.bytes.now a.used (sym c.count.ensures ∙ c.in-Ok.is))

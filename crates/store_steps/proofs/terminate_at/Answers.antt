@@ -1,7 +1,7 @@
 -- `store_steps::terminate_at` meets its contract: the record's numbers changed in its place. Assumes nothing.
 use mathlib.Core.Path.{sym, ap, ◌∙◌}
 use lib.ListN.{length, take}
-use Rattle.limits.specs.Outcome.{given}
+use Rattle.std.specs.Prelude.{Ok}
 use Rattle.output.specs.Output.{fitted}
 use Rattle.record.specs.Changes.{with_numbers}
 use Rattle.record.specs.NumbersForm.{meaning}
@@ -20,7 +20,7 @@ returns c =
     let s = take a.used a.bytes.now in
     let h = held_used a.bytes.now a.used a.at (λ i. (c.slice_known-1.given i).fits) c.requires.used_in_bounds.0 c.requires.used_in_bounds.1 c.requires.bytes_value in
     let x = meaning c.terminate.result in
-    let f = stepped_given s a.at a.r h (λ v. given (terminate_update v)) (length a.bytes.now) (with_numbers x)
-    (ap (λ (y : Numbers). given (with_numbers y h.value)) (sym (c.terminate.ensures ∙ ap terminate_step (numbers_read s a.at a.r h)))) in
-    let old : _ × _ = result_as a.bytes.now (stepped (λ v. given (terminate_update v)) (length a.bytes.now) a.at s) (fitted (length a.bytes.now) (changed (with_numbers x) a.at s)) c.revise_numbers.result c.revise_numbers.new.bytes f (c.revise_numbers.ensures.value, c.revise_numbers.ensures.bytes_after) in
+    let f = stepped_given s a.at a.r h (λ v. Ok (terminate_update v)) (length a.bytes.now) (with_numbers x)
+    (ap (λ (y : Numbers). Ok (with_numbers y h.value)) (sym (c.terminate.ensures ∙ ap terminate_step (numbers_read s a.at a.r h)))) in
+    let old : _ × _ = result_as a.bytes.now (stepped (λ v. Ok (terminate_update v)) (length a.bytes.now) a.at s) (fitted (length a.bytes.now) (changed (with_numbers x) a.at s)) c.revise_numbers.result c.revise_numbers.new.bytes f (c.revise_numbers.ensures.value, c.revise_numbers.ensures.bytes_after) in
     record { value = old.0; bytes_after = old.1 }

@@ -1,17 +1,16 @@
 -- `text::check_value` meets its contract: the two causes, in their order. Assumes nothing.
-use mathlib.Core.Path.{sym, ◌∙◌}
-use borrow.Author.Tests.{not-true, not-false}
+use Rattle.std.proofs.Common.{rules}
 use Rattle.text.specs.Answers.{value_cause}
 use Rattle.text.proofs.check_value.Goals as goal
 
 pub returns-then-too_long : goal.returns-then-too_long
 unfolding value_cause
-returns-then-too_long c = rw (sym c.too_long.ensures ∙ c.if-too_long.true)
+returns-then-too_long c = search rules
 
 pub returns-then-not-all_value : goal.returns-then-not-all_value
 unfolding value_cause
-returns-then-not-all_value c = rw (sym c.too_long.ensures ∙ c.if-too_long.false, sym c.all_value.ensures ∙ not-true _ c.if-not-all_value.true-raw)
+returns-then-not-all_value c = search rules
 
 pub returns : goal.returns
 unfolding value_cause
-returns c = rw (sym c.too_long.ensures ∙ c.if-too_long.false, sym c.all_value.ensures ∙ not-false _ c.if-not-all_value.false-raw)
+returns c = search rules

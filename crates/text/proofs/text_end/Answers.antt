@@ -1,16 +1,20 @@
--- `text::text_end` meets its contract. Assumes nothing.
-use mathlib.Core.Path.{sym, ◌∙◌}
-use Rattle.text.proofs.Trimming.{end_stop, end_next}
-use borrow.Author.Tests.{not-true, not-false}
+-- `text::text_end` meets its contract: the last byte that is no blank, or none. Assumes nothing.
+use Prim.Native.Nat.{◌+◌}
 use native.Mathlib.Omega.{arith}
+use mathlib.Core.Bool.{false}
+use mathlib.Core.Path.{◌≡◌}
+use lib.ListN.{get_or}
+use Rattle.std.proofs.Common.{rules}
+use Rattle.text.specs.Text.{is_blank}
+use Rattle.text.proofs.Trimming.{end_is}
 use Rattle.text.proofs.text_end.Goals as goal
 
-pub returns-then-not-is_blank-clause-value : goal.returns-then-not-is_blank-clause-value
-returns-then-not-is_blank-clause-value c =
-    let l = c.loop-e in
-    sym (l.invariant.1 ∙ end_stop _ _ l.e (omega arith) (omega arith) (sym c.is_blank.ensures ∙ not-true _ c.if-not-is_blank.true-raw))
+pub returns-in-Some-clause-value : goal.returns-in-Some-clause-value
+returns-in-Some-clause-value c =
+    let s = c.args.s.now in
+    let i = c.in-Some.last in
+    let e : is_blank (get_or s i 0) ≡ false = search rules in
+    end_is is_blank s (i + 1) (λ k h. let q : k ≡ i = omega arith in rw q e) (search rules) (λ k h l. search rules)
 
-pub loop-e-preserved : goal.loop-e-preserved
-loop-e-preserved c =
-    let l = c.loop-e in
-    (omega arith, l.invariant.1 ∙ end_next _ _ l.e (omega arith) (omega arith) (sym c.is_blank.ensures ∙ not-false _ c.if-not-is_blank.false-raw))
+pub returns-in-None-clause-value : goal.returns-in-None-clause-value
+returns-in-None-clause-value c = end_is is_blank c.args.s.now 0 (λ k h. absurd (omega arith)) (omega arith) (λ k h l. search rules)

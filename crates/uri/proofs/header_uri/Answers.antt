@@ -6,24 +6,24 @@ use Rattle.uri.specs.HeaderUri.{header_uri_from}
 use mathlib.Core.Path.{sym, ap, ◌∙◌}
 use Rattle.uri.proofs.header_uri.Goals as goal
 
-pub returns-in_default-clause-value : goal.returns-in_default-clause-value
-returns-in_default-clause-value c = ap header_uri_from (sym (uncut c.args.value.now (sym c.uri_text.ensures ∙ c.in_default.is)))
+pub returns-in_err-part-clause-value : goal.returns-in_err-part-clause-value
+returns-in_err-part-clause-value c = c.from_residual.ensures ∙ ap header_uri_from (sym (uncut c.args.value.now (sym c.uri_text.ensures ∙ c.in_err-part.was)))
 
 pub overflow_add-end : goal.overflow_add-end
 overflow_add-end c =
-    let h = cut_inside c.args.value.now _ (sym c.uri_text.ensures ∙ c.in-At.is) in
+    let h = cut_inside c.args.value.now _ (sym c.uri_text.ensures ∙ c.in_ok-part.was) in
     omega arith
 
 pub slice_bounds-read_uri-end : goal.slice_bounds-read_uri-end
 slice_bounds-read_uri-end c =
-    let h = cut_inside c.args.value.now _ (sym c.uri_text.ensures ∙ c.in-At.is) in
+    let h = cut_inside c.args.value.now _ (sym c.uri_text.ensures ∙ c.in_ok-part.was) in
     search rules
 
-pub returns-in_default-read_uri-clause-value : goal.returns-in_default-read_uri-clause-value
-returns-in_default-read_uri-clause-value c = ap header_uri_from (sym (cut_unread c.args.value.now _ (sym c.uri_text.ensures ∙ c.in-At.is) (sym c.read_uri.ensures ∙ c.in_default-read_uri.is)))
+pub returns-in_default-clause-value : goal.returns-in_default-clause-value
+returns-in_default-clause-value c = ap header_uri_from (sym (cut_unread c.args.value.now _ (sym c.uri_text.ensures ∙ c.in_ok-part.was) (sym c.read_uri.ensures ∙ c.in_default.is)))
 
 pub returns-clause-value : goal.returns-clause-value
-returns-clause-value c = cut_read c.args.value.now _ (sym c.uri_text.ensures ∙ c.in-At.is) _ (sym c.read_uri.ensures ∙ c.in-Read.is)
+returns-clause-value c = sym (cut_read c.args.value.now _ (sym c.uri_text.ensures ∙ c.in_ok-part.was) _ (sym c.read_uri.ensures ∙ c.in-Some.is))
 
 pub returns-clause-inside : goal.returns-clause-inside
-returns-clause-inside c = cut_inside c.args.value.now _ (sym c.uri_text.ensures ∙ c.in-At.is)
+returns-clause-inside c = cut_inside c.args.value.now _ (sym c.uri_text.ensures ∙ c.in_ok-part.was)

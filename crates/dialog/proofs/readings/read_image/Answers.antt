@@ -7,7 +7,7 @@ pub returns-in_default : goal.returns-in_default
 returns-in_default c = not_one c.args.bytes.now (sym c.read_record.ensures ∙ c.in_default.is)
 
 pub returns-then-r-bytes : goal.returns-then-r-bytes
-returns-then-r-bytes c = more_after c.args.bytes.now c.in-Whole.r (sym c.read_record.ensures ∙ c.in-Whole.is) c.if-r-bytes.true
+returns-then-r-bytes c = more_after c.args.bytes.now c.in-Some.r (sym c.read_record.ensures ∙ c.in-Some.is) c.if-r-bytes.true
 
 pub returns : goal.returns
-returns c = just_one c.args.bytes.now c.in-Whole.r (sym c.read_record.ensures ∙ c.in-Whole.is) c.if-r-bytes.false
+returns c = just_one c.args.bytes.now c.in-Some.r (sym c.read_record.ensures ∙ c.in-Some.is) c.if-r-bytes.false

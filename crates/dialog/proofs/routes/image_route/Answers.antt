@@ -4,26 +4,26 @@ use Rattle.dialog.proofs.ImageRouteLaws.{no_route, Read, image_read, Left, nothi
 use Prim.Native.Nat.{◌+◌}
 use mathlib.Core.Path.{sym, ◌∙◌}
 use Rattle.dialog.proofs.routes.image_route.Goals as goal
-use Rattle.dialog.proofs.routes.image_route.Goals.{Else-r-index, In-Of}
+use Rattle.dialog.proofs.routes.image_route.Goals.{Else-r-index, In-Ok}
 
 -- the record that was read, and the first text at which the loop begins
-the_read : (c : In-Of) → Read c.args.bytes.now c.in-Of.r
-the_read c = image_read c.args.bytes.now c.in-Of.r (λ i. (c.type_inv.bytes i).fits) (sym c.in-Of.is ∙ c.read_image.ensures)
+the_read : (c : In-Ok) → Read c.args.bytes.now c.in-Ok.r
+the_read c = image_read c.args.bytes.now c.in-Ok.r (λ i. (c.type_inv.bytes i).fits) (sym c.in-Ok.is ∙ c.read_image.ensures)
 
-the_read-at-Else-r-index : (c : Else-r-index) → Read c.args.bytes.now c.in-Of.r
-the_read-at-Else-r-index c = image_read c.args.bytes.now c.in-Of.r (λ i. (c.type_inv.bytes i).fits) (sym c.in-Of.is ∙ c.read_image.ensures)
+the_read-at-Else-r-index : (c : Else-r-index) → Read c.args.bytes.now c.in-Ok.r
+the_read-at-Else-r-index c = image_read c.args.bytes.now c.in-Ok.r (λ i. (c.type_inv.bytes i).fits) (sym c.in-Ok.is ∙ c.read_image.ensures)
 
-first_left : (c : Else-r-index) → Left c.args.bytes.now c.args.index (c.in-Of.r.routes + 1) c.args.index
-first_left c = start c.args.bytes.now c.args.index c.in-Of.r (the_read-at-Else-r-index c) c.if-r-index.false
+first_left : (c : Else-r-index) → Left c.args.bytes.now c.args.index (c.in-Ok.r.routes + 1) c.args.index
+first_left c = start c.args.bytes.now c.args.index c.in-Ok.r (the_read-at-Else-r-index c) c.if-r-index.false
 
 pub returns-in_default : goal.returns-in_default
 returns-in_default c = no_route c.args.bytes.now c.args.index (sym c.in_default.is ∙ c.read_image.ensures)
 
 pub returns-then-r-index : goal.returns-then-r-index
-returns-then-r-index c = nothing_there c.args.bytes.now c.args.index c.in-Of.r (the_read (goal.at.returns-then-r-index c).In-Of) c.if-r-index.true
+returns-then-r-index c = nothing_there c.args.bytes.now c.args.index c.in-Ok.r (the_read (goal.at.returns-then-r-index c).In-Ok) c.if-r-index.true
 
 pub overflow_add-at : goal.overflow_add-at
-overflow_add-at c = omega (arith, length_within c.args.bytes.now c.args.index (c.in-Of.r.routes + 1) c.args.index (first_left (goal.at.overflow_add-at c).Else-r-index))
+overflow_add-at c = omega (arith, length_within c.args.bytes.now c.args.index (c.in-Ok.r.routes + 1) c.args.index (first_left (goal.at.overflow_add-at c).Else-r-index))
 
 pub loop-left-init : goal.loop-left-init
 loop-left-init c = first_left (goal.at.loop-left-init c).Else-r-index

@@ -40,21 +40,13 @@ is_of_call_id-requires c =
     let p : c.ids_at-ids.result ≡ r.ids = c.ids_at-ids.ensures here.reading here.reads in
     subst (IdsWithin s) (sym p) (ids_within s g.at r held)
 
-pub returns-in_default-clause-value : goal.returns-in_default-clause-value
-returns-in_default-clause-value c =
+pub returns-in_err-first-clause-value : goal.returns-in_err-first-clause-value
+returns-in_err-first-clause-value c =
     let a = c.args in
     let s = a.bytes.now in
     let f : Record → Bool = of_call_id a.call_id.now in
     let g = c.loop-at in
-    absurd (unbroken f s g.at g.invariant c.loop-at-test.true (record_not g.at _ (sym c.read_record.ensures ∙ c.in_default.is)))
-
-pub returns-in_default-clause-stands : goal.returns-in_default-clause-stands
-returns-in_default-clause-stands c =
-    let a = c.args in
-    let s = a.bytes.now in
-    let f : Record → Bool = of_call_id a.call_id.now in
-    let g = c.loop-at in
-    absurd (unbroken f s g.at g.invariant c.loop-at-test.true (record_not g.at _ (sym c.read_record.ensures ∙ c.in_default.is)))
+    absurd (unbroken f s g.at g.invariant c.loop-at-test.true (record_not g.at _ (sym c.read_record.ensures ∙ c.in_err-first.was)))
 
 pub returns-then-is_of_call_id-clause-value : goal.returns-then-is_of_call_id-clause-value
 returns-then-is_of_call_id-clause-value c =
@@ -68,9 +60,9 @@ returns-then-is_of_call_id-clause-value c =
     let held : Turn s g.at r = standing s g.at k g.invariant.here here in
     let p : c.ids_at-ids.result ≡ r.ids = c.ids_at-ids.ensures here.reading here.reads in
     let q : c.is_of_call_id.result ≡ f held.step.value = c.is_of_call_id.ensures ∙ ap (λ (i : IdsAt). of_call_id_at s i a.call_id.now) p ∙ call_compared s g.at r held k a.call_id.now in
-    let t = turn s g.at k g.invariant.here (record_got s g.at g.invariant.here (sym c.read_record.ensures ∙ c.in-Whole.is)) in
+    let t = turn s g.at k g.invariant.here (record_got s g.at g.invariant.here (sym c.read_record.ensures ∙ c.in_ok-first.was)) in
     let m = ap f (one_record_lem s g.at t held) ∙ sym q ∙ c.if-is_of_call_id.true in
-    met f s g.at g.invariant c.loop-at-test.true c.in-Whole.first t.step t.placed m
+    met f s g.at g.invariant c.loop-at-test.true c.in_ok-first.first t.step t.placed m
 
 pub record_end-at-requires : goal.record_end-at-requires
 record_end-at-requires c =

@@ -1,10 +1,11 @@
 -- `lookups::get` meets its contract: 1, 3, then the place in the store. Assumes nothing.
 use Prim.Native.Nat.{ℕ}
-use mathlib.Core.Path.{◌≡◌, sym, ◌∙◌}
+use mathlib.Core.Path.{◌≡◌, sym, ap, ◌∙◌}
 use mathlib.Core.List.{List}
-use mathlib.Core.Option.{none}
 use lib.ListN.{length}
 use lib.Seq.{length-take-le}
+use Rattle.std.proofs.result.Match.{err_is}
+use Rattle.std.specs.Prelude.{None}
 use Rattle.limits.specs.Limits.{rust_limits}
 use Rattle.limits.proofs.Laws.{passed, stopped}
 use Rattle.codec.proofs.CodecLaws.{bytes_all}
@@ -14,39 +15,39 @@ use Rattle.book.specs.Book.{reading_cause}
 use Rattle.dialog_manager.specs.Lookups.{getting, answer_in}
 use Rattle.dialog_manager.proofs.LookupLaws.{Kept, kept, stored, arguments_refuse, store_refuses, replies, get_cause, get_reply}
 use Rattle.dialog_manager.proofs.lookups.get.Goals as goal
-use Rattle.dialog_manager.proofs.lookups.get.Goals.{In-Records, In_default, Start}
+use Rattle.dialog_manager.proofs.lookups.get.Goals.{In-Ok, In_ok-check_lengths, Start}
 
 abbrev s : Start → List ℕ
 s c = c.args.bytes.now
 
-abbrev s-at-In-Records : In-Records → List ℕ
-s-at-In-Records c = c.args.bytes.now
+abbrev s-at-In-Ok : In-Ok → List ℕ
+s-at-In-Ok c = c.args.bytes.now
 
 abbrev q : Start → Reading
 q c = let a = c.args in getting a.call_id.now a.local_tag.now a.remote_tag.now
 
-abbrev q-at-In_default : In_default → Reading
-q-at-In_default c = let a = c.args in getting a.call_id.now a.local_tag.now a.remote_tag.now
+abbrev q-at-In_ok-check_lengths : In_ok-check_lengths → Reading
+q-at-In_ok-check_lengths c = let a = c.args in getting a.call_id.now a.local_tag.now a.remote_tag.now
 
 -- no text is too long
-clear : (c : In_default) → reading_cause rust_limits (q-at-In_default c) ≡ none
+clear : (c : In_ok-check_lengths) → reading_cause rust_limits (q-at-In_ok-check_lengths c) ≡ None
 clear c =
     let a = c.args in
     get_cause rust_limits a.call_id.now a.local_tag.now a.remote_tag.now
-    ∙ passed (ident_cause rust_limits (ident a.call_id.now a.local_tag.now a.remote_tag.now)) (sym c.check_lengths.ensures ∙ c.in_default.is)
+    ∙ passed (ident_cause rust_limits (ident a.call_id.now a.local_tag.now a.remote_tag.now)) (sym c.check_lengths.ensures ∙ c.in_ok-check_lengths.was)
 
-store : (c : In-Records) → Kept (s-at-In-Records c) c.args.used
-store c = kept (s-at-In-Records c) c.args.used (sym c.count.ensures ∙ c.in-Records.is)
+store : (c : In-Ok) → Kept (s-at-In-Ok c) c.args.used
+store c = kept (s-at-In-Ok c) c.args.used (sym c.count.ensures ∙ c.in-Ok.is)
 
-pub returns-in-Refused : goal.returns-in-Refused
-returns-in-Refused c =
+pub returns-in_err-check_lengths : goal.returns-in_err-check_lengths
+returns-in_err-check_lengths c =
     let a = c.args in
-    arguments_refuse rust_limits (length (s (goal.at.returns-in-Refused c).Start)) (q (goal.at.returns-in-Refused c).Start) (s (goal.at.returns-in-Refused c).Start) a.used (bytes_all c.args.bytes.now (λ i. (c.type_inv.bytes i).fits))
-    (get_cause rust_limits a.call_id.now a.local_tag.now a.remote_tag.now ∙ stopped (ident_cause rust_limits (ident a.call_id.now a.local_tag.now a.remote_tag.now)) (sym c.check_lengths.ensures ∙ c.in-Refused.is))
+    ap answer_in (err_is c.from_residual.result _ c.from_residual.ensures.1) ∙ arguments_refuse rust_limits (length (s (goal.at.returns-in_err-check_lengths c).Start)) (q (goal.at.returns-in_err-check_lengths c).Start) (s (goal.at.returns-in_err-check_lengths c).Start) a.used (bytes_all c.args.bytes.now (λ i. (c.type_inv.bytes i).fits))
+    (get_cause rust_limits a.call_id.now a.local_tag.now a.remote_tag.now ∙ stopped (ident_cause rust_limits (ident a.call_id.now a.local_tag.now a.remote_tag.now)) (sym c.check_lengths.ensures ∙ c.in_err-check_lengths.was))
 
-pub returns-in_default-count : goal.returns-in_default-count
-returns-in_default-count c =
-    store_refuses rust_limits (length (s (goal.at.returns-in_default-count c).Start)) (q (goal.at.returns-in_default-count c).Start) (s (goal.at.returns-in_default-count c).Start) c.args.used (bytes_all c.args.bytes.now (λ i. (c.type_inv.bytes i).fits)) (clear (goal.at.returns-in_default-count c).In_default) (sym c.count.ensures ∙ c.in_default-count.is)
+pub returns-in_default : goal.returns-in_default
+returns-in_default c =
+    store_refuses rust_limits (length (s (goal.at.returns-in_default c).Start)) (q (goal.at.returns-in_default c).Start) (s (goal.at.returns-in_default c).Start) c.args.used (bytes_all c.args.bytes.now (λ i. (c.type_inv.bytes i).fits)) (clear (goal.at.returns-in_default c).In_ok-check_lengths) (sym c.count.ensures ∙ c.in_default.is)
 
 pub slice_bounds-place_of-end : goal.slice_bounds-place_of-end
 slice_bounds-place_of-end c = sym (length-take-le c.args.used (s (goal.at.slice_bounds-place_of-end c).Start) (store c).within)
@@ -57,5 +58,5 @@ place_of-requires c = stored (s (goal.at.place_of-requires c).Start) c.args.used
 pub returns : goal.returns
 returns c =
     let a = c.args in
-    replies rust_limits (length (s (goal.at.returns c).Start)) (q (goal.at.returns c).Start) (s (goal.at.returns c).Start) a.used (bytes_all c.args.bytes.now (λ i. (c.type_inv.bytes i).fits)) (clear (goal.at.returns c).In_default) (store (goal.at.returns c).In-Records) (answer_in c.place_of.result)
-    (c.place_of.ensures ∙ get_reply (s (goal.at.returns c).Start) a.used (store (goal.at.returns c).In-Records) a.call_id.now a.local_tag.now a.remote_tag.now)
+    replies rust_limits (length (s (goal.at.returns c).Start)) (q (goal.at.returns c).Start) (s (goal.at.returns c).Start) a.used (bytes_all c.args.bytes.now (λ i. (c.type_inv.bytes i).fits)) (clear (goal.at.returns c).In_ok-check_lengths) (store (goal.at.returns c).In-Ok) (answer_in c.place_of.result)
+    (c.place_of.ensures ∙ get_reply (s (goal.at.returns c).Start) a.used (store (goal.at.returns c).In-Ok) a.call_id.now a.local_tag.now a.remote_tag.now)

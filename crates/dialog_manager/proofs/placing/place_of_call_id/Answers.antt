@@ -1,28 +1,28 @@
 -- `placing::place_of_call_id` meets its contract: 15, or the place of what was found. Assumes nothing.
 use mathlib.Core.Path.{sym, subst, ◌∙◌}
 use mathlib.Core.Bool.{Bool}
+use Rattle.std.specs.Prelude.{Some}
 use Rattle.record.specs.Record.{Record}
 use Rattle.codec.proofs.CodecLaws.{Bytes, bytes_all}
 use Rattle.dialog_manager.specs.Search.{of_call_id, Stands}
-use Rattle.dialog_manager.specs.declared.finding.Found.TheVariants as found
 use Rattle.dialog_manager.proofs.LookupLaws.{none_found, ends_after, one_found}
 use Rattle.dialog_manager.proofs.placing.place_of_call_id.Goals as goal
-use Rattle.dialog_manager.proofs.placing.place_of_call_id.Goals.{In-At, Start}
+use Rattle.dialog_manager.proofs.placing.place_of_call_id.Goals.{In-Some, Start}
 
 abbrev test : Start → Record → Bool
 test c = of_call_id c.args.call_id.now
 
-known : (c : In-At) → Bytes (c.args.bytes.now)
+known : (c : In-Some) → Bytes (c.args.bytes.now)
 known c = bytes_all (c.args.bytes.now) (λ i. (c.type_inv.bytes i).fits)
 
-stands : (c : In-At) → Stands (c.args.bytes.now) (found.At (c.in-At.at) (c.in-At.r))
-stands c = subst (Stands (c.args.bytes.now)) c.in-At.is (c.search_call_id.ensures.stands)
+stands : (c : In-Some) → Stands (c.args.bytes.now) (Some (c.in-Some.at, c.in-Some.r))
+stands c = subst (Stands (c.args.bytes.now)) c.in-Some.is (c.search_call_id.ensures.stands)
 
 pub returns-in_default : goal.returns-in_default
 returns-in_default c = none_found (test (goal.at.returns-in_default c).Start) (c.args.bytes.now) c.requires (sym c.in_default.is ∙ c.search_call_id.ensures.value)
 
 pub overflow_sub-result : goal.overflow_sub-result
-overflow_sub-result c = ends_after (test (goal.at.overflow_sub-result c).Start) (c.args.bytes.now) c.requires (known (goal.at.overflow_sub-result c).In-At) (c.in-At.at) (c.in-At.r) (stands (goal.at.overflow_sub-result c).In-At)
+overflow_sub-result c = ends_after (test (goal.at.overflow_sub-result c).Start) (c.args.bytes.now) c.requires (known (goal.at.overflow_sub-result c).In-Some) (c.in-Some.at) (c.in-Some.r) (stands (goal.at.overflow_sub-result c).In-Some)
 
 pub returns : goal.returns
-returns c = one_found (test (goal.at.returns c).Start) (c.args.bytes.now) c.requires (known (goal.at.returns c).In-At) (c.in-At.at) (c.in-At.r) (stands (goal.at.returns c).In-At) (sym c.in-At.is ∙ c.search_call_id.ensures.value)
+returns c = one_found (test (goal.at.returns c).Start) (c.args.bytes.now) c.requires (known (goal.at.returns c).In-Some) (c.in-Some.at) (c.in-Some.r) (stands (goal.at.returns c).In-Some) (sym c.in-Some.is ∙ c.search_call_id.ensures.value)

@@ -35,17 +35,17 @@ returns-in_default c =
     record { value = old.0; bytes_after = old.1 }
 
 pub overflow_add-e : goal.overflow_add-e
-overflow_add-e c = omega (arith, contact_within c.args.block.now c.in-At.c (sym c.requires.used_in_bounds.3 ∙ c.in-At.is), c.requires.used_in_bounds.2)
+overflow_add-e c = omega (arith, contact_within c.args.block.now c.in-Some.c (sym c.requires.used_in_bounds.3 ∙ c.in-Some.is), c.requires.used_in_bounds.2)
 
 pub slice_bounds-revise_numbers_and_target-end : goal.slice_bounds-revise_numbers_and_target-end
-slice_bounds-revise_numbers_and_target-end c = contact_within c.args.block.now c.in-At.c (sym c.requires.used_in_bounds.3 ∙ c.in-At.is)
+slice_bounds-revise_numbers_and_target-end c = contact_within c.args.block.now c.in-Some.c (sym c.requires.used_in_bounds.3 ∙ c.in-Some.is)
 
 pub revise_numbers_and_target-requires-clause-used_in_bounds : goal.revise_numbers_and_target-requires-clause-used_in_bounds
 revise_numbers_and_target-requires-clause-used_in_bounds c =
     let a = c.args in
-    let p = c.in-At.c in
+    let p = c.in-Some.c in
     let n = length-take (p.start + p.length - p.start) (drop p.start a.block.now) in
-    let w = contact_within a.block.now p (sym c.requires.used_in_bounds.3 ∙ c.in-At.is) in
+    let w = contact_within a.block.now p (sym c.requires.used_in_bounds.3 ∙ c.in-Some.is) in
     (c.requires.used_in_bounds.0, c.requires.used_in_bounds.1, omega (arith, n, w, c.requires.used_in_bounds.2))
 
 pub revise_numbers_and_target-requires-clause-bytes_value : goal.revise_numbers_and_target-requires-clause-bytes_value
@@ -57,9 +57,9 @@ returns c =
     let s = take a.used a.bytes.now in
     let x = meaning a.numbers in
     let h = stood (goal.at.returns c).Start (λ i. (c.slice_known-1.given i).fits) in
-    let p = c.in-At.c in
+    let p = c.in-Some.c in
     let t = take (p.start + p.length - p.start) (drop p.start a.block.now) in
-    let e = contact_target a.block.now h.value.target p (sym c.requires.used_in_bounds.3 ∙ c.in-At.is) in
+    let e = contact_target a.block.now h.value.target p (sym c.requires.used_in_bounds.3 ∙ c.in-Some.is) in
     let old : _ × _ = result_as a.bytes.now (fitted (length a.bytes.now) (changed (λ v. retargeted a.block.now (with_numbers x v)) a.at s)) (fitted (length a.bytes.now) (changed (revised x t) a.at s)) c.revise_numbers_and_target.result c.revise_numbers_and_target.new.bytes
     (ap (fitted (length a.bytes.now)) (changed_as s a.at a.r h (λ v. retargeted a.block.now (with_numbers x v)) (revised x t) (ap (λ (u : List ℕ). with_target u (with_numbers x h.value)) e)))
     (c.revise_numbers_and_target.ensures.value, c.revise_numbers_and_target.ensures.bytes_after) in

@@ -23,13 +23,13 @@ compare-way-requires c =
     let right : l.j < length a.places.now = c.if-j-places.true in
     (each_at a.bytes.now a.places.now l.i c.requires.each (omega (arith, left, c.requires.within)), each_at a.bytes.now a.places.now l.j c.requires.each right)
 
-pub loop-i-preserved-in-Before : goal.loop-i-preserved-in-Before
-loop-i-preserved-in-Before c =
+pub loop-i-preserved-in-Less : goal.loop-i-preserved-in-Less
+loop-i-preserved-in-Less c =
     let a = c.args in
     let l = c.loop-i in
     let left : l.i < a.mid = c.loop-i-test.true in
     let right : l.j < length a.places.now = c.if-j-places.true in
-    turn_left a.bytes.now a.places.now a.mid c.requires.within c.requires.each l.out l.i l.j l.invariant left right (sym c.compare-way.ensures ∙ c.in-Before.is)
+    turn_left a.bytes.now a.places.now a.mid c.requires.within c.requires.each l.out l.i l.j l.invariant left right (sym c.compare-way.ensures ∙ c.in-Less.is)
 
 pub loop-i-preserved : goal.loop-i-preserved
 loop-i-preserved c =
@@ -37,15 +37,15 @@ loop-i-preserved c =
     let l = c.loop-i in
     let left : l.i < a.mid = c.loop-i-test.true in
     let right : l.j < length a.places.now = c.if-j-places.true in
-    turn_right a.bytes.now a.places.now a.mid c.requires.within c.requires.each l.out l.i l.j l.invariant left right (sym c.compare-way.ensures ∙ c.in-After.is)
+    turn_right a.bytes.now a.places.now a.mid c.requires.within c.requires.each l.out l.i l.j l.invariant left right (sym c.compare-way.ensures ∙ c.in-Greater.is)
 
-pub returns-in-Same : goal.returns-in-Same
-returns-in-Same c =
+pub returns-in-Equal : goal.returns-in-Equal
+returns-in-Equal c =
     let a = c.args in
     let l = c.loop-i in
     let left : l.i < a.mid = c.loop-i-test.true in
     let right : l.j < length a.places.now = c.if-j-places.true in
-    met a.bytes.now a.places.now a.mid c.requires.within c.requires.each l.out l.i l.j l.invariant left right (sym c.compare-way.ensures ∙ c.in-Same.is)
+    met a.bytes.now a.places.now a.mid c.requires.within c.requires.each l.out l.i l.j l.invariant left right (sym c.compare-way.ensures ∙ c.in-Equal.is)
 
 pub returns : goal.returns
 returns c =

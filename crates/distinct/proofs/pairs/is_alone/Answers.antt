@@ -3,7 +3,7 @@ use native.Mathlib.Omega.{arith}
 use mathlib.Core.Path.{◌≡◌, sym, ap, subst, ◌∙◌}
 use Rattle.codec.proofs.CodecLaws.{Bytes, bytes_all}
 use Rattle.distinct.specs.Pairs.{WholeFrom, alone_from}
-use Rattle.ordered_store.specs.declared.Order.TheVariants.{Same}
+use Rattle.std.specs.declared.cmp.Ordering.TheVariants.{Equal}
 use Rattle.distinct.proofs.Alones.{Step, step, step_whole, alone_end, alone_met, alone_next}
 use Rattle.distinct.proofs.pairs.is_alone.Goals as goal
 use Rattle.distinct.proofs.pairs.is_alone.Goals.{In-loop-q, In_default}
@@ -16,16 +16,16 @@ turn : (c : In-loop-q) → Step c.args.bytes.now (known-at-In-loop-q c) c.loop-q
 turn c = step c.args.bytes.now (known-at-In-loop-q c) c.loop-q.q c.loop-q-test.true c.loop-q.invariant.0
 
 -- the keys differ
-differ : (c : In_default) → c.compare-way.result ≡ Same → ⊥
-differ c e = c.in_default.not-Same e
+differ : (c : In_default) → c.compare-way.result ≡ Equal → ⊥
+differ c e = c.in_default.not-Equal e
 
 pub compare-way-requires : goal.compare-way-requires
 compare-way-requires c = ((turn c).next.here, c.requires.0)
 
-pub returns-in-Same : goal.returns-in-Same
-returns-in-Same c =
+pub returns-in-Equal : goal.returns-in-Equal
+returns-in-Equal c =
     let a = c.args in
-    sym (c.loop-q.invariant.1 ∙ alone_met a.bytes.now (known-at-In-loop-q (goal.at.returns-in-Same c).In-loop-q) a.p c.requires.0 c.loop-q.q (turn (goal.at.returns-in-Same c).In-loop-q) (sym c.compare-way.ensures ∙ c.in-Same.is))
+    sym (c.loop-q.invariant.1 ∙ alone_met a.bytes.now (known-at-In-loop-q (goal.at.returns-in-Equal c).In-loop-q) a.p c.requires.0 c.loop-q.q (turn (goal.at.returns-in-Equal c).In-loop-q) (sym c.compare-way.ensures ∙ c.in-Equal.is))
 
 pub record_end-q-requires : goal.record_end-q-requires
 record_end-q-requires c = (turn (goal.at.record_end-q-requires c).In-loop-q).next.here

@@ -10,7 +10,7 @@ pub returns-in_default : goal.returns-in_default
 returns-in_default c = ap expires_from (sym (no_digits c.args.value.now _ _ c.find-n.ensures.value c.trim-digits.ensures (c.find-n.ensures.upper_bound) (sym c.read_seconds.ensures ∙ c.in_default.is)))
 
 pub returns-then-n-value : goal.returns-then-n-value
-returns-then-n-value c = with_digits (read_digits 32 c.trim-digits.result.now) _ _ _ (sym c.read_seconds.ensures ∙ c.in-Value.is) no_refresher ∙ ap expires_from (sym (only_part c.args.value.now _ _ c.find-n.ensures.value c.trim-digits.ensures c.if-n-value.true))
+returns-then-n-value c = with_digits (read_digits 32 c.trim-digits.result.now) _ _ _ (sym c.read_seconds.ensures ∙ c.in-Some.is) no_refresher ∙ ap expires_from (sym (only_part c.args.value.now _ _ c.find-n.ensures.value c.trim-digits.ensures c.if-n-value.true))
 
 pub returns : goal.returns
-returns c = with_digits (read_digits 32 c.trim-digits.result.now) _ _ _ (sym c.read_seconds.ensures ∙ c.in-Value.is) c.find_refresher-refresher.ensures ∙ ap expires_from (sym (more_parts c.args.value.now _ _ c.find-n.ensures.value c.trim-digits.ensures (omega (arith, (c.find-n.ensures.upper_bound)))))
+returns c = with_digits (read_digits 32 c.trim-digits.result.now) _ _ _ (sym c.read_seconds.ensures ∙ c.in-Some.is) c.find_refresher-refresher.ensures ∙ ap expires_from (sym (more_parts c.args.value.now _ _ c.find-n.ensures.value c.trim-digits.ensures (omega (arith, (c.find-n.ensures.upper_bound)))))

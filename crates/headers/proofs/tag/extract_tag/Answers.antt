@@ -1,4 +1,5 @@
 -- `headers::extract_tag` meets its contract: the causes in their order, then the first tag. Assumes nothing.
+use borrow.Author.Rules.{rules}
 use mathlib.Core.Path.{◌≡◌, sym, ap, ◌∙◌}
 use Rattle.limits.proofs.Laws.{passed, stopped}
 use Rattle.limits.specs.Limits.{rust_limits}
@@ -8,19 +9,19 @@ use Rattle.text.specs.Answers.{value_cause}
 use Rattle.headers.specs.Tag.{extract_tag, tag_of, part_answer}
 use Rattle.headers.proofs.TagLaws.{tag_missing, tag_read}
 use Rattle.headers.proofs.tag.extract_tag.Goals as goal
-use Rattle.headers.proofs.tag.extract_tag.Goals.{In_default}
+use Rattle.headers.proofs.tag.extract_tag.Goals.{In_ok-check_value}
 
 -- past the check, the first tag or 4
-clear : (c : In_default) → extract_tag rust_limits c.args.value.now ≡ or_refuse MissingHeader (tag_of c.args.value.now)
+clear : (c : In_ok-check_value) → extract_tag rust_limits c.args.value.now ≡ or_refuse MissingHeader (tag_of c.args.value.now)
 unfolding extract_tag
-clear c = rw (passed (value_cause rust_limits c.args.value.now) (sym c.check_value.ensures ∙ c.in_default.is))
+clear c = rw (passed (value_cause rust_limits c.args.value.now) (sym c.check_value.ensures ∙ c.in_ok-check_value.was))
 
-pub returns-in-Refused : goal.returns-in-Refused
+pub returns-in_err-check_value : goal.returns-in_err-check_value
 unfolding extract_tag
-returns-in-Refused c = rw (stopped (value_cause rust_limits c.args.value.now) (sym c.check_value.ensures ∙ c.in-Refused.is))
+returns-in_err-check_value c = rw (stopped (value_cause rust_limits c.args.value.now) (sym c.check_value.ensures ∙ c.in_err-check_value.was)) (search rules)
 
-pub returns-in_default-find_tag : goal.returns-in_default-find_tag
-returns-in_default-find_tag c = tag_missing (tag_of c.args.value.now) (sym c.find_tag.ensures ∙ c.in_default-find_tag.is) ∙ ap part_answer (sym (clear (goal.at.returns-in_default-find_tag c).In_default))
+pub returns-in_default : goal.returns-in_default
+returns-in_default c = tag_missing (tag_of c.args.value.now) (sym c.find_tag.ensures ∙ c.in_default.is) ∙ ap part_answer (sym (clear (goal.at.returns-in_default c).In_ok-check_value))
 
 pub returns : goal.returns
-returns c = tag_read (tag_of c.args.value.now) _ (sym c.find_tag.ensures ∙ c.in-At.is) ∙ ap part_answer (sym (clear (goal.at.returns c).In_default))
+returns c = tag_read (tag_of c.args.value.now) _ (sym c.find_tag.ensures ∙ c.in-Some.is) ∙ ap part_answer (sym (clear (goal.at.returns c).In_ok-check_value))

@@ -3,9 +3,9 @@ use Prim.Native.Nat.{ℕ, ◌+◌, ◌-◌}
 use mathlib.Core.Path.{◌≡◌, sym, ap, ap₂, ◌∙◌}
 use mathlib.Core.Bool.{true}
 use lib.ListN.{length, take, drop}
+use Rattle.std.specs.Prelude.{Some}
 use Rattle.text.specs.Text.{trimmed}
 use Rattle.headers.specs.Tag.{is_tag, part_of}
-use Rattle.headers.specs.declared.tag.Part.TheVariants.{At}
 use Rattle.headers.proofs.TagLaws.{tag_done, tag_next, tag_hit, long}
 use native.Mathlib.Omega.{arith}
 use Rattle.headers.proofs.tag.find_tag.Goals as goal
@@ -20,7 +20,7 @@ overflow_sub-result c = long _ (sym c.is_tag.ensures ∙ c.if-is_tag.true)
 
 pub returns-then-is_tag : goal.returns-then-is_tag
 returns-then-is_tag c =
-    ap₂ (λ (p q : ℕ). At (record { start = c.loop-at.at + p + 4; length = q - 4 })) c.leading-lead.ensures.value (ap length c.trim-t.ensures)
+    ap₂ (λ (p q : ℕ). Some (record { start = c.loop-at.at + p + 4; length = q - 4 })) c.leading-lead.ensures.value (ap length c.trim-t.ensures)
     ∙ sym (tag_hit c.args.value.now c.loop-at.at _ (omega arith) c.segment_length-n.ensures.value (is c))
     ∙ ap part_of (sym c.loop-at.invariant)
 

@@ -7,11 +7,11 @@ use Rattle.record.specs.Record.{uri_text}
 use Rattle.image.proofs.AnswerLaws.{UriGot, uri_got, uri_not}
 use Rattle.image.proofs.RouteLaws.{turn, stop, done, routes_absent, routes_none, no_count, many, start}
 use Rattle.image.proofs.parts.read_routes.Goals as goal
-use Rattle.image.proofs.parts.read_routes.Goals.{In-At}
+use Rattle.image.proofs.parts.read_routes.Goals.{In_ok-t}
 
 -- the route that a turn reads
-route : (c : In-At) → UriGot (c.args.bytes.now) c.loop-read.end c.in-At.t c.in-At.field-1
-route c = uri_got (c.args.bytes.now) c.loop-read.end c.loop-read.invariant.1.0 (sym c.read_uri_text.ensures ∙ c.in-At.is)
+route : (c : In_ok-t) → UriGot (c.args.bytes.now) c.loop-read.end c.in_ok-t.t c.in_ok-t.field-0-1
+route c = uri_got (c.args.bytes.now) c.loop-read.end c.loop-read.invariant.1.0 (sym c.read_uri_text.ensures ∙ c.in_ok-t.was)
 
 pub returns-then-not-stands : goal.returns-then-not-stands
 returns-then-not-stands c = let a = c.args in routes_absent a.bytes.now a.at (not-true a.stands c.if-not-stands.true-raw)
@@ -45,12 +45,12 @@ loop-read-init c =
 pub read_uri_text-requires : goal.read_uri_text-requires
 read_uri_text-requires c = c.loop-read.invariant.1.0
 
-pub returns-in_default : goal.returns-in_default
-returns-in_default c =
-    sym (c.loop-read.invariant.1.1 ∙ stop (c.args.bytes.now) c.loop-read.read (c.wide-count.result) c.loop-read.end c.loop-read-test.true (uri_not c.loop-read.end (uri_text.read (drop c.loop-read.end (c.args.bytes.now))) (sym c.read_uri_text.ensures ∙ c.in_default.is)))
+pub returns-in_err-t : goal.returns-in_err-t
+returns-in_err-t c =
+    c.from_residual.ensures ∙ sym (c.loop-read.invariant.1.1 ∙ stop (c.args.bytes.now) c.loop-read.read (c.wide-count.result) c.loop-read.end c.loop-read-test.true (uri_not c.loop-read.end (uri_text.read (drop c.loop-read.end (c.args.bytes.now))) (sym c.read_uri_text.ensures ∙ c.in_err-t.was)))
 
 pub overflow_add-end-in-loop-read : goal.overflow_add-end-in-loop-read
-overflow_add-end-in-loop-read c = omega (arith, (route (goal.at.overflow_add-end-in-loop-read c).In-At).got.within)
+overflow_add-end-in-loop-read c = omega (arith, (route (goal.at.overflow_add-end-in-loop-read c).In_ok-t).got.within)
 
 pub overflow_add-read : goal.overflow_add-read
 overflow_add-read c = omega arith
@@ -60,7 +60,7 @@ loop-read-smaller c = omega arith
 
 pub loop-read-preserved : goal.loop-read-preserved
 loop-read-preserved c =
-    (omega arith, ((route (goal.at.loop-read-preserved c).In-At).got.within, c.loop-read.invariant.1.1 ∙ turn (c.args.bytes.now) c.loop-read.read (c.wide-count.result) c.loop-read.end c.loop-read-test.true (route (goal.at.loop-read-preserved c).In-At)))
+    (omega arith, ((route (goal.at.loop-read-preserved c).In_ok-t).got.within, c.loop-read.invariant.1.1 ∙ turn (c.args.bytes.now) c.loop-read.read (c.wide-count.result) c.loop-read.end c.loop-read-test.true (route (goal.at.loop-read-preserved c).In_ok-t)))
 
 pub returns : goal.returns
 returns c = sym (c.loop-read.invariant.1.1 ∙ done (c.args.bytes.now) c.loop-read.read (c.wide-count.result) c.loop-read.end (omega arith))

@@ -6,24 +6,24 @@ use lib.ListN.{length}
 use borrow.Author.Rules.{rules}
 use Rattle.image.proofs.PartLaws.{uri_inside, uri_unread, uri_whole}
 use Rattle.image.proofs.parts.read_uri_text.Goals as goal
-use Rattle.image.proofs.parts.read_uri_text.Goals.{In-At}
+use Rattle.image.proofs.parts.read_uri_text.Goals.{In_ok-t}
 
 -- the text lies within the bytes
-inside : (c : In-At) → c.in-At.t.start + c.in-At.t.length ≤ length c.args.bytes.now
-inside c = uri_inside c.args.bytes.now c.args.at c.read_text.ensures c.requires c.in-At.is
+inside : (c : In_ok-t) → c.in_ok-t.t.start + c.in_ok-t.t.length ≤ length c.args.bytes.now
+inside c = uri_inside c.args.bytes.now c.args.at c.read_text.ensures c.requires c.in_ok-t.was
 
 pub overflow_add-e : goal.overflow_add-e
-overflow_add-e c = omega (arith, inside (goal.at.overflow_add-e c).In-At)
+overflow_add-e c = omega (arith, inside (goal.at.overflow_add-e c).In_ok-t)
 
 pub slice_bounds-read_uri-end : goal.slice_bounds-read_uri-end
-slice_bounds-read_uri-end c = let h = inside (goal.at.slice_bounds-read_uri-end c).In-At in search rules
+slice_bounds-read_uri-end c = let h = inside (goal.at.slice_bounds-read_uri-end c).In_ok-t in search rules
 
-pub returns-in_default-read_uri : goal.returns-in_default-read_uri
-returns-in_default-read_uri c =
+pub returns-in_default : goal.returns-in_default
+returns-in_default c =
     let a = c.args in
-    uri_unread a.bytes.now a.at c.read_text.ensures c.requires c.in-At.is (sym c.read_uri.ensures ∙ c.in_default-read_uri.is)
+    uri_unread a.bytes.now a.at c.read_text.ensures c.requires c.in_ok-t.was (sym c.read_uri.ensures ∙ c.in_default.is)
 
 pub returns : goal.returns
 returns c =
     let a = c.args in
-    uri_whole a.bytes.now a.at c.read_text.ensures c.requires c.in-At.is (sym c.read_uri.ensures ∙ c.in-Read.is)
+    uri_whole a.bytes.now a.at c.read_text.ensures c.requires c.in_ok-t.was (sym c.read_uri.ensures ∙ c.in-Some.is)

@@ -1,5 +1,6 @@
 -- `route_set::route_count` meets its contract: the causes in their order, then what the scan says of the number. Assumes nothing.
 use mathlib.Core.Path.{◌≡◌, sym, ap, ◌∙◌}
+use Rattle.std.proofs.lemmas.Result.{err_from_is_err_and}
 use Rattle.limits.proofs.Laws.{passed, stopped}
 use Rattle.limits.specs.Limits.{rust_limits}
 use Rattle.msg.specs.Block.{block_cause}
@@ -10,10 +11,12 @@ use Rattle.route_set.proofs.routes.route_count.Goals.{After-scan_routes}
 
 -- past the check, the number that the scan says
 said : (c : After-scan_routes) → route_count rust_limits c.args.block.now ≡ number_in c.scan_routes.result
-said c = count_clear c.args.block.now (passed (block_cause rust_limits c.args.block.now) (sym c.check_block.ensures ∙ c.in_default.is)) ∙ ap number_in (sym c.scan_routes.ensures)
+said c = count_clear c.args.block.now (passed (block_cause rust_limits c.args.block.now) (sym c.check_block.ensures ∙ c.in_ok-check_block.was)) ∙ ap number_in (sym c.scan_routes.ensures)
 
-pub returns-in-Refused : goal.returns-in-Refused
-returns-in-Refused c = ap count_of (sym (count_stopped c.args.block.now _ (stopped (block_cause rust_limits c.args.block.now) (sym c.check_block.ensures ∙ c.in-Refused.is))))
+pub returns-in_err-check_block : goal.returns-in_err-check_block
+returns-in_err-check_block c =
+    let p = err_from_is_err_and c.from_residual.result c.from_residual.ensures.1 in
+    rw (p.1, p.2) (ap count_of (sym (count_stopped c.args.block.now _ (stopped (block_cause rust_limits c.args.block.now) (sym c.check_block.ensures ∙ c.in_err-check_block.was)))))
 
 pub returns-in-All : goal.returns-in-All
 returns-in-All c = ap count_of (sym (said (goal.at.returns-in-All c).After-scan_routes ∙ ap number_in c.in-All.is))

@@ -4,17 +4,17 @@ use Rattle.rseq_entries.specs.Places.{key_at}
 use Rattle.rseq_entries.proofs.PlaceLaws.{same_key}
 use Rattle.rseq_entries.proofs.finding.ascends.Goals as goal
 
-pub returns-in-Before : goal.returns-in-Before
-returns-in-Before c =
+pub returns-in-Less : goal.returns-in-Less
+returns-in-Less c =
     let a = c.args in
-    is_before_lem (key_at a.bytes.now a.e) (same_key c.part-c.ensures c.part-l.ensures c.part-r.ensures) c.compare_key.ensures c.in-Before.is
+    is_before_lem (key_at a.bytes.now a.e) (same_key c.part-c.ensures c.part-l.ensures c.part-r.ensures) c.compare_key.ensures c.in-Less.is
 
-pub returns-in-Same : goal.returns-in-Same
-returns-in-Same c =
+pub returns-in-Equal : goal.returns-in-Equal
+returns-in-Equal c =
     let a = c.args in
-    is_before_lem (key_at a.bytes.now a.e) (same_key c.part-c.ensures c.part-l.ensures c.part-r.ensures) c.compare_key.ensures c.in-Same.is
+    is_before_lem (key_at a.bytes.now a.e) (same_key c.part-c.ensures c.part-l.ensures c.part-r.ensures) c.compare_key.ensures c.in-Equal.is
 
-pub returns-in-After : goal.returns-in-After
-returns-in-After c =
+pub returns-in-Greater : goal.returns-in-Greater
+returns-in-Greater c =
     let a = c.args in
-    is_before_lem (key_at a.bytes.now a.e) (same_key c.part-c.ensures c.part-l.ensures c.part-r.ensures) c.compare_key.ensures c.in-After.is
+    is_before_lem (key_at a.bytes.now a.e) (same_key c.part-c.ensures c.part-l.ensures c.part-r.ensures) c.compare_key.ensures c.in-Greater.is

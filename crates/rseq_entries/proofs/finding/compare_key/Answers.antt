@@ -4,17 +4,17 @@ use Rattle.text.specs.Spans.{part_in}
 use Rattle.ordered_store.proofs.KeyLaws.{told_before, told_same, told_after}
 use Rattle.rseq_entries.proofs.finding.compare_key.Goals as goal
 
-pub returns-in-Before : goal.returns-in-Before
-returns-in-Before c =
+pub returns-in-Less : goal.returns-in-Less
+returns-in-Less c =
     let a = c.args in
-    told_before (part_in a.bytes.now a.e.local_tag ∷ part_in a.bytes.now a.e.remote_tag ∷ []) (a.local_tag.now ∷ a.remote_tag.now ∷ []) a.call_id.now c.part.ensures c.compare.ensures c.in-Before.is
+    told_before (part_in a.bytes.now a.e.local_tag ∷ part_in a.bytes.now a.e.remote_tag ∷ []) (a.local_tag.now ∷ a.remote_tag.now ∷ []) a.call_id.now c.part.ensures c.compare.ensures c.in-Less.is
 
-pub returns-in-Same : goal.returns-in-Same
-returns-in-Same c =
+pub returns-in-Equal : goal.returns-in-Equal
+returns-in-Equal c =
     let a = c.args in
-    told_same (part_in a.bytes.now a.e.local_tag ∷ part_in a.bytes.now a.e.remote_tag ∷ []) (a.local_tag.now ∷ a.remote_tag.now ∷ []) a.call_id.now c.part.ensures c.compare.ensures c.in-Same.is c.compare_tags.ensures
+    told_same (part_in a.bytes.now a.e.local_tag ∷ part_in a.bytes.now a.e.remote_tag ∷ []) (a.local_tag.now ∷ a.remote_tag.now ∷ []) a.call_id.now c.part.ensures c.compare.ensures c.in-Equal.is c.compare_tags.ensures
 
-pub returns-in-After : goal.returns-in-After
-returns-in-After c =
+pub returns-in-Greater : goal.returns-in-Greater
+returns-in-Greater c =
     let a = c.args in
-    told_after (part_in a.bytes.now a.e.local_tag ∷ part_in a.bytes.now a.e.remote_tag ∷ []) (a.local_tag.now ∷ a.remote_tag.now ∷ []) a.call_id.now c.part.ensures c.compare.ensures c.in-After.is
+    told_after (part_in a.bytes.now a.e.local_tag ∷ part_in a.bytes.now a.e.remote_tag ∷ []) (a.local_tag.now ∷ a.remote_tag.now ∷ []) a.call_id.now c.part.ensures c.compare.ensures c.in-Greater.is

@@ -2,7 +2,7 @@
 use Prim.Native.Nat.{◌+◌}
 use native.Mathlib.Omega.{arith}
 use mathlib.Core.Path.{◌≡◌, sym, ap, ◌∙◌}
-use mathlib.Core.Option.{some-injective}
+use Rattle.std.specs.Prelude.{Some}
 use Rattle.codec.specs.Codec.{Reading}
 use Rattle.record.specs.Record.{Record}
 use Rattle.codec.proofs.CodecLaws.{Bytes, bytes_all}
@@ -64,7 +64,9 @@ returns c x e =
     let f = Images.first_past c.args.bytes.now c.args.p k c.requires c.two-map.result c.two-map.ensures.0 in
     let g = Images.second_past c.args.bytes.now c.args.p k c.requires c.two-map.result c.past-second.result c.two-map.ensures.0 (c.past-second.ensures ∙ f) in
     let h = Images.third_past c.args.bytes.now c.args.p k c.requires c.two-map.result c.past-third.result c.two-map.ensures.0 (c.past-third.ensures ∙ g) in
-    let v : Images.rec c.args.bytes.now c.args.p k c.requires ≡ x.value = ap (λ (y : Reading Record). y.value) (some-injective _ _ (sym c.requires.reads ∙ e)) in
+    let q : Some c.requires.reading ≡ Some x = sym c.requires.reads ∙ e in
+    let r : c.requires.reading ≡ x = cc in
+    let v : Images.rec c.args.bytes.now c.args.p k c.requires ≡ x.value = ap (λ (y : Reading Record). y.value) r in
     let i = Images.ids c.args.bytes.now c.args.p k c.requires in
     let a = c.past-second.ensures ∙ f in
     let b = c.past-third.ensures ∙ g in

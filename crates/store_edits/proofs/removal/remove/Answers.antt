@@ -1,8 +1,9 @@
 -- `removal::remove` meets its contract: refused where the look-up is, and otherwise the image cut out. Assumes nothing.
 use mathlib.Core.Path.{sym, ap, ◌∙◌}
 use lib.ListN.{length}
+use Rattle.std.proofs.result.Match.{err_is}
+use Rattle.std.specs.Prelude.{Ok}
 use Rattle.limits.specs.Limits.{rust_limits}
-use Rattle.output.specs.declared.Written.TheVariants as written
 use Rattle.codec.proofs.CodecLaws.{bytes_all}
 use Rattle.dialog_manager.specs.Lookups.{answer_in}
 use Rattle.store_edits.proofs.RemoveLaws.{turned_back, removes, refuses}
@@ -19,29 +20,29 @@ second2 p = p.1
 pub replace-requires : goal.replace-requires
 replace-requires c =
     let a = c.args in
-    let w = removes rust_limits (length a.bytes.now) a.call_id.now a.local_tag.now a.remote_tag.now a.bytes.now a.used (bytes_all a.bytes.now (λ i. (c.slice_known-1.given i).fits)) c.in-At.at c.in-At.n (ap answer_in (sym c.in-At.is) ∙ c.get.ensures) in
+    let w = removes rust_limits (length a.bytes.now) a.call_id.now a.local_tag.now a.remote_tag.now a.bytes.now a.used (bytes_all a.bytes.now (λ i. (c.slice_known-1.given i).fits)) c.in_ok-at.at c.in_ok-at.n (ap answer_in (sym c.in_ok-at.was) ∙ c.get.ensures) in
     (w.inside, w.within, omega (arith, w.within))
 
-pub returns-in-At-clause-value : goal.returns-in-At-clause-value
-returns-in-At-clause-value c =
+pub returns-clause-value : goal.returns-clause-value
+returns-clause-value c =
     let a = c.args in
-    let w = removes rust_limits (length a.bytes.now) a.call_id.now a.local_tag.now a.remote_tag.now a.bytes.now a.used (bytes_all a.bytes.now (λ i. (c.slice_known-1.given i).fits)) c.in-At.at c.in-At.n (ap answer_in (sym c.in-At.is) ∙ c.get.ensures) in
+    let w = removes rust_limits (length a.bytes.now) a.call_id.now a.local_tag.now a.remote_tag.now a.bytes.now a.used (bytes_all a.bytes.now (λ i. (c.slice_known-1.given i).fits)) c.in_ok-at.at c.in_ok-at.n (ap answer_in (sym c.in_ok-at.was) ∙ c.get.ensures) in
     let r = c.replace.ensures in
-    ap written.Length r.value ∙ w.answer
+    ap Ok r.value ∙ w.answer
 
-pub returns-in-At-clause-bytes_after : goal.returns-in-At-clause-bytes_after
-returns-in-At-clause-bytes_after c =
+pub returns-clause-bytes_after : goal.returns-clause-bytes_after
+returns-clause-bytes_after c =
     let a = c.args in
-    let w = removes rust_limits (length a.bytes.now) a.call_id.now a.local_tag.now a.remote_tag.now a.bytes.now a.used (bytes_all a.bytes.now (λ i. (c.slice_known-1.given i).fits)) c.in-At.at c.in-At.n (ap answer_in (sym c.in-At.is) ∙ c.get.ensures) in
+    let w = removes rust_limits (length a.bytes.now) a.call_id.now a.local_tag.now a.remote_tag.now a.bytes.now a.used (bytes_all a.bytes.now (λ i. (c.slice_known-1.given i).fits)) c.in_ok-at.at c.in_ok-at.n (ap answer_in (sym c.in_ok-at.was) ∙ c.get.ensures) in
     let r = c.replace.ensures in
     (r.bytes_after) ∙ w.bytes
 
-pub returns-in-Refused-clause-value : goal.returns-in-Refused-clause-value
-returns-in-Refused-clause-value c =
+pub returns-in_err-at-clause-value : goal.returns-in_err-at-clause-value
+returns-in_err-at-clause-value c =
     let a = c.args in
-    (first2 (turned_back (refuses rust_limits (length a.bytes.now) a.call_id.now a.local_tag.now a.remote_tag.now a.bytes.now a.used (bytes_all a.bytes.now (λ i. (c.slice_known-1.given i).fits)) c.in-Refused.cause (ap answer_in (sym c.in-Refused.is) ∙ c.get.ensures))))
+    err_is c.from_residual.result _ c.from_residual.ensures.1 ∙ first2 (turned_back (refuses rust_limits (length a.bytes.now) a.call_id.now a.local_tag.now a.remote_tag.now a.bytes.now a.used (bytes_all a.bytes.now (λ i. (c.slice_known-1.given i).fits)) _ (ap answer_in (sym c.in_err-at.was) ∙ c.get.ensures)))
 
-pub returns-in-Refused-clause-bytes_after : goal.returns-in-Refused-clause-bytes_after
-returns-in-Refused-clause-bytes_after c =
+pub returns-in_err-at-clause-bytes_after : goal.returns-in_err-at-clause-bytes_after
+returns-in_err-at-clause-bytes_after c =
     let a = c.args in
-    (second2 (turned_back (refuses rust_limits (length a.bytes.now) a.call_id.now a.local_tag.now a.remote_tag.now a.bytes.now a.used (bytes_all a.bytes.now (λ i. (c.slice_known-1.given i).fits)) c.in-Refused.cause (ap answer_in (sym c.in-Refused.is) ∙ c.get.ensures))))
+    second2 (turned_back (refuses rust_limits (length a.bytes.now) a.call_id.now a.local_tag.now a.remote_tag.now a.bytes.now a.used (bytes_all a.bytes.now (λ i. (c.slice_known-1.given i).fits)) _ (ap answer_in (sym c.in_err-at.was) ∙ c.get.ensures)))

@@ -1,8 +1,8 @@
 -- `sweeps::sweep` meets its contract: 3, then the records that stay. Assumes nothing.
 use mathlib.Core.Path.{sym, ap, ◌∙◌}
 use lib.ListN.{length}
+use Rattle.std.specs.Prelude.{Ok}
 use Rattle.limits.specs.Limits.{rust_limits}
-use Rattle.output.specs.declared.Written.TheVariants as written
 use Rattle.codec.proofs.CodecLaws.{bytes_all}
 use Rattle.book.specs.Store.{Left}
 use Rattle.dialog_manager.proofs.LookupLaws.{Kept, kept, stored}
@@ -10,7 +10,7 @@ use Rattle.dialog_manager.specs.Answers.{written_in}
 use Rattle.store_edits.proofs.RemoveLaws.{turned_back}
 use Rattle.store_edits.proofs.SweepLaws.{unswept, swept}
 use Rattle.store_edits.proofs.sweeps.sweep.Goals as goal
-use Rattle.store_edits.proofs.sweeps.sweep.Goals.{In-Records}
+use Rattle.store_edits.proofs.sweeps.sweep.Goals.{In-Ok}
 
 -- the parts of what several clauses say together
 first2 : {A B : Type 0} → A × B → A
@@ -20,8 +20,8 @@ second2 : {A B : Type 0} → A × B → B
 second2 p = p.1
 
 -- the store was read
-store : (c : In-Records) → Kept c.args.bytes.now c.args.used
-store c = let a = c.args in kept a.bytes.now a.used (sym c.count.ensures ∙ c.in-Records.is)
+store : (c : In-Ok) → Kept c.args.bytes.now c.args.used
+store c = let a = c.args in kept a.bytes.now a.used (sym c.count.ensures ∙ c.in-Ok.is)
 
 pub returns-in_default-clause-value : goal.returns-in_default-clause-value
 returns-in_default-clause-value c =
@@ -35,25 +35,25 @@ returns-in_default-clause-bytes_after c =
 
 pub close_up-requires-clause-used_in_bounds : goal.close_up-requires-clause-used_in_bounds
 close_up-requires-clause-used_in_bounds c =
-    let k = store (goal.at.close_up-requires-clause-used_in_bounds c).In-Records in
+    let k = store (goal.at.close_up-requires-clause-used_in_bounds c).In-Ok in
     k.within
 
 pub close_up-requires-clause-stored : goal.close_up-requires-clause-stored
 close_up-requires-clause-stored c =
-    let k = store (goal.at.close_up-requires-clause-stored c).In-Records in
+    let k = store (goal.at.close_up-requires-clause-stored c).In-Ok in
     let a = c.args in
     stored a.bytes.now a.used k
 
 pub returns-clause-value : goal.returns-clause-value
 returns-clause-value c =
     let a = c.args in
-    let q = swept rust_limits (length a.bytes.now) a.bytes.now a.used (bytes_all a.bytes.now (λ i. (c.slice_known-1.given i).fits)) (store (goal.at.returns-clause-value c).In-Records) in
+    let q = swept rust_limits (length a.bytes.now) a.bytes.now a.used (bytes_all a.bytes.now (λ i. (c.slice_known-1.given i).fits)) (store (goal.at.returns-clause-value c).In-Ok) in
     let r = c.close_up.ensures in
-    ap written.Length r.value ∙ sym (ap written_in q)
+    ap Ok r.value ∙ sym (ap written_in q)
 
 pub returns-clause-bytes_after : goal.returns-clause-bytes_after
 returns-clause-bytes_after c =
     let a = c.args in
-    let q = swept rust_limits (length a.bytes.now) a.bytes.now a.used (bytes_all a.bytes.now (λ i. (c.slice_known-1.given i).fits)) (store (goal.at.returns-clause-bytes_after c).In-Records) in
+    let q = swept rust_limits (length a.bytes.now) a.bytes.now a.used (bytes_all a.bytes.now (λ i. (c.slice_known-1.given i).fits)) (store (goal.at.returns-clause-bytes_after c).In-Ok) in
     let r = c.close_up.ensures in
     (r.bytes_after) ∙ sym (ap (λ (l : Left). l.bytes) q)

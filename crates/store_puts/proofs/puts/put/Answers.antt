@@ -2,19 +2,18 @@
 use Prim.Native.Nat.{◌<◌}
 use mathlib.Core.Path.{◌≡◌, sym, ◌∙◌}
 use lib.ListN.{length}
+use Rattle.std.specs.Prelude.{Ok}
 use Rattle.limits.specs.Limits.{rust_limits}
 use Rattle.dialog_rules.specs.OneImage.{one_record}
 use Rattle.dialog.specs.Readings.{image_answer}
-use Rattle.dialog.specs.declared.readings.ImageAnswer.TheVariants as answer
 use Rattle.dialog_manager.specs.Search.{IdsWithin}
 use Rattle.dialog_manager.proofs.LookupLaws.{Kept, kept}
 use Rattle.store.specs.Counting.{records_held, count_answer}
-use Rattle.store.specs.declared.Held.TheVariants as held
 use Rattle.store_puts.proofs.PutLaws.{store_unread, not_one, too_many, full, open_to, texts_within, image_named}
 use Rattle.store_edits.proofs.RemoveLaws.{turned_back}
 use native.Mathlib.Omega.{arith}
 use Rattle.store_puts.proofs.puts.put.Goals as goal
-use Rattle.store_puts.proofs.puts.put.Goals.{In-Of, In-Records}
+use Rattle.store_puts.proofs.puts.put.Goals.{In-Ok, In-Ok-read_image}
 
 -- the parts of what several clauses say together
 first2 : {A B : Type 0} → A × B → A
@@ -23,23 +22,20 @@ first2 p = p.0
 second2 : {A B : Type 0} → A × B → B
 second2 p = p.1
 
-counted : (c : In-Records) → count_answer (records_held c.args.bytes.now c.args.used) ≡ held.Records c.in-Records.n
-counted c = sym c.count.ensures ∙ c.in-Records.is
+counted : (c : In-Ok) → count_answer (records_held c.args.bytes.now c.args.used) ≡ Ok c.in-Ok.n
+counted c = sym c.count.ensures ∙ c.in-Ok.is
 
-store : (c : In-Records) → Kept c.args.bytes.now c.args.used
+store : (c : In-Ok) → Kept c.args.bytes.now c.args.used
 store c = kept c.args.bytes.now c.args.used (counted c)
 
-one : (c : In-Of) → answer.Of (c.in-Of.r) ≡ image_answer (one_record c.args.image.now)
-one c = sym c.in-Of.is ∙ c.read_image.ensures
+one : (c : In-Ok-read_image) → Ok (c.in-Ok-read_image.r) ≡ image_answer (one_record c.args.image.now)
+one c = sym c.in-Ok-read_image.is ∙ c.read_image.ensures
 
-texts : (c : In-Of) → IdsWithin c.args.image.now (c.in-Of.r).ids
-texts c = texts_within c.args.image.now (c.in-Of.r) (one c)
+texts : (c : In-Ok-read_image) → IdsWithin c.args.image.now (c.in-Ok-read_image.r).ids
+texts c = texts_within c.args.image.now (c.in-Ok-read_image.r) (one c)
 
-bound-at-In-Of : (c : In-Of) → length c.args.image.now < 18446744073709551616
-bound-at-In-Of c = omega arith
-
-small : (c : In-Of) → length c.args.image.now < 18446744073709551616
-small c = bound-at-In-Of c
+small : (c : In-Ok-read_image) → length c.args.image.now < 18446744073709551616
+small c = omega arith
 
 pub returns-in_default-clause-value : goal.returns-in_default-clause-value
 returns-in_default-clause-value c =
@@ -64,36 +60,36 @@ returns-in_default-read_image-clause-bytes_after c =
 pub returns-then-n-ge-MAX_CONFIRMED_DIALOGS-clause-value : goal.returns-then-n-ge-MAX_CONFIRMED_DIALOGS-clause-value
 returns-then-n-ge-MAX_CONFIRMED_DIALOGS-clause-value c =
     let a = c.args in
-    let f = full rust_limits a.bytes.now a.used c.in-Records.n (store (goal.at.returns-then-n-ge-MAX_CONFIRMED_DIALOGS-clause-value c).In-Records) (counted (goal.at.returns-then-n-ge-MAX_CONFIRMED_DIALOGS-clause-value c).In-Records) (omega (arith, c.if-n-ge-MAX_CONFIRMED_DIALOGS.true)) in
-    let t = image_named a.image.now (c.in-Of.r) (one (goal.at.returns-then-n-ge-MAX_CONFIRMED_DIALOGS-clause-value c).In-Of) (λ i. (c.type_inv.image i).fits) in
-    (first2 (turned_back (too_many rust_limits (length a.bytes.now) a.image.now a.bytes.now a.used (store (goal.at.returns-then-n-ge-MAX_CONFIRMED_DIALOGS-clause-value c).In-Records) t.value t.one f)))
+    let f = full rust_limits a.bytes.now a.used c.in-Ok.n (store (goal.at.returns-then-n-ge-MAX_CONFIRMED_DIALOGS-clause-value c).In-Ok) (counted (goal.at.returns-then-n-ge-MAX_CONFIRMED_DIALOGS-clause-value c).In-Ok) (omega (arith, c.if-n-ge-MAX_CONFIRMED_DIALOGS.true)) in
+    let t = image_named a.image.now (c.in-Ok-read_image.r) (one (goal.at.returns-then-n-ge-MAX_CONFIRMED_DIALOGS-clause-value c).In-Ok-read_image) (λ i. (c.type_inv.image i).fits) in
+    (first2 (turned_back (too_many rust_limits (length a.bytes.now) a.image.now a.bytes.now a.used (store (goal.at.returns-then-n-ge-MAX_CONFIRMED_DIALOGS-clause-value c).In-Ok) t.value t.one f)))
 
 pub returns-then-n-ge-MAX_CONFIRMED_DIALOGS-clause-bytes_after : goal.returns-then-n-ge-MAX_CONFIRMED_DIALOGS-clause-bytes_after
 returns-then-n-ge-MAX_CONFIRMED_DIALOGS-clause-bytes_after c =
     let a = c.args in
-    let f = full rust_limits a.bytes.now a.used c.in-Records.n (store (goal.at.returns-then-n-ge-MAX_CONFIRMED_DIALOGS-clause-bytes_after c).In-Records) (counted (goal.at.returns-then-n-ge-MAX_CONFIRMED_DIALOGS-clause-bytes_after c).In-Records) (omega (arith, c.if-n-ge-MAX_CONFIRMED_DIALOGS.true)) in
-    let t = image_named a.image.now (c.in-Of.r) (one (goal.at.returns-then-n-ge-MAX_CONFIRMED_DIALOGS-clause-bytes_after c).In-Of) (λ i. (c.type_inv.image i).fits) in
-    (second2 (turned_back (too_many rust_limits (length a.bytes.now) a.image.now a.bytes.now a.used (store (goal.at.returns-then-n-ge-MAX_CONFIRMED_DIALOGS-clause-bytes_after c).In-Records) t.value t.one f)))
+    let f = full rust_limits a.bytes.now a.used c.in-Ok.n (store (goal.at.returns-then-n-ge-MAX_CONFIRMED_DIALOGS-clause-bytes_after c).In-Ok) (counted (goal.at.returns-then-n-ge-MAX_CONFIRMED_DIALOGS-clause-bytes_after c).In-Ok) (omega (arith, c.if-n-ge-MAX_CONFIRMED_DIALOGS.true)) in
+    let t = image_named a.image.now (c.in-Ok-read_image.r) (one (goal.at.returns-then-n-ge-MAX_CONFIRMED_DIALOGS-clause-bytes_after c).In-Ok-read_image) (λ i. (c.type_inv.image i).fits) in
+    (second2 (turned_back (too_many rust_limits (length a.bytes.now) a.image.now a.bytes.now a.used (store (goal.at.returns-then-n-ge-MAX_CONFIRMED_DIALOGS-clause-bytes_after c).In-Ok) t.value t.one f)))
 
 pub overflow_add-a : goal.overflow_add-a
-overflow_add-a c = omega (arith, (texts (goal.at.overflow_add-a c).In-Of).0, small (goal.at.overflow_add-a c).In-Of)
+overflow_add-a c = omega (arith, (texts (goal.at.overflow_add-a c).In-Ok-read_image).0, small (goal.at.overflow_add-a c).In-Ok-read_image)
 
 pub slice_bounds-put_named-end : goal.slice_bounds-put_named-end
-slice_bounds-put_named-end c = (texts (goal.at.slice_bounds-put_named-end c).In-Of).0
+slice_bounds-put_named-end c = (texts (goal.at.slice_bounds-put_named-end c).In-Ok-read_image).0
 
 pub slice_bounds-put_named-end-2 : goal.slice_bounds-put_named-end-2
-slice_bounds-put_named-end-2 c = (texts (goal.at.slice_bounds-put_named-end-2 c).In-Of).1
+slice_bounds-put_named-end-2 c = (texts (goal.at.slice_bounds-put_named-end-2 c).In-Ok-read_image).1
 
 pub slice_bounds-put_named-end-3 : goal.slice_bounds-put_named-end-3
-slice_bounds-put_named-end-3 c = (texts (goal.at.slice_bounds-put_named-end-3 c).In-Of).2
+slice_bounds-put_named-end-3 c = (texts (goal.at.slice_bounds-put_named-end-3 c).In-Ok-read_image).2
 
 pub put_named-requires-clause-named : goal.put_named-requires-clause-named
 put_named-requires-clause-named c =
     let a = c.args in
-    image_named a.image.now (c.in-Of.r) (one (goal.at.put_named-requires-clause-named c).In-Of) (λ i. (c.type_inv.image i).fits)
+    image_named a.image.now (c.in-Ok-read_image.r) (one (goal.at.put_named-requires-clause-named c).In-Ok-read_image) (λ i. (c.type_inv.image i).fits)
 
 pub put_named-requires-clause-fact : goal.put_named-requires-clause-fact
 put_named-requires-clause-fact c =
     let a = c.args in
     let l = c.if-n-ge-MAX_CONFIRMED_DIALOGS.false in
-    open_to rust_limits a.bytes.now a.used c.in-Records.n (store (goal.at.put_named-requires-clause-fact c).In-Records) (counted (goal.at.put_named-requires-clause-fact c).In-Records) (omega (arith, l))
+    open_to rust_limits a.bytes.now a.used c.in-Ok.n (store (goal.at.put_named-requires-clause-fact c).In-Ok) (counted (goal.at.put_named-requires-clause-fact c).In-Ok) (omega (arith, l))

@@ -2,10 +2,10 @@
 use Prim.Native.Nat.{◌≤◌}
 use mathlib.Core.Path.{sym, subst, ◌∙◌}
 use lib.ListN.{length, take}
+use Rattle.std.specs.Prelude.{Some}
 use Rattle.limits.specs.Limits.{rust_limits}
 use Rattle.codec.proofs.CodecLaws.{Bytes, bytes_all}
 use Rattle.dialog_manager.specs.Search.{Stands}
-use Rattle.dialog_manager.specs.declared.finding.Found.TheVariants as found
 use Rattle.store_puts.proofs.PutLaws.{crowded, added_new, replaced_old, found_within}
 use Rattle.store_edits.proofs.RemoveLaws.{turned_back}
 use native.Mathlib.Omega.{arith}
@@ -46,30 +46,30 @@ pub overflow_sub-r : goal.overflow_sub-r
 overflow_sub-r c =
     let a = c.args in
     let b : Bytes a.bytes.now = bytes_all a.bytes.now (λ i. (c.slice_known-1.given i).fits) in
-    let h : Stands (take a.used a.bytes.now) (found.At c.in-At.at c.in-At.r) = subst (Stands (take a.used a.bytes.now)) c.in-At.is c.search_id.ensures.stands in
-    let l : (c.in-At.at ≤ c.in-At.r.end) × (c.in-At.r.end ≤ a.used) = found_within a.bytes.now a.used b c.requires.fact.within c.in-At.at c.in-At.r h in
+    let h : Stands (take a.used a.bytes.now) (Some (c.in-Some.at, c.in-Some.r)) = subst (Stands (take a.used a.bytes.now)) c.in-Some.is c.search_id.ensures.stands in
+    let l : (c.in-Some.at ≤ c.in-Some.r.end) × (c.in-Some.r.end ≤ a.used) = found_within a.bytes.now a.used b c.requires.fact.within c.in-Some.at c.in-Some.r h in
     omega (arith, l.0)
 
 pub replace_image-requires : goal.replace_image-requires
 replace_image-requires c =
     let a = c.args in
     let b : Bytes a.bytes.now = bytes_all a.bytes.now (λ i. (c.slice_known-1.given i).fits) in
-    let h : Stands (take a.used a.bytes.now) (found.At c.in-At.at c.in-At.r) = subst (Stands (take a.used a.bytes.now)) c.in-At.is c.search_id.ensures.stands in
-    let l : (c.in-At.at ≤ c.in-At.r.end) × (c.in-At.r.end ≤ a.used) = found_within a.bytes.now a.used b c.requires.fact.within c.in-At.at c.in-At.r h in
+    let h : Stands (take a.used a.bytes.now) (Some (c.in-Some.at, c.in-Some.r)) = subst (Stands (take a.used a.bytes.now)) c.in-Some.is c.search_id.ensures.stands in
+    let l : (c.in-Some.at ≤ c.in-Some.r.end) × (c.in-Some.r.end ≤ a.used) = found_within a.bytes.now a.used b c.requires.fact.within c.in-Some.at c.in-Some.r h in
     (omega (arith, l.0, l.1), c.requires.fact.within)
 
 pub returns-clause-value : goal.returns-clause-value
 returns-clause-value c =
     let a = c.args in
     let b : Bytes a.bytes.now = bytes_all a.bytes.now (λ i. (c.slice_known-1.given i).fits) in
-    let h : Stands (take a.used a.bytes.now) (found.At c.in-At.at c.in-At.r) = subst (Stands (take a.used a.bytes.now)) c.in-At.is c.search_id.ensures.stands in
-    let w = replaced_old rust_limits (length a.bytes.now) a.image.now a.bytes.now a.used a.state a.call_id.now a.local_tag.now a.remote_tag.now c.requires.named c.requires.fact b (sym c.is_crowded.ensures ∙ c.if-is_crowded.false) c.in-At.at c.in-At.r h (sym c.in-At.is ∙ c.search_id.ensures.value) in
+    let h : Stands (take a.used a.bytes.now) (Some (c.in-Some.at, c.in-Some.r)) = subst (Stands (take a.used a.bytes.now)) c.in-Some.is c.search_id.ensures.stands in
+    let w = replaced_old rust_limits (length a.bytes.now) a.image.now a.bytes.now a.used a.state a.call_id.now a.local_tag.now a.remote_tag.now c.requires.named c.requires.fact b (sym c.is_crowded.ensures ∙ c.if-is_crowded.false) c.in-Some.at c.in-Some.r h (sym c.in-Some.is ∙ c.search_id.ensures.value) in
     c.replace_image.ensures.value ∙ w.answer
 
 pub returns-clause-bytes_after : goal.returns-clause-bytes_after
 returns-clause-bytes_after c =
     let a = c.args in
     let b : Bytes a.bytes.now = bytes_all a.bytes.now (λ i. (c.slice_known-1.given i).fits) in
-    let h : Stands (take a.used a.bytes.now) (found.At c.in-At.at c.in-At.r) = subst (Stands (take a.used a.bytes.now)) c.in-At.is c.search_id.ensures.stands in
-    let w = replaced_old rust_limits (length a.bytes.now) a.image.now a.bytes.now a.used a.state a.call_id.now a.local_tag.now a.remote_tag.now c.requires.named c.requires.fact b (sym c.is_crowded.ensures ∙ c.if-is_crowded.false) c.in-At.at c.in-At.r h (sym c.in-At.is ∙ c.search_id.ensures.value) in
+    let h : Stands (take a.used a.bytes.now) (Some (c.in-Some.at, c.in-Some.r)) = subst (Stands (take a.used a.bytes.now)) c.in-Some.is c.search_id.ensures.stands in
+    let w = replaced_old rust_limits (length a.bytes.now) a.image.now a.bytes.now a.used a.state a.call_id.now a.local_tag.now a.remote_tag.now c.requires.named c.requires.fact b (sym c.is_crowded.ensures ∙ c.if-is_crowded.false) c.in-Some.at c.in-Some.r h (sym c.in-Some.is ∙ c.search_id.ensures.value) in
     c.replace_image.ensures.bytes_after ∙ w.bytes

@@ -1,14 +1,16 @@
 -- `calls::response` meets its contract: 1, 2, 3, 15, then the step on the record in its place. Assumes nothing.
 use mathlib.Core.Path.{◌≡◌, ap, subst, ◌∙◌}
+use Rattle.std.proofs.result.Match.{err_is}
+use Rattle.std.specs.Prelude.{ℕ, Result}
+use Rattle.limits.specs.declared.Refusal.{Refusal}
 use Rattle.limits.specs.Limits.{rust_limits}
 use Rattle.limits.specs.Outcome.{check_of}
-use Rattle.limits.specs.declared.Check.{Check}
 use Rattle.msg.specs.Block.{block_cause}
 use Rattle.codec.proofs.CodecLaws.{bytes_all}
 use Rattle.dialog_updates.proofs.BlockLaws.{short_block}
 use Rattle.dialog_id.specs.Ident.{Ident, ident}
 use Rattle.book.specs.Book.{revised}
-use Rattle.store_entries.specs.Entries.{standing_of, Ready}
+use Rattle.store_entries.specs.Entries.{used_after, standing_of, Ready}
 use Rattle.store_updates.specs.Finding.{cause_in, found_in}
 use Rattle.store_updates.proofs.CallLaws.{responds, others_passed, check_passed, call_refused, call_done}
 use Rattle.store_updates.proofs.calls.response.Goals as goal
@@ -32,36 +34,36 @@ name-at-After-find_record c = ident c.args.call_id.now c.args.local_tag.now c.ar
 
 -- where the record was found
 found : (c : After-find_record) → c.find_record.result ≡ standing_of (found_in (name-at-After-find_record c) (cause_in (check_of (block_cause rust_limits c.args.block.now))) c.args.bytes.now c.args.used)
-found c = c.find_record.ensures.value ∙ ap (λ (v : Check). standing_of (found_in (name-at-After-find_record c) (cause_in v) c.args.bytes.now c.args.used)) c.check_block-others.ensures
+found c = c.find_record.ensures.value ∙ ap (λ (v : Result (Unit {0}) Refusal). standing_of (found_in (name-at-After-find_record c) (cause_in v) c.args.bytes.now c.args.used)) c.check_block-others.ensures
 
 pub response_at-requires-clause-used_in_bounds : goal.response_at-requires-clause-used_in_bounds
 response_at-requires-clause-used_in_bounds c =
-    let w = subst (Ready c.args.bytes.now c.args.used) c.in-At.is (c.find_record.ensures.ready) in
-    (w.0.0, w.0.1, short_block rust_limits c.args.block.now (check_passed (check_of (block_cause rust_limits c.args.block.now)) (others_passed (responds (name (goal.at.response_at-requires-clause-used_in_bounds c).Start) c.args.status c.args.block.now) c.args.bytes.now c.args.used (found (goal.at.response_at-requires-clause-used_in_bounds c).After-find_record) c.in-At.is)))
+    let w = subst (Ready c.args.bytes.now c.args.used) c.in_ok-at.was (c.find_record.ensures.ready) in
+    (w.0.0, w.0.1, short_block rust_limits c.args.block.now (check_passed (check_of (block_cause rust_limits c.args.block.now)) (others_passed (responds (name (goal.at.response_at-requires-clause-used_in_bounds c).Start) c.args.status c.args.block.now) c.args.bytes.now c.args.used (found (goal.at.response_at-requires-clause-used_in_bounds c).After-find_record) c.in_ok-at.was)))
 
-pub returns-in-At-clause-value : goal.returns-in-At-clause-value
+pub returns-clause-value : goal.returns-clause-value
 unfolding revised
-returns-in-At-clause-value c =
-    (first (call_done (responds (name (goal.at.returns-in-At-clause-value c).Start) c.args.status c.args.block.now) c.args.bytes.now c.args.used (found (goal.at.returns-in-At-clause-value c).After-find_record) c.in-At.is (bytes_all c.args.bytes.now (λ i. (c.slice_known-1.given i).fits)) (c.response_at.ensures.value, c.response_at.ensures.bytes_after)))
+returns-clause-value c =
+    first (call_done (responds (name (goal.at.returns-clause-value c).Start) c.args.status c.args.block.now) c.args.bytes.now c.args.used (found (goal.at.returns-clause-value c).After-find_record) c.in_ok-at.was (bytes_all c.args.bytes.now (λ i. (c.slice_known-1.given i).fits)) (c.response_at.ensures.value, c.response_at.ensures.bytes_after))
 
-pub returns-in-At-clause-bytes_after : goal.returns-in-At-clause-bytes_after
+pub returns-clause-bytes_after : goal.returns-clause-bytes_after
 unfolding revised
-returns-in-At-clause-bytes_after c =
-    (second_first (call_done (responds (name (goal.at.returns-in-At-clause-bytes_after c).Start) c.args.status c.args.block.now) c.args.bytes.now c.args.used (found (goal.at.returns-in-At-clause-bytes_after c).After-find_record) c.in-At.is (bytes_all c.args.bytes.now (λ i. (c.slice_known-1.given i).fits)) (c.response_at.ensures.value, c.response_at.ensures.bytes_after)))
+returns-clause-bytes_after c =
+    second_first (call_done (responds (name (goal.at.returns-clause-bytes_after c).Start) c.args.status c.args.block.now) c.args.bytes.now c.args.used (found (goal.at.returns-clause-bytes_after c).After-find_record) c.in_ok-at.was (bytes_all c.args.bytes.now (λ i. (c.slice_known-1.given i).fits)) (c.response_at.ensures.value, c.response_at.ensures.bytes_after))
 
-pub returns-in-At-clause-used_value : goal.returns-in-At-clause-used_value
+pub returns-clause-used_value : goal.returns-clause-used_value
 unfolding revised
-returns-in-At-clause-used_value c =
-    (second_second (call_done (responds (name (goal.at.returns-in-At-clause-used_value c).Start) c.args.status c.args.block.now) c.args.bytes.now c.args.used (found (goal.at.returns-in-At-clause-used_value c).After-find_record) c.in-At.is (bytes_all c.args.bytes.now (λ i. (c.slice_known-1.given i).fits)) (c.response_at.ensures.value, c.response_at.ensures.bytes_after)))
+returns-clause-used_value c =
+    second_second (call_done (responds (name (goal.at.returns-clause-used_value c).Start) c.args.status c.args.block.now) c.args.bytes.now c.args.used (found (goal.at.returns-clause-used_value c).After-find_record) c.in_ok-at.was (bytes_all c.args.bytes.now (λ i. (c.slice_known-1.given i).fits)) (c.response_at.ensures.value, c.response_at.ensures.bytes_after))
 
-pub returns-in-Refused-clause-value : goal.returns-in-Refused-clause-value
-returns-in-Refused-clause-value c =
-    (first (call_refused (responds (name (goal.at.returns-in-Refused-clause-value c).Start) c.args.status c.args.block.now) c.args.bytes.now c.args.used (found (goal.at.returns-in-Refused-clause-value c).After-find_record) c.in-Refused.is))
+pub returns-in_err-at-clause-value : goal.returns-in_err-at-clause-value
+returns-in_err-at-clause-value c =
+    err_is c.from_residual.result _ c.from_residual.ensures.1 ∙ first (call_refused (responds (name (goal.at.returns-in_err-at-clause-value c).Start) c.args.status c.args.block.now) c.args.bytes.now c.args.used (found (goal.at.returns-in_err-at-clause-value c).After-find_record) c.in_err-at.was)
 
-pub returns-in-Refused-clause-bytes_after : goal.returns-in-Refused-clause-bytes_after
-returns-in-Refused-clause-bytes_after c =
-    (second_first (call_refused (responds (name (goal.at.returns-in-Refused-clause-bytes_after c).Start) c.args.status c.args.block.now) c.args.bytes.now c.args.used (found (goal.at.returns-in-Refused-clause-bytes_after c).After-find_record) c.in-Refused.is))
+pub returns-in_err-at-clause-bytes_after : goal.returns-in_err-at-clause-bytes_after
+returns-in_err-at-clause-bytes_after c =
+    second_first (call_refused (responds (name (goal.at.returns-in_err-at-clause-bytes_after c).Start) c.args.status c.args.block.now) c.args.bytes.now c.args.used (found (goal.at.returns-in_err-at-clause-bytes_after c).After-find_record) c.in_err-at.was)
 
-pub returns-in-Refused-clause-used_value : goal.returns-in-Refused-clause-used_value
-returns-in-Refused-clause-used_value c =
-    (second_second (call_refused (responds (name (goal.at.returns-in-Refused-clause-used_value c).Start) c.args.status c.args.block.now) c.args.bytes.now c.args.used (found (goal.at.returns-in-Refused-clause-used_value c).After-find_record) c.in-Refused.is))
+pub returns-in_err-at-clause-used_value : goal.returns-in_err-at-clause-used_value
+returns-in_err-at-clause-used_value c =
+    ap (λ (r : Result ℕ Refusal). used_after r c.args.used) (err_is c.from_residual.result _ c.from_residual.ensures.1) ∙ second_second (call_refused (responds (name (goal.at.returns-in_err-at-clause-used_value c).Start) c.args.status c.args.block.now) c.args.bytes.now c.args.used (found (goal.at.returns-in_err-at-clause-used_value c).After-find_record) c.in_err-at.was)

@@ -1,7 +1,12 @@
 -- `calls::set_session_expires` meets its contract: 1, 3, 15, then the step on the record in its place. Assumes nothing.
+use mathlib.Core.Path.{ap, ◌∙◌}
+use Rattle.std.proofs.result.Match.{err_is}
+use Rattle.std.specs.Prelude.{ℕ, Result}
+use Rattle.limits.specs.declared.Refusal.{Refusal}
 use Rattle.codec.proofs.CodecLaws.{bytes_all}
 use Rattle.dialog_id.specs.Ident.{Ident, ident}
 use Rattle.book.specs.Book.{revised}
+use Rattle.store_entries.specs.Entries.{used_after}
 use Rattle.store_updates.proofs.CallLaws.{sets, call_refused, call_done}
 use Rattle.store_updates.proofs.calls.set_session_expires.Goals as goal
 use Rattle.store_updates.proofs.calls.set_session_expires.Goals.{Start}
@@ -19,29 +24,29 @@ second_second p = p.1.1
 abbrev name : Start → Ident
 name c = ident c.args.call_id.now c.args.local_tag.now c.args.remote_tag.now
 
-pub returns-in-At-clause-value : goal.returns-in-At-clause-value
+pub returns-clause-value : goal.returns-clause-value
 unfolding revised
-returns-in-At-clause-value c =
-    (first (call_done (sets (name (goal.at.returns-in-At-clause-value c).Start) c.args.seconds) c.args.bytes.now c.args.used c.find_record.ensures.value c.in-At.is (bytes_all c.args.bytes.now (λ i. (c.slice_known-1.given i).fits)) (c.interval_at.ensures.value, c.interval_at.ensures.bytes_after)))
+returns-clause-value c =
+    first (call_done (sets (name (goal.at.returns-clause-value c).Start) c.args.seconds) c.args.bytes.now c.args.used c.find_record.ensures.value c.in_ok-at.was (bytes_all c.args.bytes.now (λ i. (c.slice_known-1.given i).fits)) (c.interval_at.ensures.value, c.interval_at.ensures.bytes_after))
 
-pub returns-in-At-clause-bytes_after : goal.returns-in-At-clause-bytes_after
+pub returns-clause-bytes_after : goal.returns-clause-bytes_after
 unfolding revised
-returns-in-At-clause-bytes_after c =
-    (second_first (call_done (sets (name (goal.at.returns-in-At-clause-bytes_after c).Start) c.args.seconds) c.args.bytes.now c.args.used c.find_record.ensures.value c.in-At.is (bytes_all c.args.bytes.now (λ i. (c.slice_known-1.given i).fits)) (c.interval_at.ensures.value, c.interval_at.ensures.bytes_after)))
+returns-clause-bytes_after c =
+    second_first (call_done (sets (name (goal.at.returns-clause-bytes_after c).Start) c.args.seconds) c.args.bytes.now c.args.used c.find_record.ensures.value c.in_ok-at.was (bytes_all c.args.bytes.now (λ i. (c.slice_known-1.given i).fits)) (c.interval_at.ensures.value, c.interval_at.ensures.bytes_after))
 
-pub returns-in-At-clause-used_value : goal.returns-in-At-clause-used_value
+pub returns-clause-used_value : goal.returns-clause-used_value
 unfolding revised
-returns-in-At-clause-used_value c =
-    (second_second (call_done (sets (name (goal.at.returns-in-At-clause-used_value c).Start) c.args.seconds) c.args.bytes.now c.args.used c.find_record.ensures.value c.in-At.is (bytes_all c.args.bytes.now (λ i. (c.slice_known-1.given i).fits)) (c.interval_at.ensures.value, c.interval_at.ensures.bytes_after)))
+returns-clause-used_value c =
+    second_second (call_done (sets (name (goal.at.returns-clause-used_value c).Start) c.args.seconds) c.args.bytes.now c.args.used c.find_record.ensures.value c.in_ok-at.was (bytes_all c.args.bytes.now (λ i. (c.slice_known-1.given i).fits)) (c.interval_at.ensures.value, c.interval_at.ensures.bytes_after))
 
-pub returns-in-Refused-clause-value : goal.returns-in-Refused-clause-value
-returns-in-Refused-clause-value c =
-    (first (call_refused (sets (name (goal.at.returns-in-Refused-clause-value c).Start) c.args.seconds) c.args.bytes.now c.args.used c.find_record.ensures.value c.in-Refused.is))
+pub returns-in_err-at-clause-value : goal.returns-in_err-at-clause-value
+returns-in_err-at-clause-value c =
+    err_is c.from_residual.result _ c.from_residual.ensures.1 ∙ first (call_refused (sets (name (goal.at.returns-in_err-at-clause-value c).Start) c.args.seconds) c.args.bytes.now c.args.used c.find_record.ensures.value c.in_err-at.was)
 
-pub returns-in-Refused-clause-bytes_after : goal.returns-in-Refused-clause-bytes_after
-returns-in-Refused-clause-bytes_after c =
-    (second_first (call_refused (sets (name (goal.at.returns-in-Refused-clause-bytes_after c).Start) c.args.seconds) c.args.bytes.now c.args.used c.find_record.ensures.value c.in-Refused.is))
+pub returns-in_err-at-clause-bytes_after : goal.returns-in_err-at-clause-bytes_after
+returns-in_err-at-clause-bytes_after c =
+    second_first (call_refused (sets (name (goal.at.returns-in_err-at-clause-bytes_after c).Start) c.args.seconds) c.args.bytes.now c.args.used c.find_record.ensures.value c.in_err-at.was)
 
-pub returns-in-Refused-clause-used_value : goal.returns-in-Refused-clause-used_value
-returns-in-Refused-clause-used_value c =
-    (second_second (call_refused (sets (name (goal.at.returns-in-Refused-clause-used_value c).Start) c.args.seconds) c.args.bytes.now c.args.used c.find_record.ensures.value c.in-Refused.is))
+pub returns-in_err-at-clause-used_value : goal.returns-in_err-at-clause-used_value
+returns-in_err-at-clause-used_value c =
+    ap (λ (r : Result ℕ Refusal). used_after r c.args.used) (err_is c.from_residual.result _ c.from_residual.ensures.1) ∙ second_second (call_refused (sets (name (goal.at.returns-in_err-at-clause-used_value c).Start) c.args.seconds) c.args.bytes.now c.args.used c.find_record.ensures.value c.in_err-at.was)

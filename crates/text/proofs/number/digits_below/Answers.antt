@@ -2,37 +2,33 @@
 -- Assumes nothing.
 use mathlib.Core.Path.{sym, ap, ◌∙◌}
 use native.Mathlib.Omega.{arith}
+use Rattle.std.proofs.Common.{rules}
 use Rattle.text.specs.Number.{number_from}
-use Rattle.text.proofs.Digits.{empty, scan_start, done, low, high, large, next}
+use Rattle.text.proofs.Digits.{empty, scan_start, done, other, large, next}
 use Rattle.text.proofs.number.digits_below.Goals as goal
 
-pub returns-then-s-eq0 : goal.returns-then-s-eq0
-returns-then-s-eq0 c = ap number_from (sym (empty c.args.bound c.args.s.now c.if-s-eq0.true))
+pub returns-then-is_empty : goal.returns-then-is_empty
+returns-then-is_empty c = ap number_from (sym (empty c.args.bound c.args.s.now (search rules)))
 
-pub loop-i-init : goal.loop-i-init
-loop-i-init c = (omega arith, omega arith, scan_start c.args.bound c.args.s.now (omega arith) (omega arith))
+pub loop-b-init : goal.loop-b-init
+loop-b-init c = (omega arith, scan_start c.args.bound c.args.s.now (omega arith) (search rules))
 
-pub returns-then-b-lt48 : goal.returns-then-b-lt48
-returns-then-b-lt48 c =
-    let l = c.loop-i in
-    ap number_from (sym (l.invariant.2 ∙ low _ l.v _ l.i (omega arith) (omega arith)))
-
-pub returns-then-b-gt57 : goal.returns-then-b-gt57
-returns-then-b-gt57 c =
-    let l = c.loop-i in
-    ap number_from (sym (l.invariant.2 ∙ high _ l.v _ l.i (omega arith) (omega arith)))
+pub returns-then-not-is_ascii_digit : goal.returns-then-not-is_ascii_digit
+returns-then-not-is_ascii_digit c =
+    let l = c.loop-b in
+    ap number_from (sym (l.invariant.1 ∙ other _ l.v _ l.b-index (omega arith) (search rules)))
 
 pub returns-then-bound-v : goal.returns-then-bound-v
 returns-then-bound-v c =
-    let l = c.loop-i in
-    ap number_from (sym (l.invariant.2 ∙ large _ l.v _ l.i (omega arith) (omega arith) (omega arith) (omega arith)))
+    let l = c.loop-b in
+    ap number_from (sym (l.invariant.1 ∙ large _ l.v _ l.b-index (omega arith) (search rules) (omega arith)))
 
-pub loop-i-preserved : goal.loop-i-preserved
-loop-i-preserved c =
-    let l = c.loop-i in
-    (omega arith, omega arith, l.invariant.2 ∙ next _ l.v _ l.i (omega arith) (omega arith) (omega arith) (omega arith))
+pub loop-b-preserved : goal.loop-b-preserved
+loop-b-preserved c =
+    let l = c.loop-b in
+    (omega arith, l.invariant.1 ∙ next _ l.v _ l.b-index (omega arith) (search rules) (omega arith))
 
 pub returns : goal.returns
 returns c =
-    let l = c.loop-i in
-    ap number_from (sym (l.invariant.2 ∙ done _ l.v _ l.i (omega arith)))
+    let l = c.loop-b in
+    ap number_from (sym (l.invariant.1 ∙ done _ l.v _ l.b-index (omega arith)))

@@ -1,9 +1,10 @@
 -- `worst_minute::counting::count` meets its contract: the worst over the starts before the window, and the refusals of the window. Assumes nothing.
+use Prim.Native.Nat.{◌+◌, ◌*◌, ◌<◌}
 use native.Mathlib.Omega.{arith}
 use mathlib.Core.Path.{◌≡◌, refl, ap, sym, ◌∙◌}
-use mathlib.Core.Option.{some}
 use lib.ListN.{length}
-use Rattle.limits.specs.Outcome.{given, and_then, or_refuse}
+use Rattle.std.specs.Prelude.{Ok, Some}
+use Rattle.limits.specs.Outcome.{and_then, or_refuse}
 use Rattle.limits.specs.declared.Refusal.TheVariants.{BadStore}
 use Rattle.worst_minute.specs.Minute.{Minute, worst}
 use Rattle.worst_minute.specs.Layout.{decode_run}
@@ -12,18 +13,18 @@ use Rattle.worst_minute.specs.Answers.{worst_of, worst_answer}
 use Rattle.worst_minute.proofs.ReadLaws.{sized}
 use Rattle.worst_minute.proofs.CountLaws.{Ready, started, room, falls, reached, stays, moved_on, finished, few_so_far, a_refusal, no_refusal, has_more, has_no_more, ready_as, counting_as}
 use Rattle.worst_minute.proofs.counting.count.Goals as goal
-use Rattle.worst_minute.proofs.counting.count.Goals.{After-loop-at, Joined-t-w-ge-MINUTE, then-most-w, else-most-w, then-t-w-ge-MINUTE, else-t-w-ge-MINUTE, then-run-at-ne0, else-run-at-ne0}
+use Rattle.worst_minute.proofs.counting.count.Goals.{After-loop-k, Joined-t-w-ge-MINUTE, then-most-w, else-most-w, then-t-w-ge-MINUTE, else-t-w-ge-MINUTE, then-run-at-ne0, else-run-at-ne0}
 
 -- the window is where the verdict at the place belongs to it
 ready : (c : Joined-t-w-ge-MINUTE)
-    → Ready c.args.run.now c.if-t-w-ge-MINUTE.w (record { start = c.if-t-w-ge-MINUTE.start; refusals = c.if-t-w-ge-MINUTE.most }) c.loop-at.at
+    → Ready c.args.run.now c.if-t-w-ge-MINUTE.w (record { start = c.if-t-w-ge-MINUTE.start; refusals = c.if-t-w-ge-MINUTE.most }) (c.loop-k.k * 9)
 ready c =
     let s = c.args.run.now in
     let p = c.requires in
-    let l = c.loop-at in
+    let l = c.loop-k in
     let best : Minute = record { start = l.start; refusals = l.most } in
     let m : Minute = record { start = l.w.start; refusals = l.w.refusals } in
-    let h = c.loop-at-test.true in
+    let h : c.loop-k.k * 9 < length s = omega arith in
     let e = c.time_at-t.ensures in
     let f = c.if-t-last.false in
     elim c.if-t-w-ge-MINUTE.branch [
@@ -38,37 +39,37 @@ ready c =
     ]
 
 -- at the end the answer is the worst so far with the window
-ended : (c : After-loop-at) {m : Minute}
-    → m ≡ (let l = c.loop-at in or_more (record { start = l.start; refusals = l.most }) (record { start = l.w.start; refusals = l.w.refusals }))
-    → worst_of (some m) ≡ worst_answer (and_then (or_refuse BadStore (decode_run c.args.run.now)) (λ vs. given (worst vs)))
+ended : (c : After-loop-k) {m : Minute}
+    → m ≡ (let l = c.loop-k in or_more (record { start = l.start; refusals = l.most }) (record { start = l.w.start; refusals = l.w.refusals }))
+    → worst_of (Some m) ≡ worst_answer (and_then (or_refuse BadStore (decode_run c.args.run.now)) (λ vs. Ok (worst vs)))
 ended c e =
     let p = c.requires in
-    let f = finished c.args.run.now p.1 p.0 c.loop-at.invariant c.loop-at-test.false in
-    ap (λ m. worst_of (some m)) e ∙ ap worst_of (sym f.1) ∙ ap (λ o. worst_answer (and_then (or_refuse BadStore o) (λ vs. given (worst vs)))) (sym f.0)
+    let f = finished c.args.run.now p.1 p.0 c.loop-k.invariant (omega (arith, (sized (length c.args.run.now) p.1).0)) in
+    ap (λ m. worst_of (Some m)) e ∙ ap worst_of (sym f.1) ∙ ap (λ o. worst_answer (and_then (or_refuse BadStore o) (λ vs. Ok (worst vs)))) (sym f.0)
 
 pub time_at-first-requires : goal.time_at-first-requires
 time_at-first-requires c = omega (arith, c.requires.0, (sized (length c.args.run.now) c.requires.1).0)
 
-pub loop-at-init : goal.loop-at-init
-loop-at-init c = started c.args.run.now c.requires.1 c.requires.0 c.time_at-first.ensures
+pub loop-k-init : goal.loop-k-init
+loop-k-init c = started c.args.run.now c.requires.1 c.requires.0 c.time_at-first.ensures
 
 pub time_at-t-requires : goal.time_at-t-requires
 time_at-t-requires c =
     let p = c.requires in
-    omega (arith, room c.args.run.now p.1 p.0 c.loop-at.invariant c.loop-at-test.true refl)
+    omega (arith, room c.args.run.now p.1 p.0 c.loop-k.invariant (omega arith) refl)
 
 pub returns-then-t-last : goal.returns-then-t-last
 returns-then-t-last c =
     let p = c.requires in
-    ap (λ o. worst_answer (and_then (or_refuse BadStore o) (λ vs. given (worst vs)))) (sym (falls c.args.run.now p.1 p.0 c.loop-at.invariant c.loop-at-test.true c.time_at-t.ensures c.if-t-last.true))
+    ap (λ o. worst_answer (and_then (or_refuse BadStore o) (λ vs. Ok (worst vs)))) (sym (falls c.args.run.now p.1 p.0 c.loop-k.invariant (omega arith) c.time_at-t.ensures c.if-t-last.true))
 
 pub overflow_sub-t : goal.overflow_sub-t
-overflow_sub-t c = omega (arith, c.loop-at.invariant.low)
+overflow_sub-t c = omega (arith, c.loop-k.invariant.low)
 
 pub moved-w-requires : goal.moved-w-requires
 moved-w-requires c =
     let p = c.requires in
-    reached c.args.run.now p.1 p.0 c.loop-at.invariant c.loop-at-test.true c.time_at-t.ensures c.if-t-last.false
+    reached c.args.run.now p.1 p.0 c.loop-k.invariant (omega arith) c.time_at-t.ensures c.if-t-last.false
 
 pub overflow_add-at : goal.overflow_add-at
 overflow_add-at c = omega (arith, (ready c).reach.entry)
@@ -82,29 +83,24 @@ overflow_add-w c =
     let p = c.requires in
     omega (arith, few_so_far s p.1 p.0 (ready (goal.at.overflow_add-w c).Joined-t-w-ge-MINUTE), (sized (length s) p.1).1)
 
-pub overflow_add-at-in-loop-at : goal.overflow_add-at-in-loop-at
-overflow_add-at-in-loop-at c = omega (arith, (ready (goal.at.overflow_add-at-in-loop-at c).Joined-t-w-ge-MINUTE).reach.entry)
-
-pub loop-at-smaller : goal.loop-at-smaller
-loop-at-smaller c = omega (arith, (ready (goal.at.loop-at-smaller c).Joined-t-w-ge-MINUTE).reach.entry)
-
-pub loop-at-preserved : goal.loop-at-preserved
-loop-at-preserved c =
+pub loop-k-preserved : goal.loop-k-preserved
+loop-k-preserved c =
     let s = c.args.run.now in
     let p = c.requires in
     let e = c.time_at-t.ensures in
-    let r = ready (goal.at.loop-at-preserved c).Joined-t-w-ge-MINUTE in
-    elim c.if-run-at-ne0.branch [
+    let r = ready (goal.at.loop-k-preserved c).Joined-t-w-ge-MINUTE in
+    let n : (c.loop-k.k + 1) * 9 ≡ c.loop-k.k * 9 + 9 = omega arith in
+    rw n (elim c.if-run-at-ne0.branch [
       | then-run-at-ne0 k ↦ counting_as s (a_refusal s p.1 p.0 r k.if-run-at-ne0.true e) k.w-is
       | else-run-at-ne0 k ↦ counting_as s (no_refusal s p.1 p.0 r k.if-run-at-ne0.false e) k.w-is
-    ]
+    ])
 
 pub returns-then-w-most : goal.returns-then-w-most
 returns-then-w-most c =
-    ended (goal.at.returns-then-w-most c).After-loop-at
-    (has_no_more (record { start = c.loop-at.start; refusals = c.loop-at.most }) (record { start = c.loop-at.w.start; refusals = c.loop-at.w.refusals }) (omega (arith, c.if-w-most.true)) refl refl)
+    ended (goal.at.returns-then-w-most c).After-loop-k
+    (has_no_more (record { start = c.loop-k.start; refusals = c.loop-k.most }) (record { start = c.loop-k.w.start; refusals = c.loop-k.w.refusals }) (omega (arith, c.if-w-most.true)) refl refl)
 
 pub returns : goal.returns
 returns c =
-    ended (goal.at.returns c).After-loop-at
-    (has_more (record { start = c.loop-at.start; refusals = c.loop-at.most }) (record { start = c.loop-at.w.start; refusals = c.loop-at.w.refusals }) (omega (arith, c.if-w-most.false)) refl refl)
+    ended (goal.at.returns c).After-loop-k
+    (has_more (record { start = c.loop-k.start; refusals = c.loop-k.most }) (record { start = c.loop-k.w.start; refusals = c.loop-k.w.refusals }) (omega (arith, c.if-w-most.false)) refl refl)

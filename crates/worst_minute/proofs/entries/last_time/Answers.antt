@@ -1,31 +1,42 @@
--- `worst_minute::entries::last_time` meets its contract: the entries before the place are read, and the last of them has the time. Assumes nothing.
+-- `worst_minute::entries::last_time` meets its contract: the entries before the one at hand are read, and the last of them has the time. Assumes nothing.
 use mathlib.Core.Path.{◌≡◌, ap, sym, ◌∙◌}
 use mathlib.Core.Bool.{true}
+use native.Mathlib.Omega.{arith}
+use Rattle.std.proofs.Common.{rules}
 use lib.ListN.{length}
-use borrow.Author.Tests.{not-true, not-false}
 use Rattle.worst_minute.specs.Layout.{is_sized}
 use Rattle.worst_minute.specs.Answers.{last_of}
-use Rattle.worst_minute.specs.declared.entries.Last.TheVariants.{Time}
-use Rattle.worst_minute.proofs.ReadLaws.{not_sized, one_falls, one_read, all_read}
+use Rattle.worst_minute.proofs.ReadLaws.{not_sized, none_read, one_falls, one_read, all_read}
 use Rattle.worst_minute.proofs.entries.last_time.Goals as goal
 use Rattle.worst_minute.proofs.entries.last_time.Goals.{Else-not-is_sized}
 
 -- the size is a run's
 fits : (c : Else-not-is_sized) → is_sized (length c.args.run.now) ≡ true
-fits c = sym c.is_sized.ensures ∙ not-false c.is_sized.result c.if-not-is_sized.false-raw
+fits c = search rules
 
 pub returns-then-not-is_sized : goal.returns-then-not-is_sized
-returns-then-not-is_sized c = ap last_of (sym (not_sized c.args.run.now (sym c.is_sized.ensures ∙ not-true c.is_sized.result c.if-not-is_sized.true-raw)))
+returns-then-not-is_sized c = ap last_of (sym (not_sized c.args.run.now (search rules)))
+
+pub loop-entry-init : goal.loop-entry-init
+loop-entry-init c =
+    let e = c.into_iter-entry-iterator.ensures.into_iter_gives in
+    let f = c.chunks_exact-entry-items.ensures in
+    record { size = ap (λ i. i.size) e ∙ f.size; read = none_read c.args.run.now (ap (λ i. i.rest.now) e ∙ f.rest) }
 
 pub returns-then-t-last : goal.returns-then-t-last
 returns-then-t-last c =
-    ap last_of (sym (one_falls c.args.run.now (fits (goal.at.returns-then-t-last c).Else-not-is_sized) c.loop-at.invariant c.loop-at-test.true c.time_at-t.ensures c.if-t-last.true))
+    let i = c.loop-entry.invariant in
+    let e = c.in-Some.ensures.steps.1 in
+    ap last_of (sym (one_falls c.args.run.now (fits (goal.at.returns-then-t-last c).Else-not-is_sized) i.read _ _ e.0 (e.1 ∙ i.size) c.time_at-t.ensures c.if-t-last.true))
 
-pub loop-at-preserved : goal.loop-at-preserved
-loop-at-preserved c =
-    one_read c.args.run.now (fits (goal.at.loop-at-preserved c).Else-not-is_sized) c.loop-at.invariant c.loop-at-test.true c.time_at-t.ensures c.if-t-last.false
+pub loop-entry-preserved : goal.loop-entry-preserved
+loop-entry-preserved c =
+    let i = c.loop-entry.invariant in
+    let e = c.in-Some.ensures.steps in
+    record {
+      size = e.0 ∙ i.size;
+      read = one_read c.args.run.now (fits (goal.at.loop-entry-preserved c).Else-not-is_sized) i.read _ _ e.1.0 (e.1.1 ∙ i.size) c.time_at-t.ensures c.if-t-last.false;
+    }
 
 pub returns : goal.returns
-returns c =
-    let a = all_read c.args.run.now (fits (goal.at.returns c).Else-not-is_sized) c.loop-at.invariant c.loop-at-test.false in
-    ap Time (sym a.1) ∙ ap last_of (sym a.0)
+returns c = all_read c.args.run.now (fits (goal.at.returns c).Else-not-is_sized) c.loop-entry.invariant.read (omega (arith, c.in-None.ensures.steps.1.0))

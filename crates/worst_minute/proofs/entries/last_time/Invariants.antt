@@ -1,10 +1,7 @@
-use Prim.Native.Nat.{◌-◌}
-use lib.ListN.{length}
+-- What is left of the bytes are whole entries, and those before it are read.
+use mathlib.Core.Path.{◌≡◌}
 use Rattle.worst_minute.proofs.ReadLaws.{Read}
 use Rattle.worst_minute.proofs.entries.last_time.Given as goal
 
-abbrev pub invariant-loop-at : goal.invariant-loop-at
-invariant-loop-at l = Read l.run l.last l.at
-
-abbrev pub decreases-loop-at : goal.decreases-loop-at
-decreases-loop-at l = length l.run - l.at
+abbrev pub invariant-loop-entry : goal.invariant-loop-entry
+invariant-loop-entry l = record { size : l.entry-iterator.size ≡ 9; read : Read l.run l.entry-iterator.rest.now l.last }
