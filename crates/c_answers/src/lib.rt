@@ -2,7 +2,9 @@
 #![tactic(auto)]
 
 ghost use Rattle.std.specs.Prelude.{◌≡◌};
-ghost use Rattle.c_answers.specs.Given.{flag, refresher_number, least_after, optional_time, optional_seconds, check_number, port_flag, port_after, LookupGives, NextGives, PartGives, IdGives, UriGives, EstimateGives, ExpiresGives, CountGives, HeldGives, NumberGives, MethodGives, MethodLookupGives, ReliableGives, RackGives, WrittenGives, ValidatedGives, IntervalGives, RoleGives};
+ghost use Rattle.limits.specs.Outcome.{number_in};
+ghost use Rattle.limits.specs.Refusal.{number_of};
+ghost use Rattle.c_answers.specs.Given.{refresher_number, least_after, ValueGives, FlagGives, WithUsedGives, WithLeastGives, LookupGives, NextGives, PartGives, IdGives, UriGives, ExpiresGives, MethodLookupGives, RackGives, ValidatedGives};
 
 use dialog_id::DialogId;
 use headers::Refresher;
@@ -17,11 +19,67 @@ const FOUND: u8 = 1;
 const NOTHING: u8 = 0;
 
 pub fn check_number(c: Result<(), Refusal>) -> u8
-    ensures { result ≡ check_number c }
+    ensures { result ≡ number_in c }
 {
     match c {
         Ok(()) => 0,
         Err(x) => x.number(),
+    }
+}
+
+// One value.
+pub fn give<T: Copy>(answer: Result<T, Refusal>, value: &mut T) -> u8
+    ensures { ValueGives answer value.old result value.new }
+{
+    match answer {
+        Ok(given) => {
+            *value = given;
+            0
+        }
+        Err(x) => x.number(),
+    }
+}
+
+// Yes or no: 1 or 0.
+pub fn give_flag(answer: Result<bool, Refusal>, flag: &mut u8) -> u8
+    ensures { FlagGives answer flag.old result flag.new }
+{
+    match answer {
+        Ok(yes) => {
+            *flag = u8::from(yes);
+            0
+        }
+        Err(x) => x.number(),
+    }
+}
+
+// One value, and the new used length.
+pub fn give_with_used<T: Copy>(
+    answer: Result<(T, usize), Refusal>,
+    used: &mut usize,
+    value: &mut T,
+) -> u8
+    ensures { WithUsedGives answer (record { used = used.old; value = value.old }) result (record { used = used.new; value = value.new }) }
+{
+    let (given, length) = match answer {
+        Ok(pair) => pair,
+        Err(x) => return x.number(),
+    };
+    *used = length;
+    *value = given;
+    0
+}
+
+// One value, or with 13 the least.
+pub fn give_with_least<T: Copy>(answer: Result<T, Refusal>, value: &mut T, least: &mut u64) -> u8
+    ensures { WithLeastGives answer (record { value = value.old; least = least.old }) result (record { value = value.new; least = least.new }) }
+{
+    match answer {
+        Ok(given) => {
+            *value = given;
+            0
+        }
+        Err(x) => give_least(x, least),
     }
 }
 
@@ -125,26 +183,13 @@ pub fn give_uri(
 {
     match answer {
         Ok(u) => {
-            *secure = flag_number(u.secure);
+            *secure = u8::from(u.secure);
             *user = u.user.start;
             *user_length = u.user.length;
             *host = u.host.start;
             *host_length = u.host.length;
-            let p = u.port;
-            *has_port = port_flag(p);
-            *port = port_after(p, *port);
-            0
-        }
-        Err(x) => x.number(),
-    }
-}
-
-pub fn give_estimate(answer: Result<usize, Refusal>, estimate: &mut usize) -> u8
-    ensures { EstimateGives answer estimate.old result estimate.new }
-{
-    match answer {
-        Ok(n) => {
-            *estimate = n;
+            *has_port = u8::from(u.port.is_some());
+            *port = u.port.unwrap_or(*port);
             0
         }
         Err(x) => x.number(),
@@ -174,54 +219,6 @@ pub fn give_expires(
     }
 }
 
-pub fn give_count(answer: Result<usize, Refusal>, count: &mut usize) -> u8
-    ensures { CountGives answer count.old result count.new }
-{
-    match answer {
-        Ok(n) => {
-            *count = n;
-            0
-        }
-        Err(x) => x.number(),
-    }
-}
-
-pub fn give_held(answer: Result<usize, Refusal>, count: &mut usize) -> u8
-    ensures { HeldGives answer count.old result count.new }
-{
-    match answer {
-        Ok(n) => {
-            *count = n;
-            0
-        }
-        Err(x) => x.number(),
-    }
-}
-
-pub fn give_number(answer: Result<u32, Refusal>, number: &mut u32) -> u8
-    ensures { NumberGives answer number.old result number.new }
-{
-    match answer {
-        Ok(n) => {
-            *number = n;
-            0
-        }
-        Err(x) => x.number(),
-    }
-}
-
-pub fn give_method(answer: Result<u8, Refusal>, method: &mut u8) -> u8
-    ensures { MethodGives answer method.old result method.new }
-{
-    match answer {
-        Ok(n) => {
-            *method = n;
-            0
-        }
-        Err(x) => x.number(),
-    }
-}
-
 pub fn give_method_lookup(
     answer: Result<Option<u8>, Refusal>,
     found: &mut u8,
@@ -237,22 +234,6 @@ pub fn give_method_lookup(
         }
         Ok(None) => {
             *found = NOTHING;
-            0
-        }
-        Err(x) => x.number(),
-    }
-}
-
-pub fn give_reliable(answer: Result<bool, Refusal>, reliable: &mut u8) -> u8
-    ensures { ReliableGives answer reliable.old result reliable.new }
-{
-    match answer {
-        Ok(true) => {
-            *reliable = 1;
-            0
-        }
-        Ok(false) => {
-            *reliable = 0;
             0
         }
         Err(x) => x.number(),
@@ -278,68 +259,16 @@ pub fn give_rack(
     }
 }
 
-pub fn give_written(answer: Result<usize, Refusal>, written: &mut usize) -> u8
-    ensures { WrittenGives answer written.old result written.new }
-{
-    match answer {
-        Ok(n) => {
-            *written = n;
-            0
-        }
-        Err(x) => x.number(),
-    }
-}
-
 pub fn give_validated(answer: Result<u64, Refusal>, least: &mut u64) -> u8
     ensures { ValidatedGives answer least.old result least.new }
 {
     match answer {
-        Ok(_) => { 0 }
-        Err(x) => {
-            *least = least_of(x, *least);
-            x.number()
-        }
+        Ok(_) => 0,
+        Err(x) => give_least(x, least),
     }
 }
 
-pub fn give_interval(answer: Result<u64, Refusal>, interval: &mut u64, least: &mut u64) -> u8
-    ensures { IntervalGives answer (record { interval = interval.old; least = least.old }) result (record { interval = interval.new; least = least.new }) }
-{
-    match answer {
-        Ok(n) => {
-            *interval = n;
-            0
-        }
-        Err(x) => {
-            *least = least_of(x, *least);
-            x.number()
-        }
-    }
-}
-
-pub fn give_role(answer: Result<bool, Refusal>, refresher: &mut u8) -> u8
-    ensures { RoleGives answer refresher.old result refresher.new }
-{
-    match answer {
-        Ok(we) => {
-            *refresher = flag_number(we);
-            0
-        }
-        Err(x) => x.number(),
-    }
-}
-
-// 1 for yes, 0 for no.
-pub fn flag_number(b: bool) -> u8
-    ensures { result ≡ flag b }
-{
-    if b {
-        return 1;
-    }
-    0
-}
-
-// 0 none, 1 uac, 2 uas.
+// 0 none, 1 uac, 2 uas. No `From`, which the crate of the enum would have to hold, and no cast, which would hand over the order of its variants.
 fn refresher_number(r: Refresher) -> u8
     ensures { result ≡ refresher_number r }
 {
@@ -350,45 +279,17 @@ fn refresher_number(r: Refresher) -> u8
     }
 }
 
-fn port_flag(p: Option<u16>) -> u8
-    ensures { result ≡ port_flag p }
+// The number of a refusal, and of 13 the least.
+pub fn give_least(x: Refusal, least: &mut u64) -> u8
+    ensures value { result ≡ number_of x }
+    ensures least_after { least.new ≡ least_after x least.old }
 {
-    match p {
-        Some(_) => 1,
-        None => 0,
-    }
-}
-
-fn port_after(p: Option<u16>, old: u16) -> u16
-    ensures { result ≡ port_after p old }
-{
-    match p {
-        Some(n) => n,
-        None => old,
-    }
-}
-
-// An argument that may be absent.
-pub fn time_if(given: bool, n: u64) -> Option<u64>
-    ensures { result ≡ optional_time given n }
-{
-    if given {
-        return Some(n);
-    }
-    None
-}
-
-pub fn seconds_if(given: bool, n: u32) -> Option<u32>
-    ensures { result ≡ optional_seconds given n }
-{
-    if given {
-        return Some(n);
-    }
-    None
+    *least = least_of(x, *least);
+    x.number()
 }
 
 // What 13 returns beside its number; any other cause keeps the value.
-pub fn least_of(x: Refusal, old: u64) -> u64
+fn least_of(x: Refusal, old: u64) -> u64
     ensures { result ≡ least_after x old }
 {
     match x {

@@ -1,11 +1,13 @@
 -- Document 02, request 12. What a C caller of the interval contest gets: the number, and what the lent numbers then hold. A lent number keeps its value except where
 -- its answer is given: the two ends of an extent where there is one, and of a refusal the minimum of 13.
 use Rattle.std.specs.Prelude.{ℕ, Err, None, Ok, Option, Result, Some}
+use Rattle.std.specs.Int.{from_bool}
+use Rattle.std.specs.Option.{is_some}
 use Rattle.limits.specs.Limits.{LimitSet}
 use Rattle.limits.specs.Outcome.{number_in}
 use Rattle.limits.specs.declared.Refusal.{Refusal}
 use Rattle.interval_contest.specs.Contest.{Offer, Extent, Power, Settles}
-use Rattle.c_answers.specs.Given.{Gives, flag, least_after}
+use Rattle.c_answers.specs.Given.{Gives, least_after}
 
 pub record ContestNumbers : Type 0 where
   pub has_first : ℕ
@@ -17,11 +19,7 @@ pub record ContestNumbers : Type 0 where
   pub only_requested : ℕ
   pub least : ℕ
 
--- 1 where there is an extent, with its ends; otherwise 0, and the two numbers are kept
-abbrev pub extent_flag : Option Extent → ℕ
-extent_flag (Some e) = 1
-extent_flag None = 0
-
+-- the ends of an extent; where there is none, the two numbers are kept
 abbrev pub least_in : Option Extent → ℕ → ℕ
 least_in (Some e) old = e.least
 least_in None old = old
@@ -32,13 +30,13 @@ most_in None old = old
 
 abbrev pub contest_after : Result Power Refusal → ContestNumbers → ContestNumbers
 contest_after (Ok power) old = record {
-  has_first = extent_flag power.first;
+  has_first = from_bool (is_some power.first);
   first_least = least_in power.first old.first_least;
   first_most = most_in power.first old.first_most;
-  has_retry = extent_flag power.retry;
+  has_retry = from_bool (is_some power.retry);
   retry_least = least_in power.retry old.retry_least;
   retry_most = most_in power.retry old.retry_most;
-  only_requested = flag power.only_requested;
+  only_requested = from_bool power.only_requested;
   least = old.least;
 }
 contest_after (Err cause) old = record {

@@ -3,9 +3,9 @@
 
 ghost use Rattle.std.specs.Prelude.{◌≡◌};
 ghost use Rattle.interval_contest.specs.Answers.{extent_in, outcome_in};
-ghost use Rattle.c_contest_answers.specs.Given.{extent_flag, least_in, most_in, ContestGives};
+ghost use Rattle.c_contest_answers.specs.Given.{least_in, most_in, ContestGives};
 
-use c_answers::{flag_number, least_of};
+use c_answers::give_least;
 use interval_contest::Contest;
 use limits::Refusal;
 
@@ -26,29 +26,16 @@ pub fn give_contest(
         Ok(c) => {
             let first = c.first;
             let retry = c.retry;
-            *has_first = extent_flag(first);
+            *has_first = u8::from(first.is_some());
             *first_least = least_in(first, *first_least);
             *first_most = most_in(first, *first_most);
-            *has_retry = extent_flag(retry);
+            *has_retry = u8::from(retry.is_some());
             *retry_least = least_in(retry, *retry_least);
             *retry_most = most_in(retry, *retry_most);
-            *only_requested = flag_number(c.only_requested);
+            *only_requested = u8::from(c.only_requested);
             0
         }
-        Err(x) => {
-            *least = least_of(x, *least);
-            x.number()
-        }
-    }
-}
-
-// 1 where something can be forced, otherwise 0.
-fn extent_flag(f: Option<(u64, u64)>) -> u8
-    ensures { result ≡ extent_flag (extent_in f) }
-{
-    match f {
-        Some((_, _)) => 1,
-        None => 0,
+        Err(x) => give_least(x, least),
     }
 }
 

@@ -2,9 +2,8 @@
 #![tactic(auto)]
 
 ghost use Rattle.std.specs.Prelude.{◌≡◌};
-ghost use Rattle.c_image_answers.specs.Given.{state_number, optional_flag, optional_after, refresher_number, ImageIdGives, StateGives, UrisGives, NumbersGives, RouteCountGives, MatchesGives, RefreshGives, RaisedGives, SetGives};
+ghost use Rattle.c_image_answers.specs.Given.{state_number, refresher_number, ImageIdGives, StateGives, UrisGives, NumbersGives, RouteCountGives};
 
-use c_answers::{flag_number, least_of};
 use image::{RecordAt, either};
 use limits::Refusal;
 use record::{Refresher, State};
@@ -49,8 +48,8 @@ pub fn give_state(
             let s = numbers.state;
             let uris = r.uris;
             *state = state_number(s);
-            *we_are_uac = flag_number(r.we_are_uac);
-            *secure = flag_number(either(uris.local_secure, uris.remote_secure));
+            *we_are_uac = u8::from(r.we_are_uac);
+            *secure = u8::from(either(uris.local_secure, uris.remote_secure));
             0
         }
         Err(x) => x.number(),
@@ -103,10 +102,10 @@ pub fn give_numbers(
             let side = numbers.refresher;
             *local = numbers.local;
             *remote = numbers.remote;
-            *has_last_ack = optional_flag(ack);
-            *last_ack = optional_after(ack, *last_ack);
-            *has_seconds = optional_flag(interval);
-            *seconds = optional_after(interval, *seconds);
+            *has_last_ack = u8::from(ack.is_some());
+            *last_ack = ack.unwrap_or(*last_ack);
+            *has_seconds = u8::from(interval.is_some());
+            *seconds = interval.unwrap_or(*seconds);
             *refresher = refresher_number(side);
             0
         }
@@ -126,67 +125,7 @@ pub fn give_route_count(answer: Result<RecordAt, Refusal>, count: &mut usize) ->
     }
 }
 
-pub fn give_matches(answer: Result<bool, Refusal>, matches: &mut u8) -> u8
-    ensures { MatchesGives answer matches.old result matches.new }
-{
-    match answer {
-        Ok(true) => {
-            *matches = 1;
-            0
-        }
-        Ok(false) => {
-            *matches = 0;
-            0
-        }
-        Err(x) => x.number(),
-    }
-}
-
-pub fn give_refresh(answer: Result<bool, Refusal>, due: &mut u8) -> u8
-    ensures { RefreshGives answer due.old result due.new }
-{
-    match answer {
-        Ok(true) => {
-            *due = 1;
-            0
-        }
-        Ok(false) => {
-            *due = 0;
-            0
-        }
-        Err(x) => x.number(),
-    }
-}
-
-pub fn give_raised(answer: Result<(u32, usize), Refusal>, used: &mut usize, number: &mut u32) -> u8
-    ensures { RaisedGives answer (record { used = used.old; number = number.old }) result (record { used = used.new; number = number.new }) }
-{
-    match answer {
-        Ok((n, length)) => {
-            *used = length;
-            *number = n;
-            0
-        }
-        Err(x) => x.number(),
-    }
-}
-
-pub fn give_set(answer: Result<usize, Refusal>, used: &mut usize, least: &mut u64) -> u8
-    ensures { SetGives answer (record { used = used.old; least = least.old }) result (record { used = used.new; least = least.new }) }
-{
-    match answer {
-        Ok(n) => {
-            *used = n;
-            0
-        }
-        Err(x) => {
-            *least = least_of(x, *least);
-            x.number()
-        }
-    }
-}
-
-// 1 Early, 2 Confirmed, 3 Terminated.
+// 1 Early, 2 Confirmed, 3 Terminated. No `From`, which the crate of the enum would have to hold, and no cast, which would hand over the order of its variants.
 fn state_number(s: State) -> u8
     ensures { result ≡ state_number s }
 {
@@ -197,25 +136,7 @@ fn state_number(s: State) -> u8
     }
 }
 
-fn optional_flag(o: Option<u32>) -> u8
-    ensures { result ≡ optional_flag o }
-{
-    match o {
-        Some(_) => 1,
-        None => 0,
-    }
-}
-
-fn optional_after(o: Option<u32>, old: u32) -> u32
-    ensures { result ≡ optional_after o old }
-{
-    match o {
-        Some(n) => n,
-        None => old,
-    }
-}
-
-// 0 none, 1 uac, 2 uas.
+// 0 none, 1 uac, 2 uas, in the same way.
 fn refresher_number(r: Refresher) -> u8
     ensures { result ≡ refresher_number r }
 {

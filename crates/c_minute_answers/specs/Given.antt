@@ -2,7 +2,6 @@
 -- comes to. A lent number keeps its value except where its answer is given.
 use Rattle.std.specs.Prelude.{ℕ, Err, None, Ok, Option, Result, Some}
 use Rattle.limits.specs.Outcome.{number_in}
-use Rattle.limits.specs.Refusal.{number_of}
 use Rattle.limits.specs.declared.Refusal.{Refusal}
 use Rattle.worst_minute.specs.Minute.{Minute}
 use Rattle.c_answers.specs.Given.{Gives}
@@ -27,15 +26,10 @@ MinuteGives o old r left = Gives (number_in o) (minute_after o old) r left
 
 -- ---- a step of the code: the answer handed over
 
-abbrev pub worst_number : Result (Option (ℕ × ℕ)) Refusal → ℕ
-worst_number (Ok (Some (n, t))) = 0
-worst_number (Ok None) = 0
-worst_number (Err cause) = number_of cause
-
 abbrev pub worst_after : Result (Option (ℕ × ℕ)) Refusal → MinuteNumbers → MinuteNumbers
 worst_after (Ok (Some (n, t))) old = record { refusals = n; found = 1; start = t }
 worst_after (Ok None) old = record { refusals = 0; found = 0; start = old.start }
 worst_after (Err cause) old = old
 
 abbrev pub WorstGives : Result (Option (ℕ × ℕ)) Refusal → MinuteNumbers → ℕ → MinuteNumbers → Type 0
-WorstGives answer old r left = Gives (worst_number answer) (worst_after answer old) r left
+WorstGives answer old r left = Gives (number_in answer) (worst_after answer old) r left

@@ -5,6 +5,7 @@ use mathlib.Core.Path.{◌≡◌, refl, ap, subst, ◌∙◌}
 use mathlib.Core.Bool.{false}
 use mathlib.Core.List.{List}
 use Rattle.std.specs.Prelude.{Bool, Err, Ok, Result}
+use Rattle.std.specs.Int.{from_bool}
 use Rattle.limits.specs.Limits.{rust_limits}
 use Rattle.limits.specs.Outcome.{and_then, number_in}
 use Rattle.limits.specs.declared.Refusal.{Refusal}
@@ -14,12 +15,13 @@ use Rattle.ordered_store.specs.Entries.{set_entry}
 use Rattle.ordered_store.specs.Run.{Decided, Returns}
 use Rattle.ordered_store.proofs.RunLaws.{answer_has}
 use Rattle.prack_body.specs.Lists.{Tracked, open_in}
-use Rattle.prack_body.specs.Layout.{to_bit, tracked_form, open_bytes}
+use Rattle.prack_body.specs.Layout.{tracked_form, open_bytes}
 use Rattle.prack_entries.specs.Entries.{key_of, clean_for}
 use Rattle.prack_validator.specs.Validator.{validate, is_pracked, get_pending, Value, written, action_cause, rack_value, deciding, judged_for, judge, ran}
 use Rattle.prack_validator.specs.Answers.{rack_after, flag_after, length_after, no_rack, validated_by, validated_in, pracked_of, listed_by, listed_in, used_listed}
 use Rattle.prack_validator.specs.declared.Validated.{Validated}
-use Rattle.c_prack_answers.specs.Given.{pracked_after, ValidatedNumbers, ValidatedGives, validated_number, validated_after, PrackedGives, pracked_number, pracked_left, ListedNumbers, ListedGives, listed_number, listed_after}
+use Rattle.c_answers.specs.Given.{FlagGives, flag_after as flag_left, WithUsedNumbers, WithUsedGives, with_used_after}
+use Rattle.c_prack_answers.specs.Given.{pracked_after, ValidatedNumbers, ValidatedGives, validated_number, validated_after}
 
 -- what was decided
 decided : {ts : List Tracked} {a : Result Value Refusal} {d : Decided Tracked Value} → deciding ts a ≡ Ok d → a ≡ d.answer
@@ -73,7 +75,7 @@ validated_returns id block time bytes used w after old left r e b g =
 -- the answer is yes or no, whatever the lent number was
 abbrev Flagged : Result Value Refusal → Type 0
 Flagged (Err cause) = Unit {0}
-Flagged (Ok v) = (old : ℕ) → to_bit (flag_after (Ok v) false) ≡ pracked_after (Ok v) old
+Flagged (Ok v) = (old : ℕ) → from_bool (flag_after (Ok v) false) ≡ pracked_after (Ok v) old
 
 flagged : (id : List ℕ) (r : ℕ) (bytes : List ℕ) (used : ℕ) → Flagged (ran rust_limits (is_pracked id r) bytes used).answer
 unfolding judge
@@ -83,17 +85,17 @@ flagged id r bytes used =
 
 pub pracked_returns : (id : List ℕ) (rseq : ℕ) (bytes : List ℕ) (used : ℕ) (w : Result Bool Refusal) (old left r : ℕ)
     → w ≡ pracked_of (ran rust_limits (is_pracked id rseq) bytes used).answer → bytes ≡ (ran rust_limits (is_pracked id rseq) bytes used).bytes → used ≡ (ran rust_limits (is_pracked id rseq) bytes used).used
-    → PrackedGives w old r left
+    → FlagGives w old r left
     → Returns (ran rust_limits (is_pracked id rseq) bytes used) bytes used r × (left ≡ pracked_after (ran rust_limits (is_pracked id rseq) bytes used).answer old)
 pracked_returns id rseq bytes used w old left r e b u g =
     let a = (ran rust_limits (is_pracked id rseq) bytes used).answer in
-    (record { bytes_are = b; used_is = u; number_is = g.number_is ∙ (ap pracked_number e ∙ number_same a) }, g.left_is ∙ (ap (λ (x : Result Bool Refusal). pracked_left x old) e ∙ flag_same a (flagged id rseq bytes used)))
+    (record { bytes_are = b; used_is = u; number_is = g.number_is ∙ (ap number_in e ∙ number_same a) }, g.left_is ∙ (ap (λ (x : Result Bool Refusal). flag_left x old) e ∙ flag_same a (flagged id rseq bytes used)))
   where
-    number_same : (a : Result Value Refusal) → pracked_number (pracked_of a) ≡ number_in a
+    number_same : (a : Result Value Refusal) → number_in (pracked_of a) ≡ number_in a
     number_same (Err cause) = refl
     number_same (Ok v) = refl
 
-    flag_same : (a : Result Value Refusal) → Flagged a → pracked_left (pracked_of a) old ≡ pracked_after a old
+    flag_same : (a : Result Value Refusal) → Flagged a → flag_left (pracked_of a) old ≡ pracked_after a old
     flag_same (Err cause) k = refl
     flag_same (Ok v) k = k old
 
@@ -114,28 +116,28 @@ sized id time room bytes used =
     by ts d (Err cause) e = absurd (let z : ◌≡◌ {A = ℕ} 0 1 = cc in omega arith)
     by ts d (Ok s) e = subst Sized (decided e) (λ old. refl)
 
-pub listed_returns : (id : List ℕ) (time room : ℕ) (bytes : List ℕ) (used : ℕ) (w : Result (ℕ × ℕ) Refusal) (after : List ℕ) (old : ℕ) (left : ListedNumbers) (r : ℕ)
+pub listed_returns : (id : List ℕ) (time room : ℕ) (bytes : List ℕ) (used : ℕ) (w : Result (ℕ × ℕ) Refusal) (after : List ℕ) (old : ℕ) (left : WithUsedNumbers ℕ) (r : ℕ)
     → w ≡ listed_in (ran rust_limits (get_pending id time room) bytes used) → after ≡ (ran rust_limits (get_pending id time room) bytes used).bytes
-    → used_listed w used ≡ (ran rust_limits (get_pending id time room) bytes used).used → ListedGives w (record { used = used; written = old }) r left
-    → Returns (ran rust_limits (get_pending id time room) bytes used) after left.used r × (left.written ≡ length_after (ran rust_limits (get_pending id time room) bytes used).answer old)
+    → used_listed w used ≡ (ran rust_limits (get_pending id time room) bytes used).used → WithUsedGives w (record { used = used; value = old }) r left
+    → Returns (ran rust_limits (get_pending id time room) bytes used) after left.used r × (left.value ≡ length_after (ran rust_limits (get_pending id time room) bytes used).answer old)
 listed_returns id time room bytes used w after old left r e b u g =
     let l = ran rust_limits (get_pending id time room) bytes used in (
       record {
         bytes_are = b;
-        used_is = ap (λ (x : ListedNumbers). x.used) g.left_is ∙ (used_same w ∙ u);
-        number_is = g.number_is ∙ (ap listed_number e ∙ number_same l.answer l.used);
+        used_is = ap (λ (x : WithUsedNumbers ℕ). x.used) g.left_is ∙ (used_same w ∙ u);
+        number_is = g.number_is ∙ (ap number_in e ∙ number_same l.answer l.used);
       },
-      ap (λ (x : ListedNumbers). x.written) g.left_is ∙ (ap (λ (x : Result (ℕ × ℕ) Refusal). (listed_after x (record { used = used; written = old })).written) e ∙ size_same l.answer l.used (sized id time room bytes used)),
+      ap (λ (x : WithUsedNumbers ℕ). x.value) g.left_is ∙ (ap (λ (x : Result (ℕ × ℕ) Refusal). (with_used_after x (record { used = used; value = old })).value) e ∙ size_same l.answer l.used (sized id time room bytes used)),
     )
   where
-    used_same : (x : Result (ℕ × ℕ) Refusal) → (listed_after x (record { used = used; written = old })).used ≡ used_listed x used
+    used_same : (x : Result (ℕ × ℕ) Refusal) → (with_used_after x (record { used = used; value = old })).used ≡ used_listed x used
     used_same (Err cause) = refl
     used_same (Ok (n, m)) = refl
 
-    number_same : (a : Result Value Refusal) (m : ℕ) → listed_number (listed_by a m) ≡ number_in a
+    number_same : (a : Result Value Refusal) (m : ℕ) → number_in (listed_by a m) ≡ number_in a
     number_same (Err cause) m = refl
     number_same (Ok v) m = refl
 
-    size_same : (a : Result Value Refusal) (m : ℕ) → Sized a → (listed_after (listed_by a m) (record { used = used; written = old })).written ≡ length_after a old
+    size_same : (a : Result Value Refusal) (m : ℕ) → Sized a → (with_used_after (listed_by a m) (record { used = used; value = old })).value ≡ length_after a old
     size_same (Err cause) m k = refl
     size_same (Ok v) m k = k old

@@ -1,7 +1,7 @@
-// Answers of the calls on a PRACK store handed over to a C caller: the number is returned, and the values go to the lent numbers.
+// The answer to a PRACK handed over to a C caller: the number is returned, and the values go to the lent numbers.
 #![tactic(auto)]
 
-ghost use Rattle.c_prack_answers.specs.Given.{rack_of, ValidatedGives, PrackedGives, ListedGives};
+ghost use Rattle.c_prack_answers.specs.Given.{rack_of, ValidatedGives};
 
 use limits::Refusal;
 use prack_validator::Validated;
@@ -28,36 +28,5 @@ pub fn give_validated(
             *used = length;
             x.number()
         }
-    }
-}
-
-// Whether the response is acknowledged: 1 or 0.
-pub fn give_pracked(answer: Result<bool, Refusal>, pracked: &mut u8) -> u8
-    ensures { PrackedGives answer pracked.old result pracked.new }
-{
-    match answer {
-        Ok(yes) => {
-            *pracked = yes as u8;
-            0
-        }
-        Err(x) => x.number(),
-    }
-}
-
-// How many bytes of the output were written, and the new used length.
-pub fn give_listed(
-    answer: Result<(usize, usize), Refusal>,
-    used: &mut usize,
-    written: &mut usize,
-) -> u8
-    ensures { ListedGives answer (record { used = used.old; written = written.old }) result (record { used = used.new; written = written.new }) }
-{
-    match answer {
-        Ok((n, length)) => {
-            *used = length;
-            *written = n;
-            0
-        }
-        Err(x) => x.number(),
     }
 }

@@ -13,31 +13,31 @@ use Rattle.book.specs.Returned.{Returns, count_after}
 use Rattle.book.proofs.WayLaws.{refusal_keeps}
 use Rattle.book.proofs.ReadingLaws.{reading_run}
 use Rattle.dialog_manager.specs.Answers.{written_by, written_in}
-use Rattle.c_answers.specs.Given.{WrittenGives, written_number, written_after}
+use Rattle.c_answers.specs.Given.{ValueGives, value_after}
 use Rattle.c_store_answers.specs.Given.{CountedGives, CountedNumbers, counted_after}
 
 -- ---- a refused call keeps the used length
 
-number_same : (a : Answer) (n : ℕ) → written_number (written_by n a) ≡ number_in a
+number_same : (a : Answer) (n : ℕ) → number_in (written_by n a) ≡ number_in a
 number_same (Err cause) n = refl
 number_same (Ok v) n = refl
 
 module _ (L : LimitSet) (c : Call) (bytes : List ℕ) (used : ℕ) where
   -- the used length after a call is the one answered, or the old one
-  used_after_lem : written_after (written_in (run L c bytes used)) used ≡ (run L c bytes used).used
+  used_after_lem : value_after (written_in (run L c bytes used)) used ≡ (run L c bytes used).used
   used_after_lem = by (run L c bytes used).answer refl
     where
-      by : (a : Answer) → (run L c bytes used).answer ≡ a → written_after (written_in (run L c bytes used)) used ≡ (run L c bytes used).used
-      by (Err cause) e = ap (λ (a : Answer). written_after (written_by (run L c bytes used).used a) used) e ∙ sym (ap (λ (l : Left). l.used) (refusal_keeps L c bytes used cause e))
-      by (Ok v) e = ap (λ (a : Answer). written_after (written_by (run L c bytes used).used a) used) e
+      by : (a : Answer) → (run L c bytes used).answer ≡ a → value_after (written_in (run L c bytes used)) used ≡ (run L c bytes used).used
+      by (Err cause) e = ap (λ (a : Answer). value_after (written_by (run L c bytes used).used a) used) e ∙ sym (ap (λ (l : Left). l.used) (refusal_keeps L c bytes used cause e))
+      by (Ok v) e = ap (λ (a : Answer). value_after (written_by (run L c bytes used).used a) used) e
 
   -- a call that answers the new used length
   pub written_returns : (w : Result ℕ Refusal) (after : List ℕ) (left r : ℕ) → w ≡ written_in (run L c bytes used) → after ≡ (run L c bytes used).bytes
-      → WrittenGives w used r left → Returns (run L c bytes used) after left r
+      → ValueGives w used r left → Returns (run L c bytes used) after left r
   written_returns w after left r e b g = record {
     bytes_are = b;
-    used_is = g.left_is ∙ (ap (λ x. written_after x used) e ∙ used_after_lem);
-    number_is = g.number_is ∙ (ap written_number e ∙ number_same (run L c bytes used).answer (run L c bytes used).used);
+    used_is = g.left_is ∙ (ap (λ x. value_after x used) e ∙ used_after_lem);
+    number_is = g.number_is ∙ (ap number_in e ∙ number_same (run L c bytes used).answer (run L c bytes used).used);
   }
 
   -- a call that answers the new used length, and counts
@@ -46,13 +46,13 @@ module _ (L : LimitSet) (c : Call) (bytes : List ℕ) (used : ℕ) where
   counted_returns w after old left r e b g = (
     record {
       bytes_are = b;
-      used_is = ap (λ (x : CountedNumbers). x.used) g.left_is ∙ (used_same w ∙ (ap (λ x. written_after x used) e ∙ used_after_lem));
-      number_is = g.number_is ∙ (ap written_number e ∙ number_same (run L c bytes used).answer (run L c bytes used).used);
+      used_is = ap (λ (x : CountedNumbers). x.used) g.left_is ∙ (used_same w ∙ (ap (λ x. value_after x used) e ∙ used_after_lem));
+      number_is = g.number_is ∙ (ap number_in e ∙ number_same (run L c bytes used).answer (run L c bytes used).used);
     },
     ap (λ (x : CountedNumbers). x.count) g.left_is ∙ (ap (λ (x : Result ℕ Refusal). (counted_after x (record { used = used; count = old })).count) e ∙ count_same (run L c bytes used).answer (run L c bytes used).used),
   )
     where
-      used_same : (x : Result ℕ Refusal) → (counted_after x (record { used = used; count = old })).used ≡ written_after x used
+      used_same : (x : Result ℕ Refusal) → (counted_after x (record { used = used; count = old })).used ≡ value_after x used
       used_same (Err cause) = refl
       used_same (Ok n) = refl
 

@@ -23,29 +23,24 @@ use Rattle.book.proofs.ReadingLaws.{local_value, identifiers_value}
 use Rattle.dialog_manager.specs.Answers.{written_by, written_in, ids_written}
 use Rattle.store_entries.specs.Entries.{raised_by, raised_in}
 use Rattle.dialog_manager.proofs.LookupLaws.{Kept, kept, store_refuses, replies}
-use Rattle.c_answers.specs.Given.{WrittenGives, written_number, written_after, HeldGives, held_number, held_after}
-use Rattle.c_image_answers.specs.Given.{RaisedGives, RaisedNumbers, raised_number, raised_after, SetGives, SetNumbers, set_number, set_after}
+use Rattle.c_answers.specs.Given.{ValueGives, value_after, WithUsedGives, WithUsedNumbers, with_used_after, WithLeastGives, WithLeastNumbers, with_least_after}
 use Rattle.c_store_answers.proofs.ReturnLaws.{written_returns}
 
 -- ---- a new interval: 13's least
 
 module _ (L : LimitSet) (c : Call) (bytes : List ℕ) (used : ℕ) where
-  pub set_returns : (w : Result ℕ Refusal) (after : List ℕ) (old : ℕ) (left : SetNumbers) (r : ℕ) → w ≡ written_in (run L c bytes used) → after ≡ (run L c bytes used).bytes
-      → SetGives w (record { used = used; least = old }) r left → Returns (run L c bytes used) after left.used r × (left.least ≡ least_after (run L c bytes used).answer old)
+  pub set_returns : (w : Result ℕ Refusal) (after : List ℕ) (old : ℕ) (left : WithLeastNumbers ℕ) (r : ℕ) → w ≡ written_in (run L c bytes used) → after ≡ (run L c bytes used).bytes
+      → WithLeastGives w (record { value = used; least = old }) r left → Returns (run L c bytes used) after left.value r × (left.least ≡ least_after (run L c bytes used).answer old)
   set_returns w after old left r e b g = (
-    written_returns L c bytes used w after left.used r e b (record { number_is = g.number_is ∙ number_same w; left_is = ap (λ (x : SetNumbers). x.used) g.left_is ∙ used_same w }),
-    ap (λ (x : SetNumbers). x.least) g.left_is ∙ (ap (λ (x : Result ℕ Refusal). (set_after x (record { used = used; least = old })).least) e ∙ least_same (run L c bytes used).answer (run L c bytes used).used),
+    written_returns L c bytes used w after left.value r e b (record { number_is = g.number_is; left_is = ap (λ (x : WithLeastNumbers ℕ). x.value) g.left_is ∙ used_same w }),
+    ap (λ (x : WithLeastNumbers ℕ). x.least) g.left_is ∙ (ap (λ (x : Result ℕ Refusal). (with_least_after x (record { value = used; least = old })).least) e ∙ least_same (run L c bytes used).answer (run L c bytes used).used),
   )
     where
-      number_same : (x : Result ℕ Refusal) → set_number x ≡ written_number x
-      number_same (Err cause) = refl
-      number_same (Ok n) = refl
-
-      used_same : (x : Result ℕ Refusal) → (set_after x (record { used = used; least = old })).used ≡ written_after x used
+      used_same : (x : Result ℕ Refusal) → (with_least_after x (record { value = used; least = old })).value ≡ value_after x used
       used_same (Err cause) = refl
       used_same (Ok n) = refl
 
-      least_same : (a : Answer) (n : ℕ) → (set_after (written_by n a) (record { used = used; least = old })).least ≡ least_after a old
+      least_same : (a : Answer) (n : ℕ) → (with_least_after (written_by n a) (record { value = used; least = old })).least ≡ least_after a old
       least_same (Err cause) n = refl
       least_same (Ok v) n = refl
 
@@ -63,27 +58,27 @@ module _ (L : LimitSet) (n : ℕ) (i : Ident) (bytes : List ℕ) (used : ℕ) wh
   numbered : (v : Value) → (run L the_call bytes used).answer ≡ Ok v → Numbered (Ok v)
   numbered v e = let k = local_value L n bytes used v i e in subst (λ (x : Value). Numbered (Ok x)) (sym k.1) (λ old. refl)
 
-  pub raised_returns : (w : Result (ℕ × ℕ) Refusal) (after : List ℕ) (old : ℕ) (left : RaisedNumbers) (r : ℕ) → w ≡ raised_in (run L the_call bytes used)
-      → after ≡ (run L the_call bytes used).bytes → RaisedGives w (record { used = used; number = old }) r left
-      → Returns (run L the_call bytes used) after left.used r × (left.number ≡ number_after (run L the_call bytes used).answer old)
+  pub raised_returns : (w : Result (ℕ × ℕ) Refusal) (after : List ℕ) (old : ℕ) (left : WithUsedNumbers ℕ) (r : ℕ) → w ≡ raised_in (run L the_call bytes used)
+      → after ≡ (run L the_call bytes used).bytes → WithUsedGives w (record { used = used; value = old }) r left
+      → Returns (run L the_call bytes used) after left.used r × (left.value ≡ number_after (run L the_call bytes used).answer old)
   raised_returns w after old left r e b g = by (run L the_call bytes used).answer (run L the_call bytes used).used refl refl
     where
       by : (a : Answer) (m : ℕ) → (run L the_call bytes used).answer ≡ a → (run L the_call bytes used).used ≡ m
-          → Returns (run L the_call bytes used) after left.used r × (left.number ≡ number_after (run L the_call bytes used).answer old)
+          → Returns (run L the_call bytes used) after left.used r × (left.value ≡ number_after (run L the_call bytes used).answer old)
       by (Err cause) m p q =
           let x : w ≡ Err cause = e ∙ ap (raised_by (run L the_call bytes used).used) p in
-          let y : left ≡ record { used = used; number = old } = g.left_is ∙ ap (λ (z : Result (ℕ × ℕ) Refusal). raised_after z (record { used = used; number = old })) x in (
+          let y : left ≡ record { used = used; value = old } = g.left_is ∙ ap (λ (z : Result (ℕ × ℕ) Refusal). with_used_after z (record { used = used; value = old })) x in (
             written_returns L the_call bytes used (Err cause) after left.used r (sym (ap (written_by (run L the_call bytes used).used) p)) b
-                (record { number_is = g.number_is ∙ ap raised_number x; left_is = ap (λ (z : RaisedNumbers). z.used) y }),
-            ap (λ (z : RaisedNumbers). z.number) y ∙ sym (ap (λ (a : Answer). number_after a old) p),
+                (record { number_is = g.number_is ∙ ap number_in x; left_is = ap (λ (z : WithUsedNumbers ℕ). z.used) y }),
+            ap (λ (z : WithUsedNumbers ℕ). z.value) y ∙ sym (ap (λ (a : Answer). number_after a old) p),
           )
       by (Ok v) m p q =
           let x : w ≡ Ok (number_after (Ok v) 0, m) = e ∙ (ap (raised_by (run L the_call bytes used).used) p ∙ ap (λ (k : ℕ). Ok (number_after (Ok v) 0, k)) q) in
-          let y : left ≡ record { used = m; number = number_after (Ok v) 0 } = g.left_is ∙ ap (λ (z : Result (ℕ × ℕ) Refusal). raised_after z (record { used = used; number = old })) x in
+          let y : left ≡ record { used = m; value = number_after (Ok v) 0 } = g.left_is ∙ ap (λ (z : Result (ℕ × ℕ) Refusal). with_used_after z (record { used = used; value = old })) x in
           let k : Numbered (Ok v) = numbered v p in (
             written_returns L the_call bytes used (Ok m) after left.used r (sym (ap (written_by (run L the_call bytes used).used) p ∙ ap Ok q)) b
-                (record { number_is = g.number_is ∙ ap raised_number x; left_is = ap (λ (z : RaisedNumbers). z.used) y }),
-            ap (λ (z : RaisedNumbers). z.number) y ∙ (k old ∙ sym (ap (λ (a : Answer). number_after a old) p)),
+                (record { number_is = g.number_is ∙ ap number_in x; left_is = ap (λ (z : WithUsedNumbers ℕ). z.used) y }),
+            ap (λ (z : WithUsedNumbers ℕ). z.value) y ∙ (k old ∙ sym (ap (λ (a : Answer). number_after a old) p)),
           )
 
 -- ---- the count
@@ -108,19 +103,19 @@ module _ (L : LimitSet) (n : ℕ) (bytes : List ℕ) (used : ℕ) (h : Bytes byt
       from false (Some b) e = absurd (let z : ◌≡◌ {A = ℕ} 0 1 = cc in omega arith)
 
   -- the count of the records is the answer of the reading
-  pub count_answers : (old r left : ℕ) → HeldGives (count_answer (records_held bytes used)) old r left
+  pub count_answers : (old r left : ℕ) → ValueGives (count_answer (records_held bytes used)) old r left
       → (r ≡ number_in (run L (read n count) bytes used).answer) × (left ≡ number_after (run L (read n count) bytes used).answer old)
   count_answers old r left g = by (count_answer (records_held bytes used)) refl
     where
       by : (a : Result ℕ Refusal) → count_answer (records_held bytes used) ≡ a → (r ≡ number_in (run L (read n count) bytes used).answer) × (left ≡ number_after (run L (read n count) bytes used).answer old)
       by (Err cause) e =
           let x : Err BadStore ≡ (run L (read n count) bytes used).answer = store_refuses L n count bytes used h none_asked e in
-          (g.number_is ∙ (ap held_number e ∙ (ap (λ (z : Refusal). held_number (Err z)) (only e) ∙ ap number_in x)), g.left_is ∙ (ap (λ (z : Result ℕ Refusal). held_after z old) e ∙ ap (λ (a : Answer). number_after a old) x))
+          (g.number_is ∙ (ap number_in e ∙ (ap (λ (z : Refusal). number_in {A = ℕ} (Err z)) (only e) ∙ ap number_in x)), g.left_is ∙ (ap (λ (z : Result ℕ Refusal). value_after z old) e ∙ ap (λ (a : Answer). number_after a old) x))
       by (Ok m) e =
           let k = kept bytes used e in
           let x = counts k in
           let y : m ≡ length k.contents.records = let u : Ok m ≡ Ok (length k.contents.records) = sym e ∙ ap count_answer k.held in cc in
-          (g.number_is ∙ (ap held_number e ∙ ap number_in x), g.left_is ∙ (ap (λ (z : Result ℕ Refusal). held_after z old) e ∙ (y ∙ ap (λ (a : Answer). number_after a old) x)))
+          (g.number_is ∙ (ap number_in e ∙ ap number_in x), g.left_is ∙ (ap (λ (z : Result ℕ Refusal). value_after z old) e ∙ (y ∙ ap (λ (a : Answer). number_after a old) x)))
 
 -- ---- the identifiers
 
@@ -133,7 +128,7 @@ module _ (L : LimitSet) (n room : ℕ) (bytes : List ℕ) (used : ℕ) where
   sized : (v : Value) → (run L (read n (all_ids room)) bytes used).answer ≡ Ok v → Sized (Ok v)
   sized v e = let k = identifiers_value L n bytes used v room e in subst (λ (x : Value). Sized (Ok x)) (sym k.1) (λ old. refl)
 
-  pub ids_answers : (w : Result ℕ Refusal) (old r left : ℕ) → w ≡ ids_written (run L (read n (all_ids room)) bytes used).answer → WrittenGives w old r left
+  pub ids_answers : (w : Result ℕ Refusal) (old r left : ℕ) → w ≡ ids_written (run L (read n (all_ids room)) bytes used).answer → ValueGives w old r left
       → (r ≡ number_in (run L (read n (all_ids room)) bytes used).answer) × (left ≡ length_after (run L (read n (all_ids room)) bytes used).answer old)
   ids_answers w old r left e g = by (run L (read n (all_ids room)) bytes used).answer refl
     where
@@ -141,8 +136,8 @@ module _ (L : LimitSet) (n room : ℕ) (bytes : List ℕ) (used : ℕ) where
           → (r ≡ number_in (run L (read n (all_ids room)) bytes used).answer) × (left ≡ length_after (run L (read n (all_ids room)) bytes used).answer old)
       by (Err cause) p =
           let x : w ≡ Err cause = e ∙ ap ids_written p in
-          (g.number_is ∙ (ap written_number x ∙ sym (ap number_in p)), g.left_is ∙ (ap (λ (z : Result ℕ Refusal). written_after z old) x ∙ sym (ap (λ (a : Answer). length_after a old) p)))
+          (g.number_is ∙ (ap number_in x ∙ sym (ap number_in p)), g.left_is ∙ (ap (λ (z : Result ℕ Refusal). value_after z old) x ∙ sym (ap (λ (a : Answer). length_after a old) p)))
       by (Ok v) p =
           let x : w ≡ Ok (length_after (Ok v) 0) = e ∙ ap ids_written p in
           let k : Sized (Ok v) = sized v p in
-          (g.number_is ∙ (ap written_number x ∙ sym (ap number_in p)), g.left_is ∙ (ap (λ (z : Result ℕ Refusal). written_after z old) x ∙ (k old ∙ sym (ap (λ (a : Answer). length_after a old) p))))
+          (g.number_is ∙ (ap number_in x ∙ sym (ap number_in p)), g.left_is ∙ (ap (λ (z : Result ℕ Refusal). value_after z old) x ∙ (k old ∙ sym (ap (λ (a : Answer). length_after a old) p))))

@@ -2,11 +2,12 @@
 -- of the call as data; here a short form of that, and a step of the code: what a put and a removal hand over.
 use Rattle.std.specs.Prelude.{ℕ, List, length, Err, Ok, Result}
 use Rattle.limits.specs.Limits.{rust_limits}
+use Rattle.limits.specs.Outcome.{number_in}
 use Rattle.limits.specs.declared.Refusal.{Refusal}
 use Rattle.metrics.specs.Metrics.{counted}
 use Rattle.book.specs.Calls.{Call, Reading, count}
 use Rattle.book.specs.Store.{Left, run}
-use Rattle.c_answers.specs.Given.{Gives, written_number}
+use Rattle.c_answers.specs.Given.{Gives}
 
 -- what a call leaves that is lent these bytes, so many of them used
 abbrev pub left_by : (ℕ → Call) → List ℕ → ℕ → Left
@@ -27,4 +28,4 @@ counted_after (Ok n) old = record { used = n; count = counted old.count }
 counted_after (Err cause) old = old
 
 abbrev pub CountedGives : Result ℕ Refusal → CountedNumbers → ℕ → CountedNumbers → Type 0
-CountedGives answer old r left = Gives (written_number answer) (counted_after answer old) r left
+CountedGives answer old r left = Gives (number_in answer) (counted_after answer old) r left

@@ -20,7 +20,7 @@ use Rattle.limits.specs.declared.Refusal.{Refusal}
 use Rattle.limits.specs.declared.Refusal.TheVariants.{TextTooLong, BadStore, NoRoom}
 use Rattle.limits.proofs.Laws.{number_positive}
 use Rattle.output.specs.Output.{fitted, leaves, written_from}
-use Rattle.c_answers.specs.Given.{written_number, written_after}
+use Rattle.c_answers.specs.Given.{value_after}
 use Rattle.listing_lines.specs.Listing.{listing, listing_of}
 use Rattle.record.specs.Record.{Record}
 use Rattle.record.specs.Store.{decode_all}
@@ -293,17 +293,17 @@ listing_kept bytes output output' size size' number x held l = record {
         rw (le-ltb rust_limits.listed_store (length bytes) h)
         (ap (λ o. and_then (or_refuse BadStore o) (λ rs. fitted (length output) (listing_of rs))) (records_read bytes x held))
 
-    by : (o : Result (List ℕ) Refusal) → listing rust_limits bytes (length output) ≡ o → (number ≡ number_in o) × ((output' ≡ leaves o output) × (size' ≡ written_after (written_from o) size))
+    by : (o : Result (List ℕ) Refusal) → listing rust_limits bytes (length output) ≡ o → (number ≡ number_in o) × ((output' ≡ leaves o output) × (size' ≡ value_after (written_from o) size))
     by o e =
         let whole : listing rust_limits l.store.now (length l.out.now) ≡ o = ap₂ (λ (s t : List ℕ). listing rust_limits s (length t)) l.store_is l.out_is ∙ e in (
-          l.kept.0.number_is ∙ (ap (λ v. written_number (written_from v)) whole ∙ number_of_lem o),
+          l.kept.0.number_is ∙ (ap (λ v. number_in (written_from v)) whole ∙ number_of_lem o),
           (
             sym l.out_then ∙ (l.kept.1 ∙ ap₂ (λ (v : Result (List ℕ) Refusal) (t : List ℕ). leaves v t) whole l.out_is),
-            sym l.size_then ∙ (l.kept.0.left_is ∙ ap₂ (λ (v : Result (List ℕ) Refusal) (n : ℕ). written_after (written_from v) n) whole l.size_is),
+            sym l.size_then ∙ (l.kept.0.left_is ∙ ap₂ (λ (v : Result (List ℕ) Refusal) (n : ℕ). value_after (written_from v) n) whole l.size_is),
           ),
         )
       where
-        number_of_lem : (v : Result (List ℕ) Refusal) → written_number (written_from v) ≡ number_in v
+        number_of_lem : (v : Result (List ℕ) Refusal) → number_in (written_from v) ≡ number_in v
         number_of_lem (Err cause) = refl
         number_of_lem (Ok s) = refl
 

@@ -21,7 +21,7 @@ use Rattle.rseq_manager.specs.RSeq.{Action, next, current, remove, len, ran, cal
 use Rattle.rseq_manager.specs.Answers.{emptiness}
 use Rattle.rseq_entries.proofs.FormLaws.{form_exact, filled}
 use Rattle.rseq_manager.proofs.History.{keeps, never_zero}
-use Rattle.c_rseq_answers.specs.Given.{value_after}
+use Rattle.c_answers.specs.Given.{value_after}
 use Rattle.sip_dialog.proofs.rseq.sip_dialog_rseq_next.Reads as next-reads
 use Rattle.sip_dialog.proofs.rseq.sip_dialog_rseq_current.Reads as current-reads
 use Rattle.sip_dialog.proofs.rseq.sip_dialog_rseq_remove.Reads as remove-reads

@@ -18,7 +18,7 @@ use Rattle.worst_minute.specs.Minute.{Verdict, Minute}
 use Rattle.worst_minute.specs.Calls.{added}
 use Rattle.worst_minute.specs.History.{Call, add, ask, answers, World, Left, used_after, nothing_asked, lent_to, on_bytes, lending, world, run_answers, Typed, EachSent, Follows}
 use Rattle.worst_minute.proofs.HistoryLaws.{stands, follows}
-use Rattle.c_answers.specs.Given.{written_number, written_after}
+use Rattle.c_answers.specs.Given.{value_after}
 use Rattle.c_minute_answers.specs.Given.{MinuteNumbers, minute_after}
 use Rattle.sip_dialog.proofs.verdicts.sip_dialog_add_verdict.Reads as add_reads
 use Rattle.sip_dialog.proofs.verdicts.sip_dialog_worst_minute.Reads as worst-reads
@@ -47,11 +47,11 @@ pub data Served : Call → (bytes : List ℕ) (used : ℕ) (after : List ℕ) (l
       → Served (ask (length run.now)) run.now used run.now used r (Some (numbers refusals.now found.now start.now)) (Some (numbers refusals'.now found'.now start'.now))
 
 -- what is handed over of an `add_verdict` is what it comes to
-number_same : (o : Result (List ℕ) Refusal) → written_number (written_from o) ≡ number_in (nothing_asked o)
+number_same : (o : Result (List ℕ) Refusal) → number_in (written_from o) ≡ number_in (nothing_asked o)
 number_same (Err cause) = refl
 number_same (Ok s) = refl
 
-used_same : (o : Result (List ℕ) Refusal) (used : ℕ) → written_after (written_from o) used ≡ used_after o used
+used_same : (o : Result (List ℕ) Refusal) (used : ℕ) → value_after (written_from o) used ≡ used_after o used
 used_same (Err cause) used = refl
 used_same (Ok s) used = refl
 

@@ -1,10 +1,10 @@
 // Tags and identifiers.
 ghost use Rattle.std.specs.Prelude.{◌≡◌};
 ghost use Rattle.limits.specs.Limits.{rust_limits};
-ghost use Rattle.limits.specs.Outcome.{check_of};
+ghost use Rattle.limits.specs.Outcome.{check_of, number_in};
 ghost use Rattle.headers.specs.Tag.{part_answer, extract_tag};
 ghost use Rattle.dialog_id.specs.DialogId.{identifier_cause, id_answer, from_request, from_response_uac, from_response_uas};
-ghost use Rattle.c_answers.specs.Given.{PartGives, IdGives, check_number};
+ghost use Rattle.c_answers.specs.Given.{PartGives, IdGives};
 
 use c_answers::{check_number, give_id, give_part};
 use dialog_id::DialogId;
@@ -18,7 +18,7 @@ pub fn sip_dialog_extract_tag(value: &[u8], place: &mut usize, length: &mut usiz
 
 // The check of an identifier's parts: 1, then 25, 26, 27 of each.
 pub fn sip_dialog_dialog_id_new(call_id: &[u8], local_tag: &[u8], remote_tag: &[u8]) -> u8
-    ensures { result ≡ check_number (check_of (identifier_cause rust_limits call_id.now local_tag.now remote_tag.now)) }
+    ensures { result ≡ number_in (check_of (identifier_cause rust_limits call_id.now local_tag.now remote_tag.now)) }
 {
     check_number(DialogId::new(call_id, local_tag, remote_tag))
 }

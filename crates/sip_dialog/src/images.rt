@@ -9,14 +9,11 @@ ghost use Rattle.dialog.specs.ImageRoutes.{image_route};
 ghost use Rattle.dialog.specs.Matching.{matches_request, matches_answer};
 ghost use Rattle.dialog_changes.specs.ImageUpdates.{confirmed, terminated, local_raised, raised_record, raised_answer, interval_set};
 ghost use Rattle.dialog_updates.specs.Messages.{requested, responded};
-ghost use Rattle.c_answers.specs.Given.{LookupGives, WrittenGives};
-ghost use Rattle.c_image_answers.specs.Given.{ImageIdGives, StateGives, UrisGives, NumbersGives, RouteCountGives, MatchesGives, RefreshGives, RaisedGives, SetGives};
+ghost use Rattle.c_answers.specs.Given.{ValueGives, FlagGives, WithUsedGives, WithLeastGives, LookupGives};
+ghost use Rattle.c_image_answers.specs.Given.{ImageIdGives, StateGives, UrisGives, NumbersGives, RouteCountGives};
 
-use c_answers::{give_lookup, give_written};
-use c_image_answers::{
-    give_image_id, give_matches, give_numbers, give_raised, give_refresh, give_route_count,
-    give_set, give_state, give_uris,
-};
+use c_answers::{give, give_flag, give_lookup, give_with_least, give_with_used};
+use c_image_answers::{give_image_id, give_numbers, give_route_count, give_state, give_uris};
 
 // Where the parts of the identifier lie: 3.
 pub fn sip_dialog_image_id(
@@ -123,16 +120,16 @@ pub fn sip_dialog_image_route(
 
 // Whether a request belongs to the record: 1, 2, 3.
 pub fn sip_dialog_image_matches_request(block: &[u8], image: &[u8], matches: &mut u8) -> u8
-    ensures { MatchesGives (matches_answer (matches_request rust_limits block.now image.now)) matches.old result matches.new }
+    ensures { FlagGives (matches_answer (matches_request rust_limits block.now image.now)) matches.old result matches.new }
 {
-    give_matches(dialog::matches_request(block, image), matches)
+    give_flag(dialog::matches_request(block, image), matches)
 }
 
 // Whether the session is to be refreshed after a time in nanoseconds: 3.
 pub fn sip_dialog_image_needs_refresh(image: &[u8], elapsed: u64, due: &mut u8) -> u8
-    ensures { RefreshGives (refresh_answer (refresh_of image.now elapsed)) due.old result due.new }
+    ensures { FlagGives (refresh_answer (refresh_of image.now elapsed)) due.old result due.new }
 {
-    give_refresh(dialog::needs_refresh(image, elapsed), due)
+    give_flag(dialog::needs_refresh(image, elapsed), due)
 }
 
 // A request from the peer: 1, 2, 3, 4, 9; ACK: 11; others: 10, 11, 12; 18.
@@ -142,10 +139,10 @@ pub fn sip_dialog_image_update_from_request(
     image: &mut [u8],
     used: &mut usize,
 ) -> u8
-    ensures written_gives { WrittenGives (written_from (requested rust_limits method.now block.now image.old used.old)) used.old result used.new }
+    ensures written_gives { ValueGives (written_from (requested rust_limits method.now block.now image.old used.old)) used.old result used.new }
     ensures image_after { image.new ≡ leaves (requested rust_limits method.now block.now image.old used.old) image.old }
 {
-    give_written(
+    give(
         dialog_requests::update_from_request(method, block, image, *used),
         used,
     )
@@ -158,10 +155,10 @@ pub fn sip_dialog_image_update_from_response(
     image: &mut [u8],
     used: &mut usize,
 ) -> u8
-    ensures written_gives { WrittenGives (written_from (responded rust_limits status block.now image.old used.old)) used.old result used.new }
+    ensures written_gives { ValueGives (written_from (responded rust_limits status block.now image.old used.old)) used.old result used.new }
     ensures image_after { image.new ≡ leaves (responded rust_limits status block.now image.old used.old) image.old }
 {
-    give_written(
+    give(
         dialog_responses::update_from_response(status, block, image, *used),
         used,
     )
@@ -169,26 +166,26 @@ pub fn sip_dialog_image_update_from_response(
 
 // Early becomes Confirmed: 3.
 pub fn sip_dialog_image_confirm(image: &mut [u8], used: &mut usize) -> u8
-    ensures written_gives { WrittenGives (written_from (confirmed image.old used.old)) used.old result used.new }
+    ensures written_gives { ValueGives (written_from (confirmed image.old used.old)) used.old result used.new }
     ensures image_after { image.new ≡ leaves (confirmed image.old used.old) image.old }
 {
-    give_written(dialog_changes::confirm(image, *used), used)
+    give(dialog_changes::confirm(image, *used), used)
 }
 
 // Every state becomes Terminated: 3.
 pub fn sip_dialog_image_terminate(image: &mut [u8], used: &mut usize) -> u8
-    ensures written_gives { WrittenGives (written_from (terminated image.old used.old)) used.old result used.new }
+    ensures written_gives { ValueGives (written_from (terminated image.old used.old)) used.old result used.new }
     ensures image_after { image.new ≡ leaves (terminated image.old used.old) image.old }
 {
-    give_written(dialog_changes::terminate(image, *used), used)
+    give(dialog_changes::terminate(image, *used), used)
 }
 
 // The next local number, kept in the image: 3, 18.
 pub fn sip_dialog_image_next_local_cseq(image: &mut [u8], used: &mut usize, number: &mut u32) -> u8
-    ensures raised_gives { RaisedGives (raised_answer (raised_record image.old used.old)) (record { used = used.old; number = number.old }) result (record { used = used.new; number = number.new }) }
+    ensures raised_gives { WithUsedGives (raised_answer (raised_record image.old used.old)) (record { used = used.old; value = number.old }) result (record { used = used.new; value = number.new }) }
     ensures image_after { image.new ≡ leaves (local_raised image.old used.old) image.old }
 {
-    give_raised(dialog_changes::next_local_cseq(image, *used), used, number)
+    give_with_used(dialog_changes::next_local_cseq(image, *used), used, number)
 }
 
 // A new session interval in seconds: 3, 13 with the least, 14, 18.
@@ -198,10 +195,10 @@ pub fn sip_dialog_image_set_session_expires(
     seconds: u64,
     least: &mut u64,
 ) -> u8
-    ensures set_gives { SetGives (written_from (interval_set rust_limits seconds image.old used.old)) (record { used = used.old; least = least.old }) result (record { used = used.new; least = least.new }) }
+    ensures set_gives { WithLeastGives (written_from (interval_set rust_limits seconds image.old used.old)) (record { value = used.old; least = least.old }) result (record { value = used.new; least = least.new }) }
     ensures image_after { image.new ≡ leaves (interval_set rust_limits seconds image.old used.old) image.old }
 {
-    give_set(
+    give_with_least(
         dialog_changes::set_session_expires(image, *used, seconds),
         used,
         least,

@@ -5,38 +5,36 @@ ghost use Rattle.prack_headers.specs.Sequence.{number_answer, method_answer, rel
 ghost use Rattle.methods.specs.Methods.{method_lookup, method_number, method_text};
 ghost use Rattle.rack.specs.RAck.{rack_answer, parse_rack, format_rack};
 ghost use Rattle.output.specs.Output.{written_from, leaves};
-ghost use Rattle.c_answers.specs.Given.{NumberGives, MethodGives, ReliableGives, MethodLookupGives, WrittenGives, RackGives};
+ghost use Rattle.c_answers.specs.Given.{ValueGives, FlagGives, MethodLookupGives, RackGives};
 
-use c_answers::{
-    give_method, give_method_lookup, give_number, give_rack, give_reliable, give_written,
-};
+use c_answers::{give, give_flag, give_method_lookup, give_rack};
 
 // The number of a block's CSeq: 1, 2, 4.
 pub fn sip_dialog_cseq_number(block: &[u8], number: &mut u32) -> u8
-    ensures { NumberGives (number_answer (extract_cseq_number rust_limits block.now)) number.old result number.new }
+    ensures { ValueGives (number_answer (extract_cseq_number rust_limits block.now)) number.old result number.new }
 {
-    give_number(prack_headers::extract_cseq_number(block), number)
+    give(prack_headers::extract_cseq_number(block), number)
 }
 
 // The number of the method of a block's CSeq: 1, 2, 4.
 pub fn sip_dialog_cseq_method(block: &[u8], method: &mut u8) -> u8
-    ensures { MethodGives (method_answer (extract_cseq_method rust_limits block.now)) method.old result method.new }
+    ensures { ValueGives (method_answer (extract_cseq_method rust_limits block.now)) method.old result method.new }
 {
-    give_method(prack_headers::extract_cseq_method(block), method)
+    give(prack_headers::extract_cseq_method(block), method)
 }
 
 // The number of a block's RSeq: 1, 2, 4.
 pub fn sip_dialog_rseq(block: &[u8], number: &mut u32) -> u8
-    ensures { NumberGives (number_answer (extract_rseq rust_limits block.now)) number.old result number.new }
+    ensures { ValueGives (number_answer (extract_rseq rust_limits block.now)) number.old result number.new }
 {
-    give_number(prack_headers::extract_rseq(block), number)
+    give(prack_headers::extract_rseq(block), number)
 }
 
 // Whether a response is a reliable provisional: 1, 2.
 pub fn sip_dialog_is_reliable_provisional(status: u16, block: &[u8], reliable: &mut u8) -> u8
-    ensures { ReliableGives (reliable_answer (reliable_provisional rust_limits status block.now)) reliable.old result reliable.new }
+    ensures { FlagGives (reliable_answer (reliable_provisional rust_limits status block.now)) reliable.old result reliable.new }
 {
-    give_reliable(
+    give_flag(
         prack_headers::is_reliable_provisional(status, block),
         reliable,
     )
@@ -51,10 +49,10 @@ pub fn sip_dialog_method_number(text: &[u8], found: &mut u8, method: &mut u8) ->
 
 // The text of a method at the front of the lent bytes: 28, 18.
 pub fn sip_dialog_method_text(method: u8, out: &mut [u8], written: &mut usize) -> u8
-    ensures written_gives { WrittenGives (written_from (method_text method (length out.old))) written.old result written.new }
+    ensures written_gives { ValueGives (written_from (method_text method (length out.old))) written.old result written.new }
     ensures out_after { out.new ≡ leaves (method_text method (length out.old)) out.old }
 {
-    give_written(methods::method_text(method, out), written)
+    give(methods::method_text(method, out), written)
 }
 
 // The three parts of a RAck value: 1, 2, 19.
@@ -72,8 +70,8 @@ pub fn sip_dialog_format_rack(
     out: &mut [u8],
     written: &mut usize,
 ) -> u8
-    ensures written_gives { WrittenGives (written_from (format_rack rseq cseq method (length out.old))) written.old result written.new }
+    ensures written_gives { ValueGives (written_from (format_rack rseq cseq method (length out.old))) written.old result written.new }
     ensures out_after { out.new ≡ leaves (format_rack rseq cseq method (length out.old)) out.old }
 {
-    give_written(rack::format_rack(rseq, cseq, method, out), written)
+    give(rack::format_rack(rseq, cseq, method, out), written)
 }

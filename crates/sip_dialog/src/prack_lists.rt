@@ -7,8 +7,8 @@ ghost use Rattle.prack_validator.specs.Validator.{register, validate, is_pracked
 ghost use Rattle.prack_validator.specs.Answers.{rack_after, length_after, output_after};
 ghost use Rattle.c_prack_answers.specs.Given.{rack_of, pracked_after};
 
-use c_answers::give_written;
-use c_prack_answers::{give_listed, give_pracked, give_validated};
+use c_answers::{give, give_flag, give_with_used};
+use c_prack_answers::give_validated;
 
 // PrackValidator::register_reliable_provisional: 1, 28, 3, 18.
 pub fn sip_dialog_prack_register(
@@ -24,7 +24,7 @@ pub fn sip_dialog_prack_register(
     ensures returns { Returns (ran rust_limits (register id.now rseq cseq method code time) store.old used.old) store.new used.new result }
     ensures typed { Typed (register id.now rseq cseq method code time) }
 {
-    give_written(
+    give(
         prack_validator::register(id, rseq, cseq, method, code, time, store, *used),
         used,
     )
@@ -65,7 +65,7 @@ pub fn sip_dialog_prack_is_pracked(
     ensures returns { Returns (ran rust_limits (is_pracked id.now rseq) store.now used) store.now used result }
     ensures pracked_after { pracked.new ≡ pracked_after (ran rust_limits (is_pracked id.now rseq) store.now used).answer pracked.old }
 {
-    give_pracked(prack_validator::is_pracked(id, rseq, store, used), pracked)
+    give_flag(prack_validator::is_pracked(id, rseq, store, used), pracked)
 }
 
 // PrackValidator::get_pending, at the front of the lent output: 1, 3, 18.
@@ -82,7 +82,7 @@ pub fn sip_dialog_prack_get_pending(
     ensures written_after { written.new ≡ length_after (ran rust_limits (get_pending id.now time (length out.old)) store.old used.old).answer written.old }
     ensures typed { Typed (get_pending id.now time (length out.old)) }
 {
-    give_listed(
+    give_with_used(
         prack_validator::get_pending(id, time, store, *used, out),
         used,
         written,
@@ -93,7 +93,7 @@ pub fn sip_dialog_prack_get_pending(
 pub fn sip_dialog_prack_remove_dialog(id: &[u8], store: &mut [u8], used: &mut usize) -> u8
     ensures { Returns (ran rust_limits (remove_dialog id.now) store.old used.old) store.new used.new result }
 {
-    give_written(prack_removal::remove_dialog(id, store, *used), used)
+    give(prack_removal::remove_dialog(id, store, *used), used)
 }
 
 // PrackValidator::remove_pracked: 1, 3.
@@ -105,5 +105,5 @@ pub fn sip_dialog_prack_remove_pracked(
 ) -> u8
     ensures { Returns (ran rust_limits (remove_pracked id.now rseq) store.old used.old) store.new used.new result }
 {
-    give_written(prack_removal::remove_pracked(id, rseq, store, *used), used)
+    give(prack_removal::remove_pracked(id, rseq, store, *used), used)
 }

@@ -5,10 +5,10 @@ ghost use Rattle.ordered_store.specs.Run.{Returns};
 ghost use Rattle.dialog_id.specs.Ident.{ident};
 ghost use Rattle.rseq_manager.specs.RSeq.{next, current, remove, len, ran};
 ghost use Rattle.rseq_manager.specs.Answers.{emptiness};
-ghost use Rattle.c_rseq_answers.specs.Given.{value_after};
+ghost use Rattle.c_answers.specs.Given.{value_after};
 
-use c_answers::give_written;
-use c_rseq_answers::{give_count, give_current, give_empty, give_numbered};
+use c_answers::{give, give_with_used};
+use c_rseq_answers::give_empty;
 
 // RSeqManager::next_rseq: 1, 3, 18.
 pub fn sip_dialog_rseq_next(
@@ -23,7 +23,7 @@ pub fn sip_dialog_rseq_next(
     ensures returns { Returns (ran rust_limits (next (ident call_id.now local_tag.now remote_tag.now) n) store.old used.old) store.new used.new result }
     ensures rseq_after { rseq.new ≡ value_after (ran rust_limits (next (ident call_id.now local_tag.now remote_tag.now) n) store.old used.old).answer rseq.old }
 {
-    give_numbered(
+    give_with_used(
         rseq_manager::next_rseq(call_id, local_tag, remote_tag, n, store, *used),
         used,
         rseq,
@@ -42,7 +42,7 @@ pub fn sip_dialog_rseq_current(
     ensures returns { Returns (ran rust_limits (current (ident call_id.now local_tag.now remote_tag.now)) store.now used) store.now used result }
     ensures rseq_after { rseq.new ≡ value_after (ran rust_limits (current (ident call_id.now local_tag.now remote_tag.now)) store.now used).answer rseq.old }
 {
-    give_current(
+    give(
         rseq_manager::current_rseq(call_id, local_tag, remote_tag, store, used),
         rseq,
     )
@@ -58,7 +58,7 @@ pub fn sip_dialog_rseq_remove(
 ) -> u8
     ensures { Returns (ran rust_limits (remove (ident call_id.now local_tag.now remote_tag.now)) store.old used.old) store.new used.new result }
 {
-    give_written(
+    give(
         rseq_manager::remove(call_id, local_tag, remote_tag, store, *used),
         used,
     )
@@ -69,7 +69,7 @@ pub fn sip_dialog_rseq_len(store: &[u8], used: usize, count: &mut usize) -> u8
     ensures returns { Returns (ran rust_limits len store.now used) store.now used result }
     ensures count_after { count.new ≡ value_after (ran rust_limits len store.now used).answer count.old }
 {
-    give_count(rseq_manager::len(store, used), count)
+    give(rseq_manager::len(store, used), count)
 }
 
 // RSeqManager::is_empty: 3.

@@ -7,10 +7,10 @@ ghost use Rattle.dialog_id.specs.Ident.{ident};
 ghost use Rattle.book.specs.Calls.{read, get, find_by_request, find_by_call_id, all_ids};
 ghost use Rattle.book.specs.Store.{output_after};
 ghost use Rattle.book.specs.Returned.{Returns, number_after, place_after, length_after};
-ghost use Rattle.c_answers.specs.Given.{WrittenGives};
+ghost use Rattle.c_answers.specs.Given.{ValueGives};
 ghost use Rattle.c_store_answers.specs.Given.{left_by, counting};
 
-use c_answers::{give_held, give_written};
+use c_answers::give;
 use c_store_answers::give_place;
 
 // DialogManager::get: 1, 3, 15.
@@ -77,7 +77,7 @@ pub fn sip_dialog_count(store: &[u8], used: usize, count: &mut usize) -> u8
     ensures returns { Returns (left_by (λ n. read n counting) store.now used) store.now used result }
     ensures count_after { count.new ≡ number_after (left_by (λ n. read n counting) store.now used).answer count.old }
 {
-    give_held(store::count(store, used), count)
+    give(store::count(store, used), count)
 }
 
 // DialogManager::all_ids at the front of the lent bytes: 3, 18.
@@ -86,13 +86,13 @@ pub fn sip_dialog_all_ids(store: &[u8], used: usize, out: &mut [u8], written: &m
     ensures out_after { out.new ≡ output_after (left_by (λ n. read n (all_ids (length out.old))) store.now used).answer out.old }
     ensures written_after { written.new ≡ length_after (left_by (λ n. read n (all_ids (length out.old))) store.now used).answer written.old }
 {
-    give_written(store_ids::all_ids(store, used, out), written)
+    give(store_ids::all_ids(store, used, out), written)
 }
 
 // The handover listing at the front of the lent bytes: 1, 3, 18.
 pub fn sip_dialog_listing(bytes: &[u8], out: &mut [u8], written: &mut usize) -> u8
-    ensures written_gives { WrittenGives (written_from (listing rust_limits bytes.now (length out.old))) written.old result written.new }
+    ensures written_gives { ValueGives (written_from (listing rust_limits bytes.now (length out.old))) written.old result written.new }
     ensures out_after { out.new ≡ leaves (listing rust_limits bytes.now (length out.old)) out.old }
 {
-    give_written(listing_text::list_store(bytes, out), written)
+    give(listing_text::list_store(bytes, out), written)
 }

@@ -6,8 +6,7 @@ ghost use Rattle.book.specs.Trace.{All};
 ghost use Rattle.book.specs.Returned.{Returns, number_after, least_after, count_after};
 ghost use Rattle.c_store_answers.specs.Given.{left_by};
 
-use c_answers::give_written;
-use c_image_answers::{give_raised, give_set};
+use c_answers::{give, give_with_least, give_with_used};
 use c_store_answers::give_counted;
 
 // DialogManager::insert of one record image, and the created count: 3, 16, 17, 18. An image that is lent is made of bytes.
@@ -23,7 +22,7 @@ pub fn sip_dialog_put(image: &[u8], store: &mut [u8], used: &mut usize, created:
 pub fn sip_dialog_request(method: &[u8], block: &[u8], store: &mut [u8], used: &mut usize) -> u8
     ensures { Returns (left_by (λ n. update n (request method.now block.now)) store.old used.old) store.new used.new result }
 {
-    give_written(store_requests::request(method, block, store, *used), used)
+    give(store_requests::request(method, block, store, *used), used)
 }
 
 // Dialog::update_from_response of the record of an identifier: 1, 2, 3, 15, 18.
@@ -38,7 +37,7 @@ pub fn sip_dialog_response(
 ) -> u8
     ensures { Returns (left_by (λ n. update n (response (ident call_id.now local_tag.now remote_tag.now) status block.now)) store.old used.old) store.new used.new result }
 {
-    give_written(
+    give(
         store_updates::response(call_id, local_tag, remote_tag, status, block, store, *used),
         used,
     )
@@ -54,7 +53,7 @@ pub fn sip_dialog_terminate(
 ) -> u8
     ensures { Returns (left_by (λ n. update n (terminate (ident call_id.now local_tag.now remote_tag.now))) store.old used.old) store.new used.new result }
 {
-    give_written(
+    give(
         store_updates::terminate(call_id, local_tag, remote_tag, store, *used),
         used,
     )
@@ -72,7 +71,7 @@ pub fn sip_dialog_next_local_cseq(
     ensures returns { Returns (left_by (λ n. update n (local_number (ident call_id.now local_tag.now remote_tag.now))) store.old used.old) store.new used.new result }
     ensures number_after { number.new ≡ number_after (left_by (λ n. update n (local_number (ident call_id.now local_tag.now remote_tag.now))) store.old used.old).answer number.old }
 {
-    give_raised(
+    give_with_used(
         store_updates::next_local_cseq(call_id, local_tag, remote_tag, store, *used),
         used,
         number,
@@ -92,7 +91,7 @@ pub fn sip_dialog_set_session_expires(
     ensures returns { Returns (left_by (λ n. update n (interval (ident call_id.now local_tag.now remote_tag.now) seconds)) store.old used.old) store.new used.new result }
     ensures least_after { least.new ≡ least_after (left_by (λ n. update n (interval (ident call_id.now local_tag.now remote_tag.now) seconds)) store.old used.old).answer least.old }
 {
-    give_set(
+    give_with_least(
         store_updates::set_session_expires(call_id, local_tag, remote_tag, seconds, store, *used),
         used,
         least,
@@ -122,5 +121,5 @@ pub fn sip_dialog_remove(
 pub fn sip_dialog_sweep(store: &mut [u8], used: &mut usize) -> u8
     ensures { Returns (left_by (λ n. sweep n) store.old used.old) store.new used.new result }
 {
-    give_written(store_edits::sweep(store, *used), used)
+    give(store_edits::sweep(store, *used), used)
 }

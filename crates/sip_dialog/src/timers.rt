@@ -1,13 +1,14 @@
 // Session intervals and the two counts.
 ghost use Rattle.std.specs.Prelude.{◌≡◌};
+ghost use Rattle.std.specs.Bool.{then_some};
 ghost use Rattle.limits.specs.Limits.{rust_limits};
 ghost use Rattle.session_timer_manager.specs.Answers.{time_of, seconds_of, text_if, interval_from, role_from};
 ghost use Rattle.session_timer_manager.specs.Intervals.{validated, negotiated, non_refresher_expiry, refresh_time, refresh_due};
 ghost use Rattle.session_timer_manager.specs.Refresher.{refresher_role};
 ghost use Rattle.metrics.specs.Metrics.{counted};
-ghost use Rattle.c_answers.specs.Given.{ValidatedGives, IntervalGives, RoleGives, optional_time, optional_seconds};
+ghost use Rattle.c_answers.specs.Given.{FlagGives, WithLeastGives, ValidatedGives};
 
-use c_answers::{give_interval, give_role, give_validated, seconds_if, time_if};
+use c_answers::{give_flag, give_validated, give_with_least};
 
 // An interval in nanoseconds against a minimum: 13 with the least.
 pub fn sip_dialog_validate_session_expires(
@@ -16,10 +17,10 @@ pub fn sip_dialog_validate_session_expires(
     minimum: u64,
     least: &mut u64,
 ) -> u8
-    ensures { ValidatedGives (interval_from (validated rust_limits interval (time_of (optional_time has_minimum minimum)))) least.old result least.new }
+    ensures { ValidatedGives (interval_from (validated rust_limits interval (time_of (then_some has_minimum minimum)))) least.old result least.new }
 {
     give_validated(
-        session_timer_manager::validate_session_expires(interval, time_if(has_minimum, minimum)),
+        session_timer_manager::validate_session_expires(interval, has_minimum.then_some(minimum)),
         least,
     )
 }
@@ -35,14 +36,14 @@ pub fn sip_dialog_negotiate_session_expires(
     interval: &mut u64,
     least: &mut u64,
 ) -> u8
-    ensures { IntervalGives (interval_from (negotiated requested local_minimum (time_of (optional_time has_remote_minimum remote_minimum)) (time_of (optional_time has_preference preference)))) (record { interval = interval.old; least = least.old }) result (record { interval = interval.new; least = least.new }) }
+    ensures { WithLeastGives (interval_from (negotiated requested local_minimum (time_of (then_some has_remote_minimum remote_minimum)) (time_of (then_some has_preference preference)))) (record { value = interval.old; least = least.old }) result (record { value = interval.new; least = least.new }) }
 {
-    give_interval(
+    give_with_least(
         session_timer_manager::negotiate_session_expires(
             requested,
             local_minimum,
-            time_if(has_remote_minimum, remote_minimum),
-            time_if(has_preference, preference),
+            has_remote_minimum.then_some(remote_minimum),
+            has_preference.then_some(preference),
         ),
         interval,
         least,
@@ -65,9 +66,9 @@ pub fn sip_dialog_calculate_refresh_time(interval: u64) -> u64
 
 // Whether a session of so many seconds is to be refreshed after a time in nanoseconds.
 pub fn sip_dialog_needs_refresh(has_interval: bool, seconds: u32, elapsed: u64) -> bool
-    ensures { result ≡ refresh_due (seconds_of (optional_seconds has_interval seconds)) elapsed }
+    ensures { result ≡ refresh_due (seconds_of (then_some has_interval seconds)) elapsed }
 {
-    session_timer_manager::needs_refresh(seconds_if(has_interval, seconds), elapsed)
+    session_timer_manager::needs_refresh(has_interval.then_some(seconds), elapsed)
 }
 
 // Whether we refresh: 1.
@@ -77,9 +78,9 @@ pub fn sip_dialog_determine_refresher_role(
     is_uac: bool,
     we_refresh: &mut u8,
 ) -> u8
-    ensures { RoleGives (role_from (refresher_role rust_limits (text_if given text.now) is_uac)) we_refresh.old result we_refresh.new }
+    ensures { FlagGives (role_from (refresher_role rust_limits (text_if given text.now) is_uac)) we_refresh.old result we_refresh.new }
 {
-    give_role(
+    give_flag(
         session_timer_manager::determine_refresher_role(given, text, is_uac),
         we_refresh,
     )

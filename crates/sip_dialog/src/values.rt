@@ -5,9 +5,9 @@ ghost use Rattle.text.specs.Answers.{lookup_of, next_of};
 ghost use Rattle.headers.specs.SessionExpires.{expires_answer, parse_expires, block_expires};
 ghost use Rattle.route_set.specs.Parts.{next_header_value};
 ghost use Rattle.route_set.specs.Routes.{contact, route_count, route_at, count_of};
-ghost use Rattle.c_answers.specs.Given.{NextGives, LookupGives, CountGives, ExpiresGives};
+ghost use Rattle.c_answers.specs.Given.{ValueGives, NextGives, LookupGives, ExpiresGives};
 
-use c_answers::{give_count, give_expires, give_lookup, give_next};
+use c_answers::{give, give_expires, give_lookup, give_next};
 
 // The next element of a value from a place on: 1, 2.
 pub fn sip_dialog_next_header_value(
@@ -38,9 +38,9 @@ pub fn sip_dialog_contact(block: &[u8], found: &mut u8, place: &mut usize, lengt
 
 // How many routes the Record-Route lines give: 1, 2, then 7 or 8.
 pub fn sip_dialog_route_count(block: &[u8], count: &mut usize) -> u8
-    ensures { CountGives (count_of (route_count rust_limits block.now)) count.old result count.new }
+    ensures { ValueGives (count_of (route_count rust_limits block.now)) count.old result count.new }
 {
-    give_count(route_set::route_count(block), count)
+    give(route_set::route_count(block), count)
 }
 
 // The text of the route at an index, as received or reversed: 1, 2, then 7 or 8.

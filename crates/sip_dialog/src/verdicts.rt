@@ -2,19 +2,19 @@
 ghost use Rattle.std.specs.Prelude.{◌≡◌, ◌<◌};
 ghost use Rattle.output.specs.Output.{leaves, written_from};
 ghost use Rattle.worst_minute.specs.Calls.{added, worst_in};
-ghost use Rattle.c_answers.specs.Given.{WrittenGives};
+ghost use Rattle.c_answers.specs.Given.{ValueGives};
 ghost use Rattle.c_minute_answers.specs.Given.{MinuteGives};
 
-use c_answers::give_written;
+use c_answers::give;
 use c_minute_answers::give_worst;
 
 // A verdict at the end of the run: 3, 18.
 pub fn sip_dialog_add_verdict(time: u64, number: u8, run: &mut [u8], used: &mut usize) -> u8
-    ensures written_gives { WrittenGives (written_from (added (record { time = time; number = number }) run.old used.old)) used.old result used.new }
+    ensures written_gives { ValueGives (written_from (added (record { time = time; number = number }) run.old used.old)) used.old result used.new }
     ensures run_after { run.new ≡ leaves (added (record { time = time; number = number }) run.old used.old) run.old }
     ensures time_bound { time < 18446744073709551616 }
 {
-    give_written(worst_minute::add_verdict(time, number, run, *used), used)
+    give(worst_minute::add_verdict(time, number, run, *used), used)
 }
 
 // The most refusals in 60 s that start at a verdict, and the earliest start that has them: 3.

@@ -2,16 +2,16 @@
 // Made by `tools/face write` from crates/sip_dialog/src, not by hand.
 ghost use Rattle.std.specs.Prelude.{◌≡◌};
 ghost use Rattle.limits.specs.Limits.{rust_limits};
-ghost use Rattle.limits.specs.Outcome.{check_of};
+ghost use Rattle.limits.specs.Outcome.{check_of, number_in};
 ghost use Rattle.text.specs.Answers.{lookup_of, next_of};
 ghost use Rattle.msg.specs.Block.{block_cause, lookup, lookup_from};
 ghost use Rattle.msg.specs.Status.{in_class, is_error_code};
-ghost use Rattle.c_answers.specs.Given.{LookupGives, NextGives, check_number};
+ghost use Rattle.c_answers.specs.Given.{LookupGives, NextGives};
 
 // The check of a header block: 1, 2.
 #[unsafe(no_mangle)]
 pub extern "C" fn sip_dialog_check_block(block: &[u8]) -> u8
-    ensures { result ≡ check_number (check_of (block_cause rust_limits block.now)) }
+    ensures { result ≡ number_in (check_of (block_cause rust_limits block.now)) }
 {
     sip_dialog::blocks::sip_dialog_check_block(block)
 }

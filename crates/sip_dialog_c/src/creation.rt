@@ -5,7 +5,7 @@ ghost use Rattle.limits.specs.Limits.{rust_limits};
 ghost use Rattle.output.specs.Output.{written_from, leaves};
 ghost use Rattle.record.specs.Record.{uac, uas};
 ghost use Rattle.dialog_creation.specs.NewImage.{new_image};
-ghost use Rattle.c_image_answers.specs.Given.{SetGives};
+ghost use Rattle.c_answers.specs.Given.{WithLeastGives};
 
 // The record of a dialog that our request opens, by the response to it: 1, 2, 6, 4, 5, 7, 8, 4, 9, 10, 13 with 90, 14, 18.
 #[unsafe(no_mangle)]
@@ -20,7 +20,7 @@ pub extern "C" fn sip_dialog_new_uac<'a>(
     written: &mut usize,
     least: &mut u64,
 ) -> u8
-    ensures set_gives { SetGives (written_from (new_image rust_limits uac (record { method = method.now; request = request.now; status = status; response = response.now; local_uri = local_uri.now; remote_uri = remote_uri.now }) (length out.old))) (record { used = written.old; least = least.old }) result (record { used = written.new; least = least.new }) }
+    ensures set_gives { WithLeastGives (written_from (new_image rust_limits uac (record { method = method.now; request = request.now; status = status; response = response.now; local_uri = local_uri.now; remote_uri = remote_uri.now }) (length out.old))) (record { value = written.old; least = least.old }) result (record { value = written.new; least = least.new }) }
     ensures out_after { out.new ≡ leaves (new_image rust_limits uac (record { method = method.now; request = request.now; status = status; response = response.now; local_uri = local_uri.now; remote_uri = remote_uri.now }) (length out.old)) out.old }
 {
     sip_dialog::creation::sip_dialog_new_uac(
@@ -41,7 +41,7 @@ pub extern "C" fn sip_dialog_new_uas<'a>(
     written: &mut usize,
     least: &mut u64,
 ) -> u8
-    ensures set_gives { SetGives (written_from (new_image rust_limits uas (record { method = method.now; request = request.now; status = status; response = response.now; local_uri = local_uri.now; remote_uri = remote_uri.now }) (length out.old))) (record { used = written.old; least = least.old }) result (record { used = written.new; least = least.new }) }
+    ensures set_gives { WithLeastGives (written_from (new_image rust_limits uas (record { method = method.now; request = request.now; status = status; response = response.now; local_uri = local_uri.now; remote_uri = remote_uri.now }) (length out.old))) (record { value = written.old; least = least.old }) result (record { value = written.new; least = least.new }) }
     ensures out_after { out.new ≡ leaves (new_image rust_limits uas (record { method = method.now; request = request.now; status = status; response = response.now; local_uri = local_uri.now; remote_uri = remote_uri.now }) (length out.old)) out.old }
 {
     sip_dialog::creation::sip_dialog_new_uas(

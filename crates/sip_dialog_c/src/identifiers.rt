@@ -2,10 +2,10 @@
 // Made by `tools/face write` from crates/sip_dialog/src, not by hand.
 ghost use Rattle.std.specs.Prelude.{◌≡◌};
 ghost use Rattle.limits.specs.Limits.{rust_limits};
-ghost use Rattle.limits.specs.Outcome.{check_of};
+ghost use Rattle.limits.specs.Outcome.{check_of, number_in};
 ghost use Rattle.headers.specs.Tag.{part_answer, extract_tag};
 ghost use Rattle.dialog_id.specs.DialogId.{identifier_cause, id_answer, from_request, from_response_uac, from_response_uas};
-ghost use Rattle.c_answers.specs.Given.{PartGives, IdGives, check_number};
+ghost use Rattle.c_answers.specs.Given.{PartGives, IdGives};
 
 // The tag of a From or To value: 1, 2, 4.
 #[unsafe(no_mangle)]
@@ -22,7 +22,7 @@ pub extern "C" fn sip_dialog_dialog_id_new(
     local_tag: &[u8],
     remote_tag: &[u8],
 ) -> u8
-    ensures { result ≡ check_number (check_of (identifier_cause rust_limits call_id.now local_tag.now remote_tag.now)) }
+    ensures { result ≡ number_in (check_of (identifier_cause rust_limits call_id.now local_tag.now remote_tag.now)) }
 {
     sip_dialog::identifiers::sip_dialog_dialog_id_new(call_id, local_tag, remote_tag)
 }

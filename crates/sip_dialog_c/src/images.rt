@@ -10,8 +10,8 @@ ghost use Rattle.dialog.specs.ImageRoutes.{image_route};
 ghost use Rattle.dialog.specs.Matching.{matches_request, matches_answer};
 ghost use Rattle.dialog_changes.specs.ImageUpdates.{confirmed, terminated, local_raised, raised_record, raised_answer, interval_set};
 ghost use Rattle.dialog_updates.specs.Messages.{requested, responded};
-ghost use Rattle.c_answers.specs.Given.{LookupGives, WrittenGives};
-ghost use Rattle.c_image_answers.specs.Given.{ImageIdGives, StateGives, UrisGives, NumbersGives, RouteCountGives, MatchesGives, RefreshGives, RaisedGives, SetGives};
+ghost use Rattle.c_answers.specs.Given.{ValueGives, FlagGives, WithUsedGives, WithLeastGives, LookupGives};
+ghost use Rattle.c_image_answers.specs.Given.{ImageIdGives, StateGives, UrisGives, NumbersGives, RouteCountGives};
 
 // Where the parts of the identifier lie: 3.
 #[unsafe(no_mangle)]
@@ -129,7 +129,7 @@ pub extern "C" fn sip_dialog_image_matches_request(
     image: &[u8],
     matches: &mut u8,
 ) -> u8
-    ensures { MatchesGives (matches_answer (matches_request rust_limits block.now image.now)) matches.old result matches.new }
+    ensures { FlagGives (matches_answer (matches_request rust_limits block.now image.now)) matches.old result matches.new }
 {
     sip_dialog::images::sip_dialog_image_matches_request(block, image, matches)
 }
@@ -137,7 +137,7 @@ pub extern "C" fn sip_dialog_image_matches_request(
 // Whether the session is to be refreshed after a time in nanoseconds: 3.
 #[unsafe(no_mangle)]
 pub extern "C" fn sip_dialog_image_needs_refresh(image: &[u8], elapsed: u64, due: &mut u8) -> u8
-    ensures { RefreshGives (refresh_answer (refresh_of image.now elapsed)) due.old result due.new }
+    ensures { FlagGives (refresh_answer (refresh_of image.now elapsed)) due.old result due.new }
 {
     sip_dialog::images::sip_dialog_image_needs_refresh(image, elapsed, due)
 }
@@ -150,7 +150,7 @@ pub extern "C" fn sip_dialog_image_update_from_request(
     image: &mut [u8],
     used: &mut usize,
 ) -> u8
-    ensures written_gives { WrittenGives (written_from (requested rust_limits method.now block.now image.old used.old)) used.old result used.new }
+    ensures written_gives { ValueGives (written_from (requested rust_limits method.now block.now image.old used.old)) used.old result used.new }
     ensures image_after { image.new ≡ leaves (requested rust_limits method.now block.now image.old used.old) image.old }
 {
     sip_dialog::images::sip_dialog_image_update_from_request(method, block, image, used)
@@ -164,7 +164,7 @@ pub extern "C" fn sip_dialog_image_update_from_response(
     image: &mut [u8],
     used: &mut usize,
 ) -> u8
-    ensures written_gives { WrittenGives (written_from (responded rust_limits status block.now image.old used.old)) used.old result used.new }
+    ensures written_gives { ValueGives (written_from (responded rust_limits status block.now image.old used.old)) used.old result used.new }
     ensures image_after { image.new ≡ leaves (responded rust_limits status block.now image.old used.old) image.old }
 {
     sip_dialog::images::sip_dialog_image_update_from_response(status, block, image, used)
@@ -173,7 +173,7 @@ pub extern "C" fn sip_dialog_image_update_from_response(
 // Early becomes Confirmed: 3.
 #[unsafe(no_mangle)]
 pub extern "C" fn sip_dialog_image_confirm(image: &mut [u8], used: &mut usize) -> u8
-    ensures written_gives { WrittenGives (written_from (confirmed image.old used.old)) used.old result used.new }
+    ensures written_gives { ValueGives (written_from (confirmed image.old used.old)) used.old result used.new }
     ensures image_after { image.new ≡ leaves (confirmed image.old used.old) image.old }
 {
     sip_dialog::images::sip_dialog_image_confirm(image, used)
@@ -182,7 +182,7 @@ pub extern "C" fn sip_dialog_image_confirm(image: &mut [u8], used: &mut usize) -
 // Every state becomes Terminated: 3.
 #[unsafe(no_mangle)]
 pub extern "C" fn sip_dialog_image_terminate(image: &mut [u8], used: &mut usize) -> u8
-    ensures written_gives { WrittenGives (written_from (terminated image.old used.old)) used.old result used.new }
+    ensures written_gives { ValueGives (written_from (terminated image.old used.old)) used.old result used.new }
     ensures image_after { image.new ≡ leaves (terminated image.old used.old) image.old }
 {
     sip_dialog::images::sip_dialog_image_terminate(image, used)
@@ -195,7 +195,7 @@ pub extern "C" fn sip_dialog_image_next_local_cseq(
     used: &mut usize,
     number: &mut u32,
 ) -> u8
-    ensures raised_gives { RaisedGives (raised_answer (raised_record image.old used.old)) (record { used = used.old; number = number.old }) result (record { used = used.new; number = number.new }) }
+    ensures raised_gives { WithUsedGives (raised_answer (raised_record image.old used.old)) (record { used = used.old; value = number.old }) result (record { used = used.new; value = number.new }) }
     ensures image_after { image.new ≡ leaves (local_raised image.old used.old) image.old }
 {
     sip_dialog::images::sip_dialog_image_next_local_cseq(image, used, number)
@@ -209,7 +209,7 @@ pub extern "C" fn sip_dialog_image_set_session_expires(
     seconds: u64,
     least: &mut u64,
 ) -> u8
-    ensures set_gives { SetGives (written_from (interval_set rust_limits seconds image.old used.old)) (record { used = used.old; least = least.old }) result (record { used = used.new; least = least.new }) }
+    ensures set_gives { WithLeastGives (written_from (interval_set rust_limits seconds image.old used.old)) (record { value = used.old; least = least.old }) result (record { value = used.new; least = least.new }) }
     ensures image_after { image.new ≡ leaves (interval_set rust_limits seconds image.old used.old) image.old }
 {
     sip_dialog::images::sip_dialog_image_set_session_expires(image, used, seconds, least)

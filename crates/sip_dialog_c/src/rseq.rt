@@ -6,7 +6,7 @@ ghost use Rattle.ordered_store.specs.Run.{Returns};
 ghost use Rattle.dialog_id.specs.Ident.{ident};
 ghost use Rattle.rseq_manager.specs.RSeq.{next, current, remove, len, ran};
 ghost use Rattle.rseq_manager.specs.Answers.{emptiness};
-ghost use Rattle.c_rseq_answers.specs.Given.{value_after};
+ghost use Rattle.c_answers.specs.Given.{value_after};
 
 // RSeqManager::next_rseq: 1, 3, 18.
 #[unsafe(no_mangle)]

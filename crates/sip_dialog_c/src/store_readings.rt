@@ -8,7 +8,7 @@ ghost use Rattle.dialog_id.specs.Ident.{ident};
 ghost use Rattle.book.specs.Calls.{read, get, find_by_request, find_by_call_id, all_ids};
 ghost use Rattle.book.specs.Store.{output_after};
 ghost use Rattle.book.specs.Returned.{Returns, number_after, place_after, length_after};
-ghost use Rattle.c_answers.specs.Given.{WrittenGives};
+ghost use Rattle.c_answers.specs.Given.{ValueGives};
 ghost use Rattle.c_store_answers.specs.Given.{left_by, counting};
 
 // DialogManager::get: 1, 3, 15.
@@ -90,7 +90,7 @@ pub extern "C" fn sip_dialog_all_ids(
 // The handover listing at the front of the lent bytes: 1, 3, 18.
 #[unsafe(no_mangle)]
 pub extern "C" fn sip_dialog_listing(bytes: &[u8], out: &mut [u8], written: &mut usize) -> u8
-    ensures written_gives { WrittenGives (written_from (listing rust_limits bytes.now (length out.old))) written.old result written.new }
+    ensures written_gives { ValueGives (written_from (listing rust_limits bytes.now (length out.old))) written.old result written.new }
     ensures out_after { out.new ≡ leaves (listing rust_limits bytes.now (length out.old)) out.old }
 {
     sip_dialog::store_readings::sip_dialog_listing(bytes, out, written)

@@ -1,12 +1,13 @@
 // Session intervals and the two counts.
 // Made by `tools/face write` from crates/sip_dialog/src, not by hand.
 ghost use Rattle.std.specs.Prelude.{◌≡◌};
+ghost use Rattle.std.specs.Bool.{then_some};
 ghost use Rattle.limits.specs.Limits.{rust_limits};
 ghost use Rattle.session_timer_manager.specs.Answers.{time_of, seconds_of, text_if, interval_from, role_from};
 ghost use Rattle.session_timer_manager.specs.Intervals.{validated, negotiated, non_refresher_expiry, refresh_time, refresh_due};
 ghost use Rattle.session_timer_manager.specs.Refresher.{refresher_role};
 ghost use Rattle.metrics.specs.Metrics.{counted};
-ghost use Rattle.c_answers.specs.Given.{ValidatedGives, IntervalGives, RoleGives, optional_time, optional_seconds};
+ghost use Rattle.c_answers.specs.Given.{FlagGives, WithLeastGives, ValidatedGives};
 
 // An interval in nanoseconds against a minimum: 13 with the least.
 #[unsafe(no_mangle)]
@@ -16,7 +17,7 @@ pub extern "C" fn sip_dialog_validate_session_expires(
     minimum: u64,
     least: &mut u64,
 ) -> u8
-    ensures { ValidatedGives (interval_from (validated rust_limits interval (time_of (optional_time has_minimum minimum)))) least.old result least.new }
+    ensures { ValidatedGives (interval_from (validated rust_limits interval (time_of (then_some has_minimum minimum)))) least.old result least.new }
 {
     sip_dialog::timers::sip_dialog_validate_session_expires(interval, has_minimum, minimum, least)
 }
@@ -33,7 +34,7 @@ pub extern "C" fn sip_dialog_negotiate_session_expires(
     interval: &mut u64,
     least: &mut u64,
 ) -> u8
-    ensures { IntervalGives (interval_from (negotiated requested local_minimum (time_of (optional_time has_remote_minimum remote_minimum)) (time_of (optional_time has_preference preference)))) (record { interval = interval.old; least = least.old }) result (record { interval = interval.new; least = least.new }) }
+    ensures { WithLeastGives (interval_from (negotiated requested local_minimum (time_of (then_some has_remote_minimum remote_minimum)) (time_of (then_some has_preference preference)))) (record { value = interval.old; least = least.old }) result (record { value = interval.new; least = least.new }) }
 {
     sip_dialog::timers::sip_dialog_negotiate_session_expires(
         requested,
@@ -66,7 +67,7 @@ pub extern "C" fn sip_dialog_calculate_refresh_time(interval: u64) -> u64
 // Whether a session of so many seconds is to be refreshed after a time in nanoseconds.
 #[unsafe(no_mangle)]
 pub extern "C" fn sip_dialog_needs_refresh(has_interval: bool, seconds: u32, elapsed: u64) -> bool
-    ensures { result ≡ refresh_due (seconds_of (optional_seconds has_interval seconds)) elapsed }
+    ensures { result ≡ refresh_due (seconds_of (then_some has_interval seconds)) elapsed }
 {
     sip_dialog::timers::sip_dialog_needs_refresh(has_interval, seconds, elapsed)
 }
@@ -79,7 +80,7 @@ pub extern "C" fn sip_dialog_determine_refresher_role(
     is_uac: bool,
     we_refresh: &mut u8,
 ) -> u8
-    ensures { RoleGives (role_from (refresher_role rust_limits (text_if given text.now) is_uac)) we_refresh.old result we_refresh.new }
+    ensures { FlagGives (role_from (refresher_role rust_limits (text_if given text.now) is_uac)) we_refresh.old result we_refresh.new }
 {
     sip_dialog::timers::sip_dialog_determine_refresher_role(given, text, is_uac, we_refresh)
 }

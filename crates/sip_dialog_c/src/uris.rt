@@ -5,7 +5,7 @@ ghost use Rattle.limits.specs.Limits.{rust_limits};
 ghost use Rattle.text.specs.Answers.{lookup_of};
 ghost use Rattle.uri.specs.SipUri.{uri_answer, read_uri, estimate_answer, read_estimate};
 ghost use Rattle.uri.specs.HeaderUri.{uri_from_header};
-ghost use Rattle.c_answers.specs.Given.{UriGives, EstimateGives, LookupGives};
+ghost use Rattle.c_answers.specs.Given.{ValueGives, UriGives, LookupGives};
 
 // The parts of a URI: 1, 6. Without a user part its length is 0 and its place the host's.
 #[unsafe(no_mangle)]
@@ -36,7 +36,7 @@ pub extern "C" fn sip_dialog_sip_uri(
 // The estimate of a URI: 1, 6, 7.
 #[unsafe(no_mangle)]
 pub extern "C" fn sip_dialog_uri_estimate(text: &[u8], estimate: &mut usize) -> u8
-    ensures { EstimateGives (estimate_answer (read_estimate rust_limits text.now)) estimate.old result estimate.new }
+    ensures { ValueGives (estimate_answer (read_estimate rust_limits text.now)) estimate.old result estimate.new }
 {
     sip_dialog::uris::sip_dialog_uri_estimate(text, estimate)
 }

@@ -6,7 +6,7 @@ ghost use Rattle.text.specs.Answers.{lookup_of, next_of};
 ghost use Rattle.headers.specs.SessionExpires.{expires_answer, parse_expires, block_expires};
 ghost use Rattle.route_set.specs.Parts.{next_header_value};
 ghost use Rattle.route_set.specs.Routes.{contact, route_count, route_at, count_of};
-ghost use Rattle.c_answers.specs.Given.{NextGives, LookupGives, CountGives, ExpiresGives};
+ghost use Rattle.c_answers.specs.Given.{ValueGives, NextGives, LookupGives, ExpiresGives};
 
 // The next element of a value from a place on: 1, 2.
 #[unsafe(no_mangle)]
@@ -39,7 +39,7 @@ pub extern "C" fn sip_dialog_contact(
 // How many routes the Record-Route lines give: 1, 2, then 7 or 8.
 #[unsafe(no_mangle)]
 pub extern "C" fn sip_dialog_route_count(block: &[u8], count: &mut usize) -> u8
-    ensures { CountGives (count_of (route_count rust_limits block.now)) count.old result count.new }
+    ensures { ValueGives (count_of (route_count rust_limits block.now)) count.old result count.new }
 {
     sip_dialog::values::sip_dialog_route_count(block, count)
 }

@@ -3,7 +3,7 @@
 ghost use Rattle.std.specs.Prelude.{◌≡◌, ◌<◌};
 ghost use Rattle.output.specs.Output.{leaves, written_from};
 ghost use Rattle.worst_minute.specs.Calls.{added, worst_in};
-ghost use Rattle.c_answers.specs.Given.{WrittenGives};
+ghost use Rattle.c_answers.specs.Given.{ValueGives};
 ghost use Rattle.c_minute_answers.specs.Given.{MinuteGives};
 
 // A verdict at the end of the run: 3, 18.
@@ -14,7 +14,7 @@ pub extern "C" fn sip_dialog_add_verdict(
     run: &mut [u8],
     used: &mut usize,
 ) -> u8
-    ensures written_gives { WrittenGives (written_from (added (record { time = time; number = number }) run.old used.old)) used.old result used.new }
+    ensures written_gives { ValueGives (written_from (added (record { time = time; number = number }) run.old used.old)) used.old result used.new }
     ensures run_after { run.new ≡ leaves (added (record { time = time; number = number }) run.old used.old) run.old }
     ensures time_bound { time < 18446744073709551616 }
 {

@@ -2,4 +2,4 @@
 use Rattle.sip_dialog.proofs.images.sip_dialog_image_matches_request.Goals as goal
 
 pub returns : goal.returns
-returns c = rw (← c.matches_request.ensures) c.give_matches.ensures
+returns c = rw (← c.matches_request.ensures) c.give_flag.ensures

@@ -2,4 +2,4 @@
 use Rattle.sip_dialog.proofs.images.sip_dialog_image_needs_refresh.Goals as goal
 
 pub returns : goal.returns
-returns c = rw (← c.needs_refresh.ensures) c.give_refresh.ensures
+returns c = rw (← c.needs_refresh.ensures) c.give_flag.ensures

@@ -2,7 +2,7 @@
 use Rattle.sip_dialog.proofs.images.sip_dialog_image_update_from_response.Goals as goal
 
 pub returns-clause-written_gives : goal.returns-clause-written_gives
-returns-clause-written_gives c = rw (← c.update_from_response.ensures.value) c.give_written.ensures
+returns-clause-written_gives c = rw (← c.update_from_response.ensures.value) c.give.ensures
 
 pub returns-clause-image_after : goal.returns-clause-image_after
 returns-clause-image_after c = (c.update_from_response.ensures.bytes_after)

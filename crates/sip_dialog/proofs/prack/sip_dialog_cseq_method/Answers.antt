@@ -2,4 +2,4 @@
 use Rattle.sip_dialog.proofs.prack.sip_dialog_cseq_method.Goals as goal
 
 pub returns : goal.returns
-returns c = rw (← c.extract_cseq_method.ensures) c.give_method.ensures
+returns c = rw (← c.extract_cseq_method.ensures) c.give.ensures

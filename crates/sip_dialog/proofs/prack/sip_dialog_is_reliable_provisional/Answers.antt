@@ -2,4 +2,4 @@
 use Rattle.sip_dialog.proofs.prack.sip_dialog_is_reliable_provisional.Goals as goal
 
 pub returns : goal.returns
-returns c = rw (← c.is_reliable_provisional.ensures) c.give_reliable.ensures
+returns c = rw (← c.is_reliable_provisional.ensures) c.give_flag.ensures

@@ -2,4 +2,4 @@
 use Rattle.sip_dialog.proofs.prack.sip_dialog_rseq.Goals as goal
 
 pub returns : goal.returns
-returns c = rw (← c.extract_rseq.ensures) c.give_number.ensures
+returns c = rw (← c.extract_rseq.ensures) c.give.ensures

@@ -7,7 +7,7 @@ pub returns-clause-returns : goal.returns-clause-returns
 returns-clause-returns c =
     let k = c.get_pending.ensures in
     let a = c.args in
-    let g = listed_returns a.id.now a.time (length a.out.now) a.store.now a.used.now _ _ _ _ _ k.value k.bytes_after k.used_value c.give_listed.ensures in
+    let g = listed_returns a.id.now a.time (length a.out.now) a.store.now a.used.now _ _ _ _ _ k.value k.bytes_after k.used_value c.give_with_used.ensures in
     g.0
 
 pub returns-clause-out_after : goal.returns-clause-out_after
@@ -19,7 +19,7 @@ pub returns-clause-written_after : goal.returns-clause-written_after
 returns-clause-written_after c =
     let k = c.get_pending.ensures in
     let a = c.args in
-    let g = listed_returns a.id.now a.time (length a.out.now) a.store.now a.used.now _ _ _ _ _ k.value k.bytes_after k.used_value c.give_listed.ensures in
+    let g = listed_returns a.id.now a.time (length a.out.now) a.store.now a.used.now _ _ _ _ _ k.value k.bytes_after k.used_value c.give_with_used.ensures in
     g.1
 
 pub returns-clause-typed : goal.returns-clause-typed

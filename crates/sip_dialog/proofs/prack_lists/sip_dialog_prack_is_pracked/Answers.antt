@@ -6,5 +6,5 @@ pub returns : goal.returns
 returns c =
     let k = c.is_pracked.ensures in
     let a = c.args in
-    let old = pracked_returns a.id.now a.rseq a.store.now a.used _ _ _ _ k.value k.bytes_value k.used_value c.give_pracked.ensures in
+    let old = pracked_returns a.id.now a.rseq a.store.now a.used _ _ _ _ k.value k.bytes_value k.used_value c.give_flag.ensures in
     record { returns = old.0; pracked_after = old.1 }

@@ -8,7 +8,7 @@ pub returns-clause-returns : goal.returns-clause-returns
 returns-clause-returns c =
     let k = c.register.ensures in
     let a = c.args in
-    written_returns (ran rust_limits (register a.id.now a.rseq a.cseq a.method a.code a.time) a.store.now a.used.now) a.used.now _ _ _ _ k.value k.bytes_after k.used_value c.give_written.ensures
+    written_returns (ran rust_limits (register a.id.now a.rseq a.cseq a.method a.code a.time) a.store.now a.used.now) a.used.now _ _ _ _ k.value k.bytes_after k.used_value c.give.ensures
 
 pub returns-clause-typed : goal.returns-clause-typed
 returns-clause-typed c =

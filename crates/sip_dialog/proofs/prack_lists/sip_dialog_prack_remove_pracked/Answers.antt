@@ -8,4 +8,4 @@ pub returns : goal.returns
 returns c =
     let k = c.remove_pracked.ensures in
     let a = c.args in
-    written_returns (ran rust_limits (remove_pracked a.id.now a.rseq) a.store.now a.used.now) a.used.now _ _ _ _ k.value k.bytes_after k.used_value c.give_written.ensures
+    written_returns (ran rust_limits (remove_pracked a.id.now a.rseq) a.store.now a.used.now) a.used.now _ _ _ _ k.value k.bytes_after k.used_value c.give.ensures

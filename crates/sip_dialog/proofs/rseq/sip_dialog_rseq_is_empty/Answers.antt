@@ -2,7 +2,7 @@
 use mathlib.Core.Path.{ap, ◌∙◌}
 use Rattle.limits.specs.Limits.{rust_limits}
 use Rattle.rseq_manager.specs.RSeq.{len, ran}
-use Rattle.c_rseq_answers.specs.Given.{counted_number}
+use Rattle.limits.specs.Outcome.{number_in}
 use Rattle.c_rseq_answers.proofs.ReturnLaws.{empty_number, empty_given}
 use Rattle.sip_dialog.proofs.rseq.sip_dialog_rseq_is_empty.Goals as goal
 
@@ -12,7 +12,7 @@ returns-clause-returns c =
     let l = ran rust_limits len a.store.now a.used in
     let e = c.is_empty.ensures.value in
     let g = c.give_empty.ensures in
-    record { bytes_are = c.is_empty.ensures.bytes_value; used_is = c.is_empty.ensures.used_value; number_is = g.value ∙ (ap counted_number e ∙ empty_number l.answer) }
+    record { bytes_are = c.is_empty.ensures.bytes_value; used_is = c.is_empty.ensures.used_value; number_is = g.value ∙ (ap number_in e ∙ empty_number l.answer) }
 
 pub returns-clause-empty_after : goal.returns-clause-empty_after
 returns-clause-empty_after c =

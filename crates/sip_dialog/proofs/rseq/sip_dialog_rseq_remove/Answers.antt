@@ -8,4 +8,4 @@ use Rattle.sip_dialog.proofs.rseq.sip_dialog_rseq_remove.Goals as goal
 pub returns : goal.returns
 returns c =
     let a = c.args in
-    written_returns (ran rust_limits (remove (ident a.call_id.now a.local_tag.now a.remote_tag.now)) a.store.now a.used.now) a.used.now _ _ _ _ c.remove.ensures.value c.remove.ensures.bytes_after c.remove.ensures.used_value c.give_written.ensures
+    written_returns (ran rust_limits (remove (ident a.call_id.now a.local_tag.now a.remote_tag.now)) a.store.now a.used.now) a.used.now _ _ _ _ c.remove.ensures.value c.remove.ensures.bytes_after c.remove.ensures.used_value c.give.ensures

@@ -11,7 +11,7 @@ pub returns-clause-returns : goal.returns-clause-returns
 returns-clause-returns c =
     let a = c.args in
     let h = bytes_all a.store.now (λ i. (c.type_inv.store i).fits) in
-    let g = ids_answers rust_limits (length a.store.now) (length a.out.now) a.store.now a.used _ _ _ _ c.all_ids.ensures.value c.give_written.ensures in
+    let g = ids_answers rust_limits (length a.store.now) (length a.out.now) a.store.now a.used _ _ _ _ c.all_ids.ensures.value c.give.ensures in
     reading_returns rust_limits (length a.store.now) (all_ids (length a.out.now)) a.store.now a.used h _ g.0
 
 pub returns-clause-out_after : goal.returns-clause-out_after
@@ -21,5 +21,5 @@ returns-clause-out_after c =
 pub returns-clause-written_after : goal.returns-clause-written_after
 returns-clause-written_after c =
     let a = c.args in
-    let g = ids_answers rust_limits (length a.store.now) (length a.out.now) a.store.now a.used _ _ _ _ c.all_ids.ensures.value c.give_written.ensures in
+    let g = ids_answers rust_limits (length a.store.now) (length a.out.now) a.store.now a.used _ _ _ _ c.all_ids.ensures.value c.give.ensures in
     g.1

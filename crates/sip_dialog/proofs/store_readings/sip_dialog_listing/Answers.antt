@@ -2,7 +2,7 @@
 use Rattle.sip_dialog.proofs.store_readings.sip_dialog_listing.Goals as goal
 
 pub returns-clause-written_gives : goal.returns-clause-written_gives
-returns-clause-written_gives c = rw (← c.list_store.ensures.value) c.give_written.ensures
+returns-clause-written_gives c = rw (← c.list_store.ensures.value) c.give.ensures
 
 pub returns-clause-out_after : goal.returns-clause-out_after
 returns-clause-out_after c = (c.list_store.ensures.out_after)

@@ -8,5 +8,5 @@ use Rattle.sip_dialog.proofs.stores.sip_dialog_next_local_cseq.Goals as goal
 pub returns : goal.returns
 returns c =
     let a = c.args in
-    let old = raised_returns rust_limits (length a.store.now) (ident a.call_id.now a.local_tag.now a.remote_tag.now) a.store.now a.used.now _ _ _ _ _ c.next_local_cseq.ensures.value c.next_local_cseq.ensures.bytes_after c.give_raised.ensures in
+    let old = raised_returns rust_limits (length a.store.now) (ident a.call_id.now a.local_tag.now a.remote_tag.now) a.store.now a.used.now _ _ _ _ _ c.next_local_cseq.ensures.value c.next_local_cseq.ensures.bytes_after c.give_with_used.ensures in
     record { returns = old.0; number_after = old.1 }

@@ -8,4 +8,4 @@ use Rattle.sip_dialog.proofs.stores.sip_dialog_request.Goals as goal
 pub returns : goal.returns
 returns c =
     let a = c.args in
-    written_returns rust_limits (update (length a.store.now) (request a.method.now a.block.now)) a.store.now a.used.now _ _ _ _ c.request.ensures.value c.request.ensures.bytes_after c.give_written.ensures
+    written_returns rust_limits (update (length a.store.now) (request a.method.now a.block.now)) a.store.now a.used.now _ _ _ _ c.request.ensures.value c.request.ensures.bytes_after c.give.ensures

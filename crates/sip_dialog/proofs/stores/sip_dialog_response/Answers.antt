@@ -9,4 +9,4 @@ use Rattle.sip_dialog.proofs.stores.sip_dialog_response.Goals as goal
 pub returns : goal.returns
 returns c =
     let a = c.args in
-    written_returns rust_limits (update (length a.store.now) (response (ident a.call_id.now a.local_tag.now a.remote_tag.now) a.status a.block.now)) a.store.now a.used.now _ _ _ _ c.response.ensures.value c.response.ensures.bytes_after c.give_written.ensures
+    written_returns rust_limits (update (length a.store.now) (response (ident a.call_id.now a.local_tag.now a.remote_tag.now) a.status a.block.now)) a.store.now a.used.now _ _ _ _ c.response.ensures.value c.response.ensures.bytes_after c.give.ensures

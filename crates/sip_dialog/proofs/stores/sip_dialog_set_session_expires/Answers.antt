@@ -9,5 +9,5 @@ use Rattle.sip_dialog.proofs.stores.sip_dialog_set_session_expires.Goals as goal
 pub returns : goal.returns
 returns c =
     let a = c.args in
-    let old = set_returns rust_limits (update (length a.store.now) (interval (ident a.call_id.now a.local_tag.now a.remote_tag.now) a.seconds)) a.store.now a.used.now _ _ _ _ _ c.set_session_expires.ensures.value c.set_session_expires.ensures.bytes_after c.give_set.ensures in
+    let old = set_returns rust_limits (update (length a.store.now) (interval (ident a.call_id.now a.local_tag.now a.remote_tag.now) a.seconds)) a.store.now a.used.now _ _ _ _ _ c.set_session_expires.ensures.value c.set_session_expires.ensures.bytes_after c.give_with_least.ensures in
     record { returns = old.0; least_after = old.1 }

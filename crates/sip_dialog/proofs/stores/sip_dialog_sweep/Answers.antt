@@ -8,4 +8,4 @@ use Rattle.sip_dialog.proofs.stores.sip_dialog_sweep.Goals as goal
 pub returns : goal.returns
 returns c =
     let a = c.args in
-    written_returns rust_limits (sweep (length a.store.now)) a.store.now a.used.now _ _ _ _ c.sweep.ensures.value (c.sweep.ensures.bytes_after) c.give_written.ensures
+    written_returns rust_limits (sweep (length a.store.now)) a.store.now a.used.now _ _ _ _ c.sweep.ensures.value (c.sweep.ensures.bytes_after) c.give.ensures

@@ -2,4 +2,4 @@
 use Rattle.sip_dialog.proofs.timers.sip_dialog_determine_refresher_role.Goals as goal
 
 pub returns : goal.returns
-returns c = rw (← c.determine_refresher_role.ensures) c.give_role.ensures
+returns c = rw (← c.determine_refresher_role.ensures) c.give_flag.ensures

@@ -2,4 +2,4 @@
 use Rattle.sip_dialog.proofs.timers.sip_dialog_needs_refresh.Goals as goal
 
 pub returns : goal.returns
-returns c = rw (← c.seconds_if.ensures) c.needs_refresh.ensures
+returns c = rw (← c.then_some.ensures) c.needs_refresh.ensures

@@ -2,4 +2,4 @@
 use Rattle.sip_dialog.proofs.timers.sip_dialog_negotiate_session_expires.Goals as goal
 
 pub returns : goal.returns
-returns c = rw (← c.time_if.ensures, ← c.time_if-2.ensures, ← c.negotiate_session_expires.ensures) c.give_interval.ensures
+returns c = rw (← c.then_some.ensures, ← c.then_some-2.ensures, ← c.negotiate_session_expires.ensures) c.give_with_least.ensures

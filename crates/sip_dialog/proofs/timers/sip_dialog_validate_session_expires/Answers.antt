@@ -2,4 +2,4 @@
 use Rattle.sip_dialog.proofs.timers.sip_dialog_validate_session_expires.Goals as goal
 
 pub returns : goal.returns
-returns c = rw (← c.time_if.ensures, ← c.validate_session_expires.ensures) c.give_validated.ensures
+returns c = rw (← c.then_some.ensures, ← c.validate_session_expires.ensures) c.give_validated.ensures

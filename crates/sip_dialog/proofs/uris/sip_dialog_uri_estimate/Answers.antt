@@ -2,4 +2,4 @@
 use Rattle.sip_dialog.proofs.uris.sip_dialog_uri_estimate.Goals as goal
 
 pub returns : goal.returns
-returns c = rw (← c.uri_estimate.ensures) c.give_estimate.ensures
+returns c = rw (← c.uri_estimate.ensures) c.give.ensures

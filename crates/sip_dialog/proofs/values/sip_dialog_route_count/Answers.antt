@@ -2,4 +2,4 @@
 use Rattle.sip_dialog.proofs.values.sip_dialog_route_count.Goals as goal
 
 pub returns : goal.returns
-returns c = rw (← c.route_count.ensures) c.give_count.ensures
+returns c = rw (← c.route_count.ensures) c.give.ensures

@@ -4,7 +4,7 @@ use Rattle.sip_dialog.proofs.verdicts.sip_dialog_add_verdict.Goals as goal
 pub returns-clause-written_gives : goal.returns-clause-written_gives
 returns-clause-written_gives c =
     let k = c.add_verdict.ensures in
-    rw (← k.value) c.give_written.ensures
+    rw (← k.value) c.give.ensures
 
 pub returns-clause-run_after : goal.returns-clause-run_after
 returns-clause-run_after c =
