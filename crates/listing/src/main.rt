@@ -2,6 +2,7 @@
 #![tactic(auto)]
 
 use listing_output::{print_listing, report};
+use std::io;
 use std::io::Read;
 
 fn main(rt: HostRuntime) {
@@ -12,14 +13,14 @@ fn main(rt: HostRuntime) {
 
 // Reads the input to its end, or as far as bytes go, and prints its listing. A read that fails is not taken for the end.
 fn list_input(rt: &(impl Input + Print + Eprint), bytes: &mut [u8]) {
-    let mut input = rt.reader();
-    let mut at = 0;
-    while at < bytes.len() {
-        match input.read(&mut bytes[at..]) {
-            Ok(0) => break,
-            Ok(n) => at += n,
-            Err(error) => return report(rt, "standard input", error),
+    let mut input = rt.reader().take(bytes.len() as u64);
+    let mut rest: &mut [u8] = bytes;
+    match io::copy(&mut input, &mut rest) {
+        Ok(_count) => {
+            let left = rest.len();
+            let n = bytes.len().saturating_sub(left);
+            print_listing(rt, &bytes[..n]);
         }
+        Err(error) => report(rt, "standard input", error),
     }
-    print_listing(rt, &bytes[..at]);
 }

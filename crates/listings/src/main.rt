@@ -41,13 +41,8 @@ fn list_opened(rt: &(impl Print + Eprint), path: &str, mut file: impl Read + Dro
 fn read_full(file: &mut impl Read, bytes: &mut [u8]) -> io::Result<usize>
     ensures { IfOk result (λ n. n ≤ length bytes.new) }
 {
-    let mut at = 0;
-    while at < bytes.len() {
-        let n = file.read(&mut bytes[at..])?;
-        if n == 0 {
-            break;
-        }
-        at += n;
-    }
-    Ok(at)
+    let mut rest: &mut [u8] = bytes;
+    io::copy(&mut file.take(rest.len() as u64), &mut rest)?;
+    let left = rest.len();
+    Ok(bytes.len().saturating_sub(left))
 }

@@ -1,38 +1,36 @@
 // What one line of the list asks for: the memory of a store is set, or a call is made and its answer compared.
 use crate::calls::call;
 use replay_answers::{Outcome, as_recorded, fill_outs, lent_length, set_memory};
-use replay_lines::{byte, copy_at, find_row, part, place_of, read_items, shape_fits, text, word};
+use replay_lines::{copy_at, part, place_of, read_items, row_of, shape_fits, text};
 
-// The line, given the rows of the head and a memory of so many bytes. `old` and `bytes` are room to work in.
+// The line, given the list, at whose head the rows are, and a memory of so many bytes. `old` and `bytes` are room to work in.
 pub fn one_line(
     line: &[u8],
-    rows: &[u8],
+    list: &[u8],
     store: &mut [u8],
     old: &mut [u8],
     bytes: &mut [u8],
     size: usize,
 ) -> Outcome {
-    if line.len() == 0 || byte(line, 0) == 35 {
+    if let [] | [b'#', ..] = line {
         return Outcome::Passed;
     }
-    let mut kinds = [0u8; 24];
-    let mut items = [0u64; 48];
-    let n = word(line, 0);
+    let n = line.iter().position(|&b| b == b' ').unwrap_or(line.len());
     let name = part(line, 0, n);
-    let count = read_items(line, n, bytes, &mut kinds, &mut items);
-    if count == 0 {
+    let mut letters = [0u8; 24];
+    let mut items = [0u64; 48];
+    let rest = part(line, n, line.len());
+    let Some(count) = read_items(rest, bytes, &mut letters, &mut items) else {
+        return Outcome::Unreadable;
+    };
+    let letters = part(&letters, 0, count);
+    let Some((number, row)) = row_of(list, name) else {
+        return set_memory(name, letters, bytes, &items, store, size);
+    };
+    if !shape_fits(row.shape, letters) {
         return Outcome::Unreadable;
     }
-    let row = find_row(rows, name, 18446744073709551615);
-    if !row.found {
-        return set_memory(name, &kinds, bytes, &items, count, store, size);
-    }
-    let at = row.shape;
-    let shape = part(rows, at, word(rows, at));
-    if !shape_fits(shape, &kinds, count) {
-        return Outcome::Unreadable;
-    }
-    replay_call(row.index, shape, count, bytes, &items, store, old, size)
+    replay_call(number, row.shape, count, bytes, &items, store, old, size)
 }
 
 // Makes the call and compares all that it answers.
@@ -46,9 +44,9 @@ fn replay_call(
     old: &mut [u8],
     size: usize,
 ) -> Outcome {
-    let equals = place_of(shape, 61);
-    let lent = lent_length(shape, items, 115);
-    let out_lent = lent_length(shape, items, 111);
+    let equals = place_of(shape, b'=');
+    let lent = lent_length(shape, items, b's');
+    let out_lent = lent_length(shape, items, b'o');
     if size < lent {
         return Outcome::Unreadable;
     }
@@ -58,7 +56,7 @@ fn replay_call(
     let mut out = [0u8; 65536];
     let mut o = [0u64; 8];
     fill_outs(shape, items, equals, &mut o);
-    copy_at(text(bytes, items, place_of(shape, 111)), &mut out, 0);
+    copy_at(text(bytes, items, place_of(shape, b'o')), &mut out, 0);
     copy_at(part(store, 0, size), old, 0);
     let r = lend(row, bytes, items, store, lent, &mut out, out_lent, &mut o);
     if as_recorded(

@@ -8,8 +8,7 @@ mod lines;
 ghost use Rattle.std.specs.Prelude.{◌≡◌, ◌≤◌, IfOk, length};
 
 use lines::one_line;
-use replay_answers::{report, show, take};
-use replay_lines::{find_row, line_end, part};
+use replay_answers::{Tallies, report, show, take};
 use std::io;
 use std::io::Read;
 
@@ -30,15 +29,10 @@ fn zeros() -> [u8; 786432]
 fn read_full(input: &mut impl Read, bytes: &mut [u8]) -> io::Result<usize>
     ensures { IfOk result (λ n. n ≤ length bytes.new) }
 {
-    let mut at = 0;
-    while at < bytes.len() {
-        let n = input.read(&mut bytes[at..])?;
-        if n == 0 {
-            break;
-        }
-        at += n;
-    }
-    Ok(at)
+    let mut rest: &mut [u8] = bytes;
+    io::copy(&mut input.take(rest.len() as u64), &mut rest)?;
+    let left = rest.len();
+    Ok(bytes.len().saturating_sub(left))
 }
 
 // The head of the list has a row for each of the 84 operations, and ends before the first empty line.
@@ -46,56 +40,27 @@ fn replay(rt: &impl Print, list: &[u8]) -> io::Result<()> {
     if list.len() == 786432 {
         return show(rt, b"the list is too long\n");
     }
-    let rows = part(list, 0, head_end(list));
-    if !find_row(rows, b"", 83).found || find_row(rows, b"", 84).found {
+    let rows = list
+        .split(|b| *b == b'\n')
+        .take_while(|row| !row.is_empty())
+        .count();
+    if rows != 84 {
         return show(rt, b"the list doesn't begin with 84 rows\n");
     }
-    let mut tallies = [0u64; 253];
-    each_line(rt, list, rows, &mut tallies)?;
-    report(rt, rows, &tallies)
-}
-
-fn head_end(list: &[u8]) -> usize {
-    let mut at = 0;
-    while at < list.len() {
-        let end = line_end(list, at);
-        if end <= at {
-            return at;
-        }
-        if end >= list.len() {
-            return at;
-        }
-        at = end + 1;
-    }
-    at
+    let mut tallies = Tallies::new();
+    each_line(rt, list, &mut tallies)?;
+    report(rt, list, &tallies)
 }
 
 // Goes through the lines behind the head. They are numbered from 1 at the list's start.
-fn each_line(
-    rt: &impl Print,
-    list: &[u8],
-    rows: &[u8],
-    tallies: &mut [u64; 253],
-) -> io::Result<()> {
+fn each_line(rt: &impl Print, list: &[u8], tallies: &mut Tallies) -> io::Result<()> {
     let mut store = zeros();
     let mut old = zeros();
     let mut bytes = zeros();
     let mut size = 0;
-    let mut at = rows.len();
-    let mut number = 85;
-    while at < list.len() {
-        let end = line_end(list, at);
-        if end < at {
-            return Ok(());
-        }
-        let line = part(list, at, end - at);
-        let outcome = one_line(line, rows, &mut store, &mut old, &mut bytes, size);
-        size = take(rt, outcome, number, tallies, size)?;
-        if end >= list.len() {
-            return Ok(());
-        }
-        at = end + 1;
-        number += 1;
+    for (before, line) in list.split(|b| *b == b'\n').enumerate().skip(84) {
+        let outcome = one_line(line, list, &mut store, &mut old, &mut bytes, size);
+        size = take(rt, outcome, before + 1, tallies, size)?;
     }
     Ok(())
 }

@@ -1,5 +1,5 @@
 // The items of a line: what a call is lent, and whether its answer is as recorded.
-use replay_lines::{byte, less, numbers_behind, part, place_of, same, sum, text, value};
+use replay_lines::{numbers_behind, part, place_of, text, value};
 
 // Whether the number, the out numbers, the lent output and the memory are as recorded.
 pub fn as_recorded(
@@ -13,67 +13,51 @@ pub fn as_recorded(
     store: &[u8],
     old: &[u8],
 ) -> bool {
-    let equals = place_of(shape, 61);
-    r == value(items, sum(equals, 1))
+    let equals = place_of(shape, b'=');
+    r == value(items, equals.saturating_add(1))
         && outs_same(shape, items, equals, o)
         && output_same(shape, bytes, items, out)
         && store_same(shape, count, bytes, items, store, old)
 }
 
 // How many bytes are lent as the item of a kind; none where there is no such item.
-pub fn lent_length(shape: &[u8], items: &[u64; 48], kind: u8) -> usize {
-    let k = place_of(shape, kind);
+pub fn lent_length(shape: &[u8], items: &[u64; 48], letter: u8) -> usize {
+    let k = place_of(shape, letter);
     if k < shape.len() {
         return value(items, k) as usize;
     }
     0
 }
 
-// The out numbers before the call are the last of its numbers.
-pub fn fill_outs(shape: &[u8], items: &[u64; 48], equals: usize, o: &mut [u64; 8]) {
-    let mut left = less(numbers_behind(shape, equals), 1);
-    let mut i = equals;
-    while 0 < i {
-        i -= 1;
-        if left == 0 {
-            return;
-        }
-        if byte(shape, i) == 110 {
-            left -= 1;
-            set(o, left, value(items, i));
-        }
-    }
+// How many out numbers a call has: the answer is one number more.
+fn outs(shape: &[u8], equals: usize) -> usize {
+    numbers_behind(shape, equals).saturating_sub(1)
 }
 
-fn set(o: &mut [u64; 8], i: usize, n: u64) {
-    if i < 8 {
-        o[i] = n;
+// The out numbers before the call are the last of its numbers.
+pub fn fill_outs(shape: &[u8], items: &[u64; 48], equals: usize, o: &mut [u64; 8]) {
+    let numbers = part(shape, 0, equals)
+        .iter()
+        .zip(items)
+        .rev()
+        .filter(|(letter, _)| **letter == b'n');
+    for (out, (_, n)) in o.iter_mut().take(outs(shape, equals)).rev().zip(numbers) {
+        *out = *n;
     }
 }
 
 // Whether the out numbers after the call are as recorded.
 fn outs_same(shape: &[u8], items: &[u64; 48], equals: usize, o: &[u64; 8]) -> bool {
-    let many = less(numbers_behind(shape, equals), 1);
-    let mut i = 0;
-    while i < 8 {
-        if many <= i {
-            return true;
-        }
-        if o[i] != value(items, sum(equals, i + 2)) {
-            return false;
-        }
-        i += 1;
-    }
-    many <= 8
+    let many = outs(shape, equals);
+    many <= 8 && part(o, 0, many) == part(items, equals.saturating_add(2), many)
 }
 
 // Whether the lent output is as recorded, where there is some.
 fn output_same(shape: &[u8], bytes: &[u8], items: &[u64; 48], out: &[u8]) -> bool {
-    let last = less(shape.len(), 1);
-    if byte(shape, last) != 116 {
-        return true;
+    match shape {
+        [before @ .., b't'] => out == text(bytes, items, before.len()),
+        _ => true,
     }
-    same(out, text(bytes, items, last))
 }
 
 // Whether the whole memory is as recorded: as before, or with a piece in the place of some bytes; then all behind them moves, and what lies past the new used length
@@ -86,23 +70,21 @@ fn store_same(
     store: &[u8],
     old: &[u8],
 ) -> bool {
-    if count == shape.len() {
-        return same(store, old);
+    let change = shape.len();
+    if count == change {
+        return store == old;
     }
-    let used = value(items, sum(place_of(shape, 115), 1)) as usize;
-    let used_after = value(items, sum(place_of(shape, 61), 2)) as usize;
-    let at = value(items, shape.len()) as usize;
-    let behind = sum(at, value(items, sum(shape.len(), 1)) as usize);
-    let piece = text(bytes, items, sum(shape.len(), 2));
-    let moved = sum(at, piece.len());
-    let n = less(used, behind);
-    used_after == sum(moved, n)
+    let used = value(items, place_of(shape, b's').saturating_add(1)) as usize;
+    let used_after = value(items, place_of(shape, b'=').saturating_add(2)) as usize;
+    let at = value(items, change) as usize;
+    let behind = at.saturating_add(value(items, change.saturating_add(1)) as usize);
+    let piece = text(bytes, items, change.saturating_add(2));
+    let moved = at.saturating_add(piece.len());
+    let n = used.saturating_sub(behind);
+    used_after == moved.saturating_add(n)
         && used_after <= store.len()
-        && same(part(store, 0, at), part(old, 0, at))
-        && same(part(store, at, piece.len()), piece)
-        && same(part(store, moved, n), part(old, behind, n))
-        && same(
-            part(store, used_after, store.len()),
-            part(old, used_after, old.len()),
-        )
+        && part(store, 0, at) == part(old, 0, at)
+        && part(store, at, piece.len()) == piece
+        && part(store, moved, n) == part(old, behind, n)
+        && store.get(used_after..) == old.get(used_after..)
 }

@@ -7,7 +7,7 @@ mod tallies;
 
 pub use answers::{as_recorded, fill_outs, lent_length};
 pub use memory::set_memory;
-pub use tallies::{report, show, take};
+pub use tallies::{Tallies, report, show, take};
 
 // What became of a line: nothing was asked; the memory has so many bytes; the call of that row answered as recorded, or not; it can't be read.
 #[derive(Clone, Copy)]

@@ -1,34 +1,26 @@
 // The memory of a store, set by a line of the list.
 use crate::Outcome;
-use replay_lines::{copy_at, part, same, sum, text, write_digits};
+use replay_lines::{copy_at, text, write_digits};
 
 // `store TEXT` begins a memory, `room TEXT` goes on with it, and so does `copies N TEXT AT DIGITS`: N times the text, its digits at AT counted up from 0.
 pub fn set_memory(
     name: &[u8],
-    kinds: &[u8; 24],
+    letters: &[u8],
     bytes: &[u8],
     items: &[u64; 48],
-    count: usize,
     store: &mut [u8],
     size: usize,
 ) -> Outcome {
-    if same(part(kinds, 0, count), b"t") {
-        let piece = text(bytes, items, 0);
-        if same(name, b"store") {
-            return append(store, 0, piece);
-        }
-        if same(name, b"room") {
-            return append(store, size, piece);
-        }
+    match (name, letters) {
+        (b"store", b"t") => append(store, 0, text(bytes, items, 0)),
+        (b"room", b"t") => append(store, size, text(bytes, items, 0)),
+        (b"copies", b"ntnn") => append_copies(store, size, text(bytes, items, 1), items),
+        _ => Outcome::Unreadable,
     }
-    if same(part(kinds, 0, count), b"ntnn") && same(name, b"copies") {
-        return append_copies(store, size, text(bytes, items, 1), items);
-    }
-    Outcome::Unreadable
 }
 
 fn append(store: &mut [u8], size: usize, piece: &[u8]) -> Outcome {
-    let end = sum(size, piece.len());
+    let end = size.saturating_add(piece.len());
     if store.len() < end {
         return Outcome::Unreadable;
     }
@@ -37,20 +29,16 @@ fn append(store: &mut [u8], size: usize, piece: &[u8]) -> Outcome {
 }
 
 fn append_copies(store: &mut [u8], size: usize, piece: &[u8], items: &[u64; 48]) -> Outcome {
-    let mut left = items[0];
     let mut at = size;
-    let mut i = 0;
-    while 0 < left {
-        left -= 1;
-        let end = sum(at, piece.len());
+    for i in 0..items[0] {
+        let end = at.saturating_add(piece.len());
         if store.len() < end {
             return Outcome::Unreadable;
         }
         copy_at(piece, store, at);
-        let first = sum(at, items[2] as usize);
-        write_digits(i, store, first, sum(first, items[3] as usize));
+        let first = at.saturating_add(items[2] as usize);
+        write_digits(i, store, first, first.saturating_add(items[3] as usize));
         at = end;
-        i = sum(i, 1);
     }
     Outcome::Memory(at)
 }

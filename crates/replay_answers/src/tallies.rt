@@ -1,107 +1,112 @@
-// The counts, and what is printed of them. For the row r: how many calls at r, how many of them differ at 84 + r, the first one's line at 168 + r; at 252 how many lines
-// can't be read.
+// The counts, and what is printed of them.
 use crate::Outcome;
-use replay_lines::{find_row, part, word};
+use replay_lines::row_at;
 use std::io;
+
+// Of a row: how many calls, how many of them differ, and the line of the first that does.
+#[derive(Clone, Copy)]
+struct Tally {
+    calls: u64,
+    differ: u64,
+    first: usize,
+}
+
+// Those of the 84 rows, and how many lines can't be read.
+#[derive(Clone, Copy)]
+pub struct Tallies {
+    rows: [Tally; 84],
+    unreadable: u64,
+}
+
+impl Tallies {
+    pub fn new() -> Tallies {
+        let none = Tally {
+            calls: 0,
+            differ: 0,
+            first: 0,
+        };
+        Tallies {
+            rows: [none; 84],
+            unreadable: 0,
+        }
+    }
+}
 
 // Counts what became of a line; how many bytes the memory then has.
 pub fn take(
     rt: &impl Print,
     outcome: Outcome,
     line: usize,
-    tallies: &mut [u64; 253],
+    tallies: &mut Tallies,
     size: usize,
 ) -> io::Result<usize> {
     match outcome {
         Outcome::Passed => Ok(size),
         Outcome::Memory(n) => Ok(n),
         Outcome::Same(row) => {
-            add(tallies, row);
+            add(tallies, row, false, line);
             Ok(size)
         }
         Outcome::Differs(row) => {
-            add(tallies, row);
-            add_differing(tallies, row, line);
+            add(tallies, row, true, line);
             Ok(size)
         }
         Outcome::Unreadable => {
             println!(rt; "line {line} can't be read")?;
-            add(tallies, 252);
+            tallies.unreadable = tallies.unreadable.saturating_add(1);
             Ok(size)
         }
     }
 }
 
-fn add(tallies: &mut [u64; 253], i: usize) {
-    if i < 253 {
-        if tallies[i] < 18446744073709551615 {
-            tallies[i] = tallies[i] + 1;
-        }
+fn add(tallies: &mut Tallies, row: usize, differs: bool, line: usize) {
+    let Some(tally) = tallies.rows.get_mut(row) else {
+        return;
+    };
+    tally.calls = tally.calls.saturating_add(1);
+    if !differs {
+        return;
     }
-}
-
-fn add_differing(tallies: &mut [u64; 253], row: usize, line: usize) {
-    if row < 84 {
-        add(tallies, 84 + row);
-        if tallies[168 + row] == 0 {
-            tallies[168 + row] = line as u64;
-        }
+    if tally.differ == 0 {
+        tally.first = line;
     }
+    tally.differ = tally.differ.saturating_add(1);
 }
 
 // A line for each operation, and the verdict.
-pub fn report(rt: &impl Print, rows: &[u8], tallies: &[u64; 253]) -> io::Result<()> {
-    let mut row = 0;
-    while row < 84 {
-        let at = find_row(rows, b"", row).name;
-        show(rt, part(rows, at, word(rows, at)))?;
-        print!(rt; ": {} calls", tallies[row])?;
-        show_differing(rt, tallies[84 + row], tallies[168 + row])?;
-        row += 1;
-    }
-    let differ = total(tallies, 84);
-    show_decimal(rt, total(tallies, 0))?;
-    if differ == 0 && tallies[252] == 0 {
-        return show(rt, b" calls, all as recorded\n");
-    }
-    print!(rt; " calls, {differ} differ")?;
-    if tallies[252] != 0 {
-        print!(rt; ", {} lines can't be read", tallies[252])?;
-    }
-    show(rt, b"\n")
-}
-
-fn show_differing(rt: &impl Print, differ: u64, line: u64) -> io::Result<()> {
-    if differ != 0 {
-        print!(rt; ", {differ} differ, the first in line {line}")?;
-    }
-    show(rt, b"\n")
-}
-
-// The sum of 84 counts.
-fn total(tallies: &[u64; 253], from: usize) -> u64 {
-    let mut sum = 0;
-    let mut i = 0;
-    while i < 84 {
-        sum = std::num::wrapping_add_u64(sum, tally(tallies, from, i));
-        i += 1;
-    }
-    sum
-}
-
-fn tally(tallies: &[u64; 253], from: usize, i: usize) -> u64 {
-    if from < 169 {
-        if i < 84 {
-            return tallies[from + i];
+pub fn report(rt: &impl Print, head: &[u8], tallies: &Tallies) -> io::Result<()> {
+    let mut calls = 0u64;
+    let mut differ = 0u64;
+    for (number, tally) in tallies.rows.iter().enumerate() {
+        if let Some(row) = row_at(head, number) {
+            show(rt, row.name)?;
         }
+        print!(rt; ": {} calls", tally.calls)?;
+        show_differing(rt, *tally)?;
+        calls = calls.saturating_add(tally.calls);
+        differ = differ.saturating_add(tally.differ);
     }
-    0
+    print!(rt; "{calls} calls")?;
+    if differ == 0 && tallies.unreadable == 0 {
+        return show(rt, b", all as recorded\n");
+    }
+    print!(rt; ", {differ} differ")?;
+    if tallies.unreadable != 0 {
+        print!(rt; ", {} lines can't be read", tallies.unreadable)?;
+    }
+    show(rt, b"\n")
+}
+
+fn show_differing(rt: &impl Print, tally: Tally) -> io::Result<()> {
+    if tally.differ != 0 {
+        print!(rt;
+            ", {} differ, the first in line {}",
+            tally.differ, tally.first
+        )?;
+    }
+    show(rt, b"\n")
 }
 
 pub fn show(rt: &impl Print, s: &[u8]) -> io::Result<()> {
     rt.write_all(s)
-}
-
-fn show_decimal(rt: &impl Print, n: u64) -> io::Result<()> {
-    rt.print(n)
 }

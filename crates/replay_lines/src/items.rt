@@ -1,27 +1,16 @@
 // The items of a line: numbers, texts, `[n]` for a store lent in n bytes, and `=` before the answer. At most 24, a blank before each.
-use crate::bytes::{byte, part};
+use crate::bytes::part;
 use crate::texts::{joined, read_number};
 
-// What an item is: n, t, s or `=`, and 0 where it can't be read; its number, or a text's length and where its bytes begin.
+// An item: the letter of its kind, as a row's shape has it; its number, or a text's length; where a text's bytes begin, and where those of the line end so far; and what
+// of the line follows.
 #[derive(Clone, Copy)]
-struct Item {
-    kind: u8,
+struct Item<'a> {
+    letter: u8,
     value: u64,
     start: usize,
-    at: usize,
-    to: usize,
-}
-
-// Where the line that begins at a place ends.
-pub fn line_end(s: &[u8], from: usize) -> usize {
-    let mut i = from;
-    while i < s.len() {
-        if s[i] == 10 {
-            return i;
-        }
-        i += 1;
-    }
-    i
+    end: usize,
+    rest: &'a [u8],
 }
 
 // The bytes of the item k, which is a text: its length is the number k, where it begins the number 24 + k.
@@ -29,125 +18,83 @@ pub fn text<'a>(bytes: &'a [u8], items: &[u64; 48], k: usize) -> &'a [u8] {
     if k < 24 {
         return part(bytes, items[24 + k] as usize, items[k] as usize);
     }
-    part(bytes, 0, 0)
+    &[]
 }
 
 // The number k; 0 where there is none.
 pub fn value(items: &[u64; 48], k: usize) -> u64 {
-    if k < 48 {
-        return items[k];
-    }
-    0
+    items.get(k).copied().unwrap_or(0)
 }
 
-// Reads the items from a place on: how many; none where one of them can't be read.
+// Reads the items of which a line's rest consists: how many; none where one of them can't be read.
 pub fn read_items(
     line: &[u8],
-    from: usize,
     bytes: &mut [u8],
-    kinds: &mut [u8; 24],
+    letters: &mut [u8; 24],
     items: &mut [u64; 48],
-) -> usize {
-    let mut at = from;
-    let mut to = 0;
-    let mut count = 0;
-    while at < line.len() {
-        let i = read_item(line, at, bytes, to);
-        let next = i.at;
-        if i.kind == 0 {
-            return 0;
+) -> Option<usize> {
+    let mut rest = line;
+    let mut end = 0;
+    for k in 0..24 {
+        if rest.is_empty() {
+            return Some(k);
         }
-        if next <= at {
-            return 0;
-        }
-        if count >= 24 {
-            return 0;
-        }
-        kinds[count] = i.kind;
-        items[count] = i.value;
-        items[24 + count] = i.start as u64;
-        count += 1;
-        at = next;
-        to = i.to;
+        let item = read_item(rest, bytes, end)?;
+        letters[k] = item.letter;
+        items[k] = item.value;
+        items[24 + k] = item.start as u64;
+        rest = item.rest;
+        end = item.end;
     }
-    count
+    rest.is_empty().then_some(24)
 }
 
 // An item that has no bytes.
-fn without_bytes(kind: u8, value: u64, at: usize, to: usize) -> Item {
+fn without_bytes(letter: u8, value: u64, end: usize, rest: &[u8]) -> Item<'_> {
     Item {
-        kind: kind,
-        value: value,
+        letter,
+        value,
         start: 0,
-        at: at,
-        to: to,
+        end,
+        rest,
     }
 }
 
-fn bad() -> Item {
-    without_bytes(0, 0, 0, 0)
-}
-
-// The item behind the blank at a place.
-fn read_item(line: &[u8], blank: usize, bytes: &mut [u8], to: usize) -> Item {
-    if blank >= line.len() {
-        return bad();
+// The item behind the blank with which a line begins, its bytes written from `to` on.
+fn read_item<'a>(line: &'a [u8], bytes: &mut [u8], to: usize) -> Option<Item<'a>> {
+    match line {
+        [b' ', b'=', rest @ ..] => Some(without_bytes(b'=', 0, to, rest)),
+        [b' ', b'[', rest @ ..] => lent(rest, to),
+        [b' ', rest @ ..] => number_or_text(rest, bytes, to),
+        _ => None,
     }
-    if byte(line, blank) != 32 {
-        return bad();
-    }
-    let at = blank + 1;
-    if at >= line.len() {
-        return bad();
-    }
-    let b = byte(line, at);
-    if b == 61 {
-        return without_bytes(61, 0, at + 1, to);
-    }
-    if b == 91 {
-        return lent(line, at + 1, to);
-    }
-    number_or_text(line, at, bytes, to)
 }
 
 // The rest of `[n]`.
-fn lent(line: &[u8], at: usize, to: usize) -> Item {
-    let n = read_number(line, at);
-    let end = n.at;
-    if end >= line.len() {
-        return bad();
+fn lent(line: &[u8], to: usize) -> Option<Item<'_>> {
+    match read_number(line)? {
+        (n, [b']', rest @ ..]) => Some(without_bytes(b's', n, to, rest)),
+        _ => None,
     }
-    if !n.good || byte(line, end) != 93 {
-        return bad();
-    }
-    without_bytes(115, n.value, end + 1, to)
 }
 
 // A number, or a text: one that begins with a number has `*` behind it.
-fn number_or_text(line: &[u8], at: usize, bytes: &mut [u8], to: usize) -> Item {
-    let n = read_number(line, at);
-    if n.good && byte(line, n.at) != 42 {
-        return without_bytes(110, n.value, n.at, to);
+fn number_or_text<'a>(line: &'a [u8], bytes: &mut [u8], to: usize) -> Option<Item<'a>> {
+    match read_number(line) {
+        None | Some((_, [b'*', ..])) => read_text(line, bytes, to),
+        Some((n, rest)) => Some(without_bytes(b'n', n, to, rest)),
     }
-    read_text(line, at, bytes, to)
 }
 
 // A text, its bytes written from `to` on.
-fn read_text(line: &[u8], at: usize, bytes: &mut [u8], to: usize) -> Item {
-    let p = joined(line, at, bytes, to);
-    let end = p.to;
-    if !p.good {
-        return bad();
-    }
-    if end < to {
-        return bad();
-    }
-    let length = end - to;
-    Item {
-        kind: 116,
+fn read_text<'a>(line: &'a [u8], bytes: &mut [u8], to: usize) -> Option<Item<'a>> {
+    let (end, rest) = joined(line, bytes, to)?;
+    let length = end.checked_sub(to)?;
+    Some(Item {
+        letter: b't',
         value: length as u64,
         start: to,
-        at: p.at,
-        to: end,
-    }
+        end,
+        rest,
+    })
 }

@@ -1,270 +1,93 @@
 // A text of a line: quoted parts that are joined, each with how often it stands, as 300*"\xa5""abc".
-use crate::bytes::byte;
+ghost use Rattle.std.specs.Prelude.{◌<◌, ◌≤◌, IfSome, length};
 
-// Where the line goes on, and where the bytes do; not good where the line can't be read or the bytes have no room.
-#[derive(Clone, Copy)]
-pub struct Place {
-    pub at: usize,
-    pub to: usize,
-    pub good: bool,
+// The number with which a line begins, and what follows: at least one digit, and at most 64 bits.
+pub fn read_number(line: &[u8]) -> Option<(u64, &[u8])>
+    ensures { IfSome result (λ p. length p.1.now ≤ length line.now) }
+{
+    let n = line.iter().take_while(|b| b.is_ascii_digit()).count();
+    let (digits, rest) = line.split_at_checked(n)?;
+    let value = str::from_utf8(digits).ok()?.parse().ok()?;
+    Some((value, rest))
 }
 
-// A number in decimal, and where it ends.
-#[derive(Clone, Copy)]
-pub struct Number {
-    pub value: u64,
-    pub at: usize,
-    pub good: bool,
-}
-
-pub fn is_digit(b: u8) -> bool {
-    48 <= b && b <= 57
-}
-
-// The number at a place: at least one digit, and at most 64 bits.
-pub fn read_number(line: &[u8], from: usize) -> Number {
-    let mut value: u64 = 0;
-    let mut at = from;
-    while at < line.len() {
-        let b = line[at];
-        if b < 48 {
-            break;
-        }
-        if 57 < b {
-            break;
-        }
-        let digit = wide(b - 48);
-        if value > 1844674407370955161 {
-            return bad_number(at);
-        }
-        if value * 10 > 18446744073709551615 - digit {
-            return bad_number(at);
-        }
-        value = value * 10 + digit;
-        at += 1;
+// The joined parts with which a line begins, at least one, written to the bytes from `to` on: where they end, and what follows.
+pub fn joined<'a>(line: &'a [u8], bytes: &mut [u8], to: usize) -> Option<(usize, &'a [u8])> {
+    let (mut end, mut rest) = repeated(line, bytes, to)?;
+    while let [b'"' | b'0'..=b'9', ..] = rest {
+        let (next, after) = repeated(rest, bytes, end)?;
+        end = next;
+        rest = after;
     }
-    Number {
-        value: value,
-        at: at,
-        good: from < at,
-    }
-}
-
-fn bad_number(at: usize) -> Number {
-    Number {
-        value: 0,
-        at: at,
-        good: false,
-    }
-}
-
-fn wide(b: u8) -> u64 {
-    b as u64
-}
-
-fn bad(at: usize) -> Place {
-    Place {
-        at: at,
-        to: 0,
-        good: false,
-    }
-}
-
-// The joined parts at a place, written to the bytes from `to` on.
-pub fn joined(line: &[u8], from: usize, bytes: &mut [u8], to: usize) -> Place {
-    let mut at = from;
-    let mut end = to;
-    while at < line.len() {
-        let b = line[at];
-        if b != 34 && !is_digit(b) {
-            break;
-        }
-        let p = repeated(line, at, bytes, end);
-        let next = p.at;
-        if !p.good {
-            return bad(at);
-        }
-        if next <= at {
-            return bad(at);
-        }
-        at = next;
-        end = p.to;
-    }
-    Place {
-        at: at,
-        to: end,
-        good: from < at,
-    }
+    Some((end, rest))
 }
 
 // One part, with how often it stands.
-fn repeated(line: &[u8], from: usize, bytes: &mut [u8], to: usize) -> Place {
-    if byte(line, from) == 34 {
-        return quoted(line, from, bytes, to);
+fn repeated<'a>(line: &'a [u8], bytes: &mut [u8], to: usize) -> Option<(usize, &'a [u8])>
+    ensures { IfSome result (λ p. length p.1.now < length line.now) }
+{
+    if let [b'"', rest @ ..] = line {
+        return quoted(rest, bytes, to);
     }
-    let n = read_number(line, from);
-    let star = n.at;
-    if star >= line.len() {
-        return bad(from);
-    }
-    if !n.good || byte(line, star) != 42 {
-        return bad(from);
-    }
-    let start = star + 1;
-    let p = quoted(line, start, bytes, to);
-    if !p.good || p.to < to {
-        return bad(from);
-    }
-    let end = repeat(bytes, to, p.to, n.value);
-    Place {
-        at: p.at,
-        to: end.to,
-        good: end.good,
-    }
+    let (times, [b'*', b'"', rest @ ..]) = read_number(line)? else {
+        return None;
+    };
+    let (end, after) = quoted(rest, bytes, to)?;
+    Some((repeat(bytes, to, end, times)?, after))
 }
 
-// The bytes from `from` to before `to`, so many times.
-fn repeat(bytes: &mut [u8], from: usize, to: usize, times: u64) -> Place {
-    if times == 0 {
-        return Place {
-            at: 0,
-            to: from,
-            good: true,
-        };
+// The bytes from `from` to before `to`, so many times: where they end.
+fn repeat(bytes: &mut [u8], from: usize, to: usize, times: u64) -> Option<usize> {
+    let n = to.checked_sub(from)?;
+    if n == 0 || times == 0 {
+        return Some(from);
     }
-    if to <= from {
-        return Place {
-            at: 0,
-            to: to,
-            good: true,
-        };
+    let end = n.checked_mul(times as usize)?.checked_add(from)?;
+    let written = bytes.get_mut(from..end)?;
+    for i in n..written.len() {
+        written[i] = written[i - n];
     }
-    let step = to - from;
+    Some(end)
+}
+
+// The rest of a quoted part.
+fn quoted<'a>(line: &'a [u8], bytes: &mut [u8], to: usize) -> Option<(usize, &'a [u8])>
+    ensures { IfSome result (λ p. length p.1.now < length line.now) }
+{
     let mut end = to;
-    let mut left = times - 1;
-    let mut k = step;
-    while left > 0 {
-        if end >= bytes.len() {
-            return bad(0);
+    let mut rest = line;
+    loop {
+        if let [b'"', after @ ..] = rest {
+            return Some((end, after));
         }
-        if end < step {
-            return bad(0);
-        }
-        bytes[end] = bytes[end - step];
+        let (b, after) = letter(rest)?;
+        *bytes.get_mut(end)? = b;
         end += 1;
-        k -= 1;
-        if k == 0 {
-            k = step;
-            left -= 1;
-        }
-    }
-    Place {
-        at: 0,
-        to: end,
-        good: true,
+        rest = after;
     }
 }
 
-// A quoted part.
-fn quoted(line: &[u8], from: usize, bytes: &mut [u8], to: usize) -> Place {
-    if from >= line.len() {
-        return bad(from);
+// The byte for which the first bytes of a line stand, and what follows: itself, or `\r`, `\n`, `\"`, `\\`, `\xHH`.
+fn letter(line: &[u8]) -> Option<(u8, &[u8])>
+    ensures { IfSome result (λ p. length p.1.now < length line.now) }
+{
+    match line {
+        [b'\\', b'r', rest @ ..] => Some((b'\r', rest)),
+        [b'\\', b'n', rest @ ..] => Some((b'\n', rest)),
+        [b'\\', b @ (b'"' | b'\\'), rest @ ..] => Some((*b, rest)),
+        [b'\\', b'x', high, low, rest @ ..] => { Some((digit(*high)? * 16 + digit(*low)?, rest)) }
+        [b'\\', ..] | [] => None,
+        [b, rest @ ..] => Some((*b, rest)),
     }
-    if byte(line, from) != 34 {
-        return bad(from);
-    }
-    let mut at = from + 1;
-    let mut end = to;
-    while at < line.len() {
-        let b = line[at];
-        if b == 34 {
-            return Place {
-                at: at + 1,
-                to: end,
-                good: true,
-            };
-        }
-        let n = length_of(line, at);
-        if n == 0 {
-            return bad(at);
-        }
-        if line.len() - at < n {
-            return bad(at);
-        }
-        if end >= bytes.len() {
-            return bad(at);
-        }
-        bytes[end] = letter(line, at, n);
-        end += 1;
-        at += n;
-    }
-    bad(at)
 }
 
-// How many bytes of the line stand for one: 1, 2 behind a backslash, 4 for `\xHH`; 0 where they stand for none.
-fn length_of(line: &[u8], at: usize) -> usize {
-    let b = byte(line, at);
-    if b != 92 {
-        return 1;
+// What a hexadecimal digit is worth.
+fn digit(b: u8) -> Option<u8>
+    ensures { IfSome result (λ n. n < 16) }
+{
+    match b {
+        b'0'..=b'9' => Some(b - b'0'),
+        b'a'..=b'f' => Some(b - b'a' + 10),
+        _ => None,
     }
-    let c = after(line, at, 1);
-    if c == 114 || c == 110 || c == 34 || c == 92 {
-        return 2;
-    }
-    if c == 120 && digit(after(line, at, 2)) < 16 && digit(after(line, at, 3)) < 16 {
-        return 4;
-    }
-    0
-}
-
-// The byte that they stand for.
-fn letter(line: &[u8], at: usize, n: usize) -> u8 {
-    if n == 1 {
-        return byte(line, at);
-    }
-    if n == 2 {
-        let c = after(line, at, 1);
-        if c == 114 {
-            return 13;
-        }
-        if c == 110 {
-            return 10;
-        }
-        return c;
-    }
-    let high = digit(after(line, at, 2));
-    let low = digit(after(line, at, 3));
-    if high < 16 {
-        if low < 16 {
-            return high * 16 + low;
-        }
-    }
-    0
-}
-
-// The byte so many after a place.
-fn after(line: &[u8], at: usize, n: usize) -> u8 {
-    if at < line.len() {
-        if n < line.len() - at {
-            return byte(line, at + n);
-        }
-    }
-    0
-}
-
-// What a hexadecimal digit is worth; 16 where it is none.
-fn digit(b: u8) -> u8 {
-    if b < 48 {
-        return 16;
-    }
-    if b <= 57 {
-        return b - 48;
-    }
-    if b < 97 {
-        return 16;
-    }
-    if b <= 102 {
-        return b - 87;
-    }
-    16
 }

@@ -227,13 +227,11 @@ fn lines(rt: &impl Print, place: &[u8], name: &[u8], b: &[u8]) -> io::Result<()>
 
 fn show_lines(rt: &impl Print, name: &[u8], b: &[u8]) -> io::Result<()> {
     let mut from = 0;
-    let mut left = MOST_ANSWERS;
-    while 0 < left {
+    for _ in 0..MOST_ANSWERS {
         let Some(next) = show_next(rt, b, msg::next_header(b, name, from))? else {
-            return Ok(());
+            break;
         };
         from = next;
-        left -= 1;
     }
     Ok(())
 }
@@ -247,13 +245,11 @@ fn elements(rt: &impl Print, place: &[u8], v: &[u8]) -> io::Result<()> {
 
 fn show_elements(rt: &impl Print, v: &[u8]) -> io::Result<()> {
     let mut from = 0;
-    let mut left = MOST_ANSWERS;
-    while 0 < left {
+    for _ in 0..MOST_ANSWERS {
         let Some(next) = show_next(rt, v, route_set::next_header_value(v, from))? else {
-            return Ok(());
+            break;
         };
         from = next;
-        left -= 1;
     }
     Ok(())
 }

@@ -1,8 +1,6 @@
 // Whole messages of the RFCs' call flows: the identifier, CSeq, Contact and Session-Expires of each.
 use dialog_id::DialogId;
-use sheet_lines::{
-    ask, end_line, show, show_expires, show_id, show_lookup, show_method, show_sequence,
-};
+use sheet_lines::{ask, end_line, show, show_answer, show_expires, show_id, show_lookup};
 use std::io;
 
 pub fn flows(rt: &impl Print) -> io::Result<()> {
@@ -111,9 +109,9 @@ fn response(rt: &impl Print, place: &[u8], message: &[u8], block: &[u8]) -> io::
 
 fn fields(rt: &impl Print, place: &[u8], message: &[u8], block: &[u8]) -> io::Result<()> {
     ask(rt, place, message, b", CSeq")?;
-    show_sequence(rt, prack_headers::extract_cseq_number(block))?;
+    show_answer(rt, prack_headers::extract_cseq_number(block))?;
     show(rt, b", method ")?;
-    show_method(rt, prack_headers::extract_cseq_method(block))?;
+    show_answer(rt, prack_headers::extract_cseq_method(block))?;
     end_line(rt)?;
     ask(rt, place, message, b", Contact")?;
     show_lookup(rt, block, route_set::read_contact(block))?;

@@ -1,5 +1,5 @@
 // Numbers as Rust reads a u32, and the number and method of CSeq.
-use sheet_lines::{ask, ask_block, end_line, show, show_method, show_number, show_sequence};
+use sheet_lines::{ask, ask_block, end_line, show, show_answer, show_number};
 use std::io;
 
 pub fn numbers(rt: &impl Print) -> io::Result<()> {
@@ -35,8 +35,8 @@ fn number(rt: &impl Print, place: &[u8], s: &[u8]) -> io::Result<()> {
 
 fn cseq(rt: &impl Print, place: &[u8], block: &[u8]) -> io::Result<()> {
     ask_block(rt, place, b"CSeq", block)?;
-    show_sequence(rt, prack_headers::extract_cseq_number(block))?;
+    show_answer(rt, prack_headers::extract_cseq_number(block))?;
     show(rt, b", method ")?;
-    show_method(rt, prack_headers::extract_cseq_method(block))?;
+    show_answer(rt, prack_headers::extract_cseq_method(block))?;
     end_line(rt)
 }

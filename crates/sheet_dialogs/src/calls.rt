@@ -2,8 +2,7 @@
 use crate::records::{show_cause, show_record};
 use limits::Refusal;
 use sheet_lines::{
-    ask, ask_block, ask_number, end_line, first, show, show_block, show_decimal, show_time,
-    show_yes,
+    ask, ask_block, ask_number, end_line, first, show, show_block, show_time, show_yes,
 };
 use std::io;
 
@@ -98,9 +97,7 @@ pub fn response(
     used: usize,
 ) -> io::Result<usize> {
     show(rt, place)?;
-    show(rt, b"  ")?;
-    show_decimal(rt, status as u64)?;
-    show(rt, b" of {")?;
+    print!(rt; "  {status} of {{")?;
     show_block(rt, block)?;
     show(rt, b"}: ")?;
     let w = dialog_responses::update_from_response(status, block, bytes, used);
@@ -183,8 +180,7 @@ pub fn next_local(
     ask(rt, place, b"next_local_cseq", b"")?;
     match dialog_changes::next_local_cseq(bytes, used) {
         Ok((number, n)) => {
-            show_decimal(rt, number as u64)?;
-            show(rt, b"; ")?;
+            print!(rt; "{number}; ")?;
             show_record(rt, first(bytes, n))?;
             end_line(rt)?;
             Ok(n)
@@ -208,15 +204,8 @@ pub fn matching(
 ) -> io::Result<()> {
     ask(rt, place, b"matches_request, ", method)?;
     match dialog::matches_request(block, first(bytes, used)) {
-        Ok(true) => {
-            show_yes(rt, true)?;
-        }
-        Ok(false) => {
-            show_yes(rt, false)?;
-        }
-        Err(x) => {
-            show_cause(rt, x)?;
-        }
+        Ok(b) => show_yes(rt, b)?,
+        Err(x) => show_cause(rt, x)?,
     }
     end_line(rt)
 }
@@ -234,15 +223,8 @@ pub fn refresh(
     show_time(rt, elapsed)?;
     show(rt, b": ")?;
     match dialog::needs_refresh(first(bytes, used), elapsed) {
-        Ok(true) => {
-            show_yes(rt, true)?;
-        }
-        Ok(false) => {
-            show_yes(rt, false)?;
-        }
-        Err(x) => {
-            show_cause(rt, x)?;
-        }
+        Ok(b) => show_yes(rt, b)?,
+        Err(x) => show_cause(rt, x)?,
     }
     end_line(rt)
 }

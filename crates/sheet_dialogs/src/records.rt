@@ -4,7 +4,7 @@ use dialog::{image_route, read_image};
 use image::UrisAt;
 use limits::Refusal;
 use record::{Numbers, Refresher, State};
-use sheet_lines::{show, show_bracketed, show_decimal, show_part, show_refusal, show_seconds};
+use sheet_lines::{show, show_bracketed, show_part, show_refusal, show_seconds};
 use std::io;
 
 pub fn show_record(rt: &impl Print, image: &[u8]) -> io::Result<()> {
@@ -21,8 +21,7 @@ pub fn show_record(rt: &impl Print, image: &[u8]) -> io::Result<()> {
 }
 
 fn show_state(rt: &impl Print, numbers: Numbers) -> io::Result<()> {
-    let state = numbers.state;
-    match state {
+    match numbers.state {
         State::Early => show(rt, b"E"),
         State::Confirmed => show(rt, b"C"),
         State::Terminated => show(rt, b"T"),
@@ -38,23 +37,15 @@ fn show_side(rt: &impl Print, we_are_uac: bool) -> io::Result<()> {
 }
 
 fn show_numbers(rt: &impl Print, numbers: Numbers) -> io::Result<()> {
-    let last_ack = numbers.last_ack;
-    let seconds = numbers.seconds;
-    let refresher = numbers.refresher;
-    show_decimal(rt, numbers.local as u64)?;
-    show(rt, b" ")?;
-    show_decimal(rt, numbers.remote as u64)?;
-    show_optional(rt, last_ack)?;
-    show_optional(rt, seconds)?;
-    show_refresher(rt, refresher)
+    print!(rt; "{} {}", numbers.local, numbers.remote)?;
+    show_optional(rt, numbers.last_ack)?;
+    show_optional(rt, numbers.seconds)?;
+    show_refresher(rt, numbers.refresher)
 }
 
 fn show_optional(rt: &impl Print, n: Option<u32>) -> io::Result<()> {
     match n {
-        Some(v) => {
-            show(rt, b" ")?;
-            show_decimal(rt, v as u64)
-        }
+        Some(v) => print!(rt; " {v}"),
         None => show(rt, b" -"),
     }
 }
@@ -68,9 +59,7 @@ fn show_refresher(rt: &impl Print, r: Refresher) -> io::Result<()> {
 }
 
 fn show_target(rt: &impl Print, image: &[u8], uris: UrisAt) -> io::Result<()> {
-    if uris.local_secure {
-        show(rt, b", secure")?;
-    } else if uris.remote_secure {
+    if uris.local_secure || uris.remote_secure {
         show(rt, b", secure")?;
     }
     show(rt, b", target ")?;
@@ -86,10 +75,8 @@ fn show_routes(rt: &impl Print, image: &[u8], count: usize) -> io::Result<()> {
 }
 
 fn show_each(rt: &impl Print, image: &[u8], count: usize) -> io::Result<()> {
-    let mut i = 0;
-    while i < count {
+    for i in 0..count {
         show_route(rt, image, i)?;
-        i += 1;
     }
     Ok(())
 }

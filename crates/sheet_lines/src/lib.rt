@@ -8,6 +8,7 @@ use headers::Refresher;
 use limits::Refusal;
 pub use parts::{first, put};
 use rack::RAck;
+use std::fmt::Display;
 use std::io;
 use text::Span;
 use uri::SipUri;
@@ -17,10 +18,6 @@ const NANOS_PER_SECOND: u64 = 1000000000;
 // Bytes as they are, on standard output.
 pub fn show(rt: &impl Print, s: &[u8]) -> io::Result<()> {
     rt.write_all(s)
-}
-
-pub fn show_decimal(rt: &impl Print, n: u64) -> io::Result<()> {
-    rt.print(n)
 }
 
 pub fn end_line(rt: &impl Print) -> io::Result<()> {
@@ -41,8 +38,7 @@ pub fn ask_number(rt: &impl Print, place: &[u8], question: &[u8], given: u64) ->
     show(rt, place)?;
     show(rt, b"  ")?;
     show(rt, question)?;
-    show_decimal(rt, given)?;
-    show(rt, b": ")
+    print!(rt; "{given}: ")
 }
 
 // The same of a text that is told by its size.
@@ -50,9 +46,7 @@ pub fn ask_size(rt: &impl Print, place: &[u8], question: &[u8], given: &[u8]) ->
     show(rt, place)?;
     show(rt, b"  ")?;
     show(rt, question)?;
-    show(rt, b" of ")?;
-    show_decimal(rt, given.len() as u64)?;
-    show(rt, b" bytes: ")
+    print!(rt; " of {} bytes: ", given.len())
 }
 
 // The same of a header block.
@@ -67,43 +61,35 @@ pub fn ask_block(rt: &impl Print, place: &[u8], question: &[u8], block: &[u8]) -
 
 // The bytes of a block, its line ends as `\r\n`.
 pub fn show_block(rt: &impl Print, block: &[u8]) -> io::Result<()> {
-    let mut i = 0;
-    while i < block.len() {
-        show_byte(rt, block[i])?;
-        i += 1;
+    for &b in block {
+        show_byte(rt, b)?;
     }
     Ok(())
 }
 
 fn show_byte(rt: &impl Print, b: u8) -> io::Result<()> {
-    if b == b'\r' {
-        return show(rt, b"\\r");
+    match b {
+        b'\r' => show(rt, b"\\r"),
+        b'\n' => show(rt, b"\\n"),
+        _ => show(rt, &[b]),
     }
-    if b == b'\n' {
-        return show(rt, b"\\n");
-    }
-    let one = [b; 1];
-    show(rt, &one)
 }
 
 // The part of a text that an answer names.
 pub fn show_part(rt: &impl Print, s: &[u8], part: Span) -> io::Result<()> {
-    let at = part.start;
-    if s.len() < at {
-        return show(rt, b"outside");
+    match s.get(part.start..) {
+        Some(rest) => show_first(rt, rest, part.length),
+        None => show(rt, b"outside"),
     }
-    show_first(rt, &s[at..], part.length)
 }
 
 // The first n bytes.
 fn show_first(rt: &impl Print, s: &[u8], n: usize) -> io::Result<()> {
-    if n == 0 {
-        return show(rt, b"empty");
+    match s.get(..n) {
+        Some([]) => show(rt, b"empty"),
+        Some(part) => show(rt, part),
+        None => show(rt, b"outside"),
     }
-    if s.len() < n {
-        return show(rt, b"outside");
-    }
-    show(rt, first(s, n))
 }
 
 // A part in brackets.
@@ -115,14 +101,11 @@ pub fn show_bracketed(rt: &impl Print, s: &[u8], part: Span) -> io::Result<()> {
 
 // How long a part is, and where it stands.
 pub fn show_size(rt: &impl Print, part: Span) -> io::Result<()> {
-    show_decimal(rt, part.length as u64)?;
-    show(rt, b" bytes at ")?;
-    show_decimal(rt, part.start as u64)
+    print!(rt; "{} bytes at {}", part.length, part.start)
 }
 
 pub fn show_refusal(rt: &impl Print, x: Refusal) -> io::Result<()> {
-    show(rt, b"refused ")?;
-    show_decimal(rt, x.number() as u64)
+    print!(rt; "refused {}", x.number())
 }
 
 pub fn show_yes(rt: &impl Print, b: bool) -> io::Result<()> {
@@ -138,7 +121,7 @@ pub fn show_check(rt: &impl Print, c: Result<(), Refusal>) -> io::Result<()> {
 
 pub fn show_number(rt: &impl Print, n: Option<u32>) -> io::Result<()> {
     match n {
-        Some(v) => show_decimal(rt, v as u64),
+        Some(v) => print!(rt; "{v}"),
         None => show(rt, b"unreadable"),
     }
 }
@@ -219,24 +202,15 @@ pub fn show_uri(rt: &impl Print, s: &[u8], u: Result<SipUri, Refusal>) -> io::Re
 
 fn show_port(rt: &impl Print, p: Option<u16>) -> io::Result<()> {
     match p {
-        Some(n) => {
-            show(rt, b", port ")?;
-            show_decimal(rt, n as u64)
-        }
+        Some(n) => print!(rt; ", port {n}"),
         None => show(rt, b", no port"),
     }
 }
 
-pub fn show_estimate(rt: &impl Print, e: Result<usize, Refusal>) -> io::Result<()> {
-    match e {
-        Ok(n) => show_decimal(rt, n as u64),
-        Err(x) => show_refusal(rt, x),
-    }
-}
-
-pub fn show_count(rt: &impl Print, c: Result<usize, Refusal>) -> io::Result<()> {
-    match c {
-        Ok(n) => show_decimal(rt, n as u64),
+// A number, or why there is none.
+pub fn show_answer<N: Display + Drop>(rt: &impl Print, n: Result<N, Refusal>) -> io::Result<()> {
+    match n {
+        Ok(n) => print!(rt; "{n}"),
         Err(x) => show_refusal(rt, x),
     }
 }
@@ -247,7 +221,7 @@ pub fn show_expires(
 ) -> io::Result<()> {
     match e {
         Ok(Some((seconds, refresher))) => {
-            show_decimal(rt, seconds as u64)?;
+            print!(rt; "{seconds}")?;
             show_refresher(rt, refresher)
         }
         Ok(None) => show(rt, b"nothing"),
@@ -264,8 +238,7 @@ fn show_refresher(rt: &impl Print, r: Refresher) -> io::Result<()> {
 }
 
 pub fn show_seconds(rt: &impl Print, n: u64) -> io::Result<()> {
-    show_decimal(rt, n)?;
-    show(rt, b" s")
+    print!(rt; "{n} s")
 }
 
 // Nanoseconds: as seconds where they are whole.
@@ -273,8 +246,7 @@ pub fn show_time(rt: &impl Print, nanos: u64) -> io::Result<()> {
     if nanos % NANOS_PER_SECOND == 0 {
         show_seconds(rt, nanos / NANOS_PER_SECOND)
     } else {
-        show_decimal(rt, nanos)?;
-        show(rt, b" ns")
+        print!(rt; "{nanos} ns")
     }
 }
 
@@ -306,52 +278,25 @@ pub fn show_checked(rt: &impl Print, c: Result<u32, Refusal>) -> io::Result<()> 
     }
 }
 
-pub fn show_role(rt: &impl Print, r: Result<bool, Refusal>) -> io::Result<()> {
-    match r {
+// Yes or no, or why neither.
+pub fn show_verdict(rt: &impl Print, b: Result<bool, Refusal>) -> io::Result<()> {
+    match b {
         Ok(b) => show_yes(rt, b),
-        Err(x) => show_refusal(rt, x),
-    }
-}
-
-pub fn show_sequence(rt: &impl Print, n: Result<u32, Refusal>) -> io::Result<()> {
-    match n {
-        Ok(v) => show_decimal(rt, v as u64),
-        Err(x) => show_refusal(rt, x),
-    }
-}
-
-pub fn show_method(rt: &impl Print, m: Result<u8, Refusal>) -> io::Result<()> {
-    match m {
-        Ok(n) => show_decimal(rt, n as u64),
         Err(x) => show_refusal(rt, x),
     }
 }
 
 pub fn show_method_number(rt: &impl Print, m: Result<Option<u8>, Refusal>) -> io::Result<()> {
     match m {
-        Ok(Some(n)) => show_decimal(rt, n as u64),
+        Ok(Some(n)) => print!(rt; "{n}"),
         Ok(None) => show(rt, b"nothing"),
-        Err(x) => show_refusal(rt, x),
-    }
-}
-
-pub fn show_reliable(rt: &impl Print, r: Result<bool, Refusal>) -> io::Result<()> {
-    match r {
-        Ok(true) => show(rt, b"yes"),
-        Ok(false) => show(rt, b"no"),
         Err(x) => show_refusal(rt, x),
     }
 }
 
 pub fn show_rack(rt: &impl Print, r: Result<RAck, Refusal>) -> io::Result<()> {
     match r {
-        Ok(rack) => {
-            show_decimal(rt, rack.rseq as u64)?;
-            show(rt, b" ")?;
-            show_decimal(rt, rack.cseq as u64)?;
-            show(rt, b" ")?;
-            show_decimal(rt, rack.method as u64)
-        }
+        Ok(rack) => print!(rt; "{} {} {}", rack.rseq, rack.cseq, rack.method),
         Err(x) => show_refusal(rt, x),
     }
 }

@@ -2,15 +2,12 @@
 
 // One byte of a text changed.
 pub fn put(s: &mut [u8], at: usize, b: u8) {
-    if at < s.len() {
-        s[at] = b;
+    if let Some(place) = s.get_mut(at) {
+        *place = b;
     }
 }
 
 // The first n bytes of a text, or all that it has.
 pub fn first(s: &[u8], n: usize) -> &[u8] {
-    if s.len() < n {
-        return s;
-    }
-    &s[..n]
+    s.get(..n).unwrap_or(s)
 }

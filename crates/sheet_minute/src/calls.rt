@@ -1,6 +1,6 @@
 // Each call on a run of verdicts, and its line. `add` hands out the new used length.
 use limits::Refusal;
-use sheet_lines::{show, show_decimal, show_refusal};
+use sheet_lines::{show, show_refusal};
 use std::io;
 
 // A verdict, and what was answered.
@@ -11,9 +11,7 @@ pub fn add(
     run: &mut [u8],
     used: usize,
 ) -> io::Result<usize> {
-    tell(rt, b"add_verdict at ", time)?;
-    tell(rt, b", number ", number as u64)?;
-    show(rt, b": ")?;
+    print!(rt; "add_verdict at {time}, number {number}: ")?;
     let w = worst_minute::add_verdict(time, number, run, used);
     changed(rt, w, run, used)
 }
@@ -27,18 +25,13 @@ pub fn add_many(
     run: &mut [u8],
     used: usize,
 ) -> io::Result<usize> {
-    tell(rt, b"add_verdict at ", time)?;
-    tell(rt, b", number ", number as u64)?;
-    tell(rt, b", times ", count)?;
-    show(rt, b": ")?;
+    print!(rt; "add_verdict at {time}, number {number}, times {count}: ")?;
     let mut n = used;
-    let mut i = 0;
-    while i < count {
+    for _ in 0..count {
         match worst_minute::add_verdict(time, number, run, n) {
             Ok(length) => n = length,
             Err(x) => return changed(rt, Err(x), run, n),
         }
-        i += 1;
     }
     changed(rt, Ok(n), run, n)
 }
@@ -48,8 +41,7 @@ pub fn worst(rt: &impl Print, run: &[u8], used: usize) -> io::Result<()> {
     show(rt, b"worst_minute: ")?;
     match worst_minute::worst_minute(run, used) {
         Ok(Some((n, start))) => {
-            show_decimal(rt, n as u64)?;
-            tell(rt, b" from ", start)?;
+            print!(rt; "{n} from {start}")?;
         }
         Ok(None) => show(rt, b"0")?,
         Err(x) => show_refusal(rt, x)?,
@@ -78,15 +70,7 @@ fn changed(
     }
 }
 
-// A number of which the line says what it is.
-fn tell(rt: &impl Print, what: &[u8], n: u64) -> io::Result<()> {
-    show(rt, what)?;
-    show_decimal(rt, n)
-}
-
 // The end of a line: how many of the lent bytes are used.
 fn end(rt: &impl Print, run: &[u8], used: usize) -> io::Result<()> {
-    tell(rt, b"; ", used as u64)?;
-    tell(rt, b" of ", run.len() as u64)?;
-    show(rt, b" bytes\n")
+    println!(rt; "; {used} of {} bytes", run.len())
 }

@@ -2,7 +2,7 @@
 use limits::Refusal;
 use prack_validator::Validated;
 use sheet_lines::{
-    end_line, first, show, show_block, show_decimal, show_rack, show_refusal, show_time, show_yes,
+    end_line, first, show, show_block, show_rack, show_refusal, show_time, show_yes,
 };
 use std::io;
 
@@ -15,17 +15,9 @@ pub fn begin(rt: &impl Print, place: &[u8], call: &[u8], id: &[u8]) -> io::Resul
     show(rt, id)
 }
 
-// A number of which the line says what it is.
-pub fn tell(rt: &impl Print, what: &[u8], n: u64) -> io::Result<()> {
-    show(rt, what)?;
-    show_decimal(rt, n)
-}
-
 // The end of a line: how many of the lent bytes are used.
 pub fn end(rt: &impl Print, bytes: &[u8], used: usize) -> io::Result<()> {
-    tell(rt, b"; ", used as u64)?;
-    tell(rt, b" of ", bytes.len() as u64)?;
-    show(rt, b" bytes\n")
+    println!(rt; "; {used} of {} bytes", bytes.len())
 }
 
 // What a call answered that hands out no more than its new used length.
@@ -62,10 +54,8 @@ pub fn register(
     used: usize,
 ) -> io::Result<usize> {
     begin(rt, place, b"register", id)?;
-    tell(rt, b", ", code as u64)?;
-    tell(rt, b" with RSeq ", rseq as u64)?;
-    tell(rt, b" and CSeq ", cseq as u64)?;
-    show_moment(rt, b" INVITE, at ", time)?;
+    print!(rt; ", {code} with RSeq {rseq} and CSeq {cseq} INVITE")?;
+    show_moment(rt, b", at ", time)?;
     let w = prack_validator::register(id, rseq, cseq, 1, code, time, bytes, used);
     changed(rt, w, bytes, used)
 }
@@ -133,15 +123,10 @@ pub fn pracked(
     used: usize,
 ) -> io::Result<()> {
     begin(rt, place, b"is_pracked", id)?;
-    tell(rt, b", RSeq ", rseq as u64)?;
-    show(rt, b": ")?;
+    print!(rt; ", RSeq {rseq}: ")?;
     match prack_validator::is_pracked(id, rseq, bytes, used) {
-        Ok(b) => {
-            show_yes(rt, b)?;
-        }
-        Err(x) => {
-            show_refusal(rt, x)?;
-        }
+        Ok(b) => show_yes(rt, b)?,
+        Err(x) => show_refusal(rt, x)?,
     }
     end_line(rt)
 }
@@ -155,8 +140,7 @@ pub fn remove_pracked(
     used: usize,
 ) -> io::Result<usize> {
     begin(rt, place, b"remove_pracked", id)?;
-    tell(rt, b", RSeq ", rseq as u64)?;
-    show(rt, b": ")?;
+    print!(rt; ", RSeq {rseq}: ")?;
     let w = prack_removal::remove_pracked(id, rseq, bytes, used);
     changed(rt, w, bytes, used)
 }
@@ -182,13 +166,12 @@ fn show_moment(rt: &impl Print, before: &[u8], time: u64) -> io::Result<()> {
 
 // What `get_pending` wrote: six bytes for each response.
 fn show_waiting(rt: &impl Print, out: &[u8]) -> io::Result<()> {
-    show_decimal(rt, (out.len() / 6) as u64)?;
-    let mut at = 0;
-    while out.len() - at >= 6 {
-        tell(rt, b" [", codec::read_four(out, at) as u64)?;
-        tell(rt, b" ", codec::read_two(out, at + 4) as u64)?;
-        show(rt, b"]")?;
-        at += 6;
+    let responses = out.chunks_exact(6);
+    print!(rt; "{}", responses.len())?;
+    for response in responses {
+        let rseq = codec::read_four(response, 0);
+        let code = codec::read_two(response, 4);
+        print!(rt; " [{rseq} {code}]")?;
     }
     Ok(())
 }

@@ -1,7 +1,7 @@
 // RSeq numbers. Each dialog has the Call-ID 1 and the remote tag a; a line names its local tag.
-use crate::calls::{begin, changed, end, tell};
+use crate::calls::{begin, changed, end};
 use limits::Refusal;
-use sheet_lines::{ask, end_line, put, show, show_decimal, show_refusal};
+use sheet_lines::{ask, end_line, put, show_answer, show_refusal};
 use std::io;
 
 pub fn numbers(rt: &impl Print) -> io::Result<()> {
@@ -36,11 +36,10 @@ fn next(
     used: usize,
 ) -> io::Result<usize> {
     begin(rt, place, b"next_rseq", local_tag)?;
-    tell(rt, b", n ", n as u64)?;
-    show(rt, b": ")?;
+    print!(rt; ", n {n}: ")?;
     match rseq_manager::next_rseq(b"1", local_tag, b"a", n, bytes, used) {
         Ok((number, after)) => {
-            show_decimal(rt, number as u64)?;
+            print!(rt; "{number}")?;
             end(rt, bytes, after)?;
             Ok(after)
         }
@@ -60,14 +59,10 @@ fn current(
     used: usize,
 ) -> io::Result<()> {
     ask(rt, place, b"current_rseq ", local_tag)?;
-    match rseq_manager::current_rseq(b"1", local_tag, b"a", bytes, used) {
-        Ok(number) => {
-            show_decimal(rt, number as u64)?;
-        }
-        Err(x) => {
-            show_refusal(rt, x)?;
-        }
-    }
+    show_answer(
+        rt,
+        rseq_manager::current_rseq(b"1", local_tag, b"a", bytes, used),
+    )?;
     end_line(rt)
 }
 
@@ -85,13 +80,6 @@ fn remove(
 
 fn count(rt: &impl Print, place: &[u8], what: &[u8], c: Result<usize, Refusal>) -> io::Result<()> {
     ask(rt, place, what, b"")?;
-    match c {
-        Ok(n) => {
-            show_decimal(rt, n as u64)?;
-        }
-        Err(x) => {
-            show_refusal(rt, x)?;
-        }
-    }
+    show_answer(rt, c)?;
     end_line(rt)
 }

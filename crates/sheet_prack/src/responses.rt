@@ -74,10 +74,8 @@ pub fn eleventh(rt: &impl Print) -> io::Result<()> {
 // Ten responses, RSeq 1 to 10, without a line.
 fn ten(id: &[u8], bytes: &mut [u8]) -> usize {
     let mut used = 0;
-    let mut i = 0;
-    while i < 10 {
-        i += 1;
-        if let Ok(n) = prack_validator::register(id, i, 1, 1, 180, 0, bytes, used) {
+    for rseq in 1..=10 {
+        if let Ok(n) = prack_validator::register(id, rseq, 1, 1, 180, 0, bytes, used) {
             used = n;
         }
     }

@@ -1,6 +1,6 @@
 // The created and terminated counts.
 use metrics::DialogMetrics;
-use sheet_lines::{ask, end_line, show, show_decimal};
+use sheet_lines::ask;
 use std::io;
 
 const LARGEST: u64 = 18446744073709551615;
@@ -29,8 +29,5 @@ pub fn counts(rt: &impl Print) -> io::Result<()> {
 
 fn count(rt: &impl Print, what: &[u8], m: DialogMetrics) -> io::Result<()> {
     ask(rt, b"01 metrics.rs", b"counts, ", what)?;
-    show_decimal(rt, m.created)?;
-    show(rt, b" ")?;
-    show_decimal(rt, m.terminated)?;
-    end_line(rt)
+    println!(rt; "{} {}", m.created, m.terminated)
 }

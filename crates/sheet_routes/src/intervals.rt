@@ -1,6 +1,6 @@
 // Session intervals: refresh, expiry, the minimum, negotiation, and who refreshes. Times are given here in seconds.
 use sheet_lines::{
-    end_line, show, show_checked, show_interval, show_role, show_seconds, show_time, show_yes,
+    end_line, show, show_checked, show_interval, show_seconds, show_time, show_verdict, show_yes,
 };
 use std::io;
 
@@ -190,7 +190,7 @@ fn role(
     } else {
         show(rt, b", we are uas: ")?;
     }
-    show_role(
+    show_verdict(
         rt,
         session_timer_manager::determine_refresher_role(present, param, is_uac),
     )?;

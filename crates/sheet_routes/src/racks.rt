@@ -1,7 +1,7 @@
 // Methods by number, RSeq, reliable provisional responses, and RAck read and written.
 use sheet_lines::{
-    ask, ask_block, ask_number, end_line, show, show_block, show_decimal, show_method_number,
-    show_rack, show_reliable, show_sequence, show_written,
+    ask, ask_block, ask_number, end_line, show, show_answer, show_block, show_method_number,
+    show_rack, show_verdict, show_written,
 };
 use std::io;
 
@@ -105,18 +105,16 @@ fn name(rt: &impl Print, place: &[u8], number: u8) -> io::Result<()> {
 
 fn rseq(rt: &impl Print, place: &[u8], block: &[u8]) -> io::Result<()> {
     ask_block(rt, place, b"RSeq", block)?;
-    show_sequence(rt, prack_headers::extract_rseq(block))?;
+    show_answer(rt, prack_headers::extract_rseq(block))?;
     end_line(rt)
 }
 
 fn reliable(rt: &impl Print, place: &[u8], status: u16, block: &[u8]) -> io::Result<()> {
     show(rt, place)?;
-    show(rt, b"  reliable, ")?;
-    show_decimal(rt, status as u64)?;
-    show(rt, b" of {")?;
+    print!(rt; "  reliable, {status} of {{")?;
     show_block(rt, block)?;
     show(rt, b"}: ")?;
-    show_reliable(rt, prack_headers::is_reliable_provisional(status, block))?;
+    show_verdict(rt, prack_headers::is_reliable_provisional(status, block))?;
     end_line(rt)
 }
 
@@ -128,13 +126,7 @@ fn rack(rt: &impl Print, place: &[u8], value: &[u8]) -> io::Result<()> {
 
 fn written(rt: &impl Print, place: &[u8], rseq: u32, cseq: u32, method: u8) -> io::Result<()> {
     show(rt, place)?;
-    show(rt, b"  RAck of ")?;
-    show_decimal(rt, rseq as u64)?;
-    show(rt, b", ")?;
-    show_decimal(rt, cseq as u64)?;
-    show(rt, b" and method ")?;
-    show_decimal(rt, method as u64)?;
-    show(rt, b": ")?;
+    print!(rt; "  RAck of {rseq}, {cseq} and method {method}: ")?;
     let mut out = [0u8; 40];
     let w = rack::format_rack(rseq, cseq, method, &mut out);
     show_written(rt, &out, w)?;

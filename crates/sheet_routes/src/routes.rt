@@ -1,5 +1,5 @@
 // Contact and Record-Route: the remote target, and the route set as received and reversed.
-use sheet_lines::{ask_block, end_line, show, show_bracketed, show_count, show_lookup};
+use sheet_lines::{ask_block, end_line, show, show_answer, show_bracketed, show_lookup};
 use std::io;
 
 // No example has more.
@@ -148,13 +148,11 @@ fn reversed(rt: &impl Print, place: &[u8], block: &[u8]) -> io::Result<()> {
 
 // How many routes there are, and each in brackets.
 fn show_routes(rt: &impl Print, block: &[u8], reversed: bool) -> io::Result<()> {
-    show_count(rt, route_set::route_count(block))?;
-    let mut i = 0;
-    while i < MOST_ROUTES {
+    show_answer(rt, route_set::route_count(block))?;
+    for i in 0..MOST_ROUTES {
         if !show_route(rt, block, reversed, i)? {
-            return Ok(());
+            break;
         }
-        i += 1;
     }
     Ok(())
 }

@@ -1,5 +1,5 @@
 // URIs, given ones and those in header values.
-use sheet_lines::{ask, ask_size, end_line, first, put, show_estimate, show_lookup, show_uri};
+use sheet_lines::{ask, ask_size, end_line, first, put, show_answer, show_lookup, show_uri};
 use std::io;
 
 pub fn uris(rt: &impl Print) -> io::Result<()> {
@@ -158,14 +158,14 @@ fn given(rt: &impl Print, place: &[u8], s: &[u8]) -> io::Result<()> {
 
 fn estimate(rt: &impl Print, place: &[u8], s: &[u8]) -> io::Result<()> {
     ask(rt, place, b"estimate of ", s)?;
-    show_estimate(rt, uri::uri_estimate(s))?;
+    show_answer(rt, uri::uri_estimate(s))?;
     end_line(rt)
 }
 
 // The host has four bytes fewer than the URI, which are its scheme's.
 fn host_of(rt: &impl Print, s: &[u8]) -> io::Result<()> {
     ask_size(rt, b"01 Contact", b"estimate of a host in a URI", s)?;
-    show_estimate(rt, uri::uri_estimate(s))?;
+    show_answer(rt, uri::uri_estimate(s))?;
     end_line(rt)
 }
 

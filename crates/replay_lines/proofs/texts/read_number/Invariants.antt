@@ -1,6 +1,0 @@
--- The measure is how many bytes of the line are left.
-use Rattle.std.proofs.Common.{length, ◌-◌}
-use Rattle.replay_lines.proofs.texts.read_number.Given as goal
-
-abbrev pub decreases-loop-at : goal.decreases-loop-at
-decreases-loop-at l = length l.line - l.at

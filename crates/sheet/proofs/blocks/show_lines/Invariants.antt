@@ -1,5 +1,0 @@
--- The measure is how many answers may come.
-use Rattle.sheet.proofs.blocks.show_lines.Given as goal
-
-abbrev pub decreases-loop-left : goal.decreases-loop-left
-decreases-loop-left g l = l.left
