@@ -22,10 +22,10 @@ pub record Gives {A : Type 0} (number : ℕ) (after : A) (r : ℕ) (left : A) : 
 -- ---- plain values
 
 -- 0 none, 1 uac, 2 uas
-abbrev pub refresher_number : Refresher → ℕ
-refresher_number refresher.Unspecified = 0
-refresher_number refresher.Uac = 1
-refresher_number refresher.Uas = 2
+abbrev pub refresher_number : Option Refresher → ℕ
+refresher_number None = 0
+refresher_number (Some refresher.Uac) = 1
+refresher_number (Some refresher.Uas) = 2
 
 -- what 13 returns beside its number; any other cause keeps the value
 abbrev pub least_after : Refusal → ℕ → ℕ
@@ -169,12 +169,12 @@ pub record ExpiresNumbers : Type 0 where
   pub seconds : ℕ
   pub refresher : ℕ
 
-abbrev pub expires_after : Result (Option (ℕ × Refresher)) Refusal → ExpiresNumbers → ExpiresNumbers
+abbrev pub expires_after : Result (Option (ℕ × Option Refresher)) Refusal → ExpiresNumbers → ExpiresNumbers
 expires_after (Ok (Some (n, r))) old = record { found = 1; seconds = n; refresher = refresher_number r }
 expires_after (Ok None) old = record { found = 0; seconds = old.seconds; refresher = old.refresher }
 expires_after (Err cause) old = old
 
-abbrev pub ExpiresGives : Result (Option (ℕ × Refresher)) Refusal → ExpiresNumbers → ℕ → ExpiresNumbers → Type 0
+abbrev pub ExpiresGives : Result (Option (ℕ × Option Refresher)) Refusal → ExpiresNumbers → ℕ → ExpiresNumbers → Type 0
 ExpiresGives answer old r left = Gives (number_in answer) (expires_after answer old) r left
 
 -- ---- a method's number by its text

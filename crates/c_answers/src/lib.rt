@@ -197,7 +197,7 @@ pub fn give_uri(
 }
 
 pub fn give_expires(
-    answer: Result<Option<(u32, Refresher)>, Refusal>,
+    answer: Result<Option<(u32, Option<Refresher>)>, Refusal>,
     found: &mut u8,
     seconds: &mut u32,
     refresher: &mut u8,
@@ -259,6 +259,7 @@ pub fn give_rack(
     }
 }
 
+// Kept (4): two cases of an answer and no conversion: a refusal leaves the least too.
 pub fn give_validated(answer: Result<u64, Refusal>, least: &mut u64) -> u8
     ensures { ValidatedGives answer least.old result least.new }
 {
@@ -268,14 +269,15 @@ pub fn give_validated(answer: Result<u64, Refusal>, least: &mut u64) -> u8
     }
 }
 
-// 0 none, 1 uac, 2 uas. No `From`, which the crate of the enum would have to hold, and no cast, which would hand over the order of its variants.
-fn refresher_number(r: Refresher) -> u8
+// 0 none, 1 uac, 2 uas.
+// Kept (4): a `From` would have to stand in the crate of the enum, and a cast would hand over the order of its variants.
+pub fn refresher_number(r: Option<Refresher>) -> u8
     ensures { result ≡ refresher_number r }
 {
     match r {
-        Refresher::Unspecified => 0,
-        Refresher::Uac => 1,
-        Refresher::Uas => 2,
+        None => 0,
+        Some(Refresher::Uac) => 1,
+        Some(Refresher::Uas) => 2,
     }
 }
 
@@ -284,42 +286,8 @@ pub fn give_least(x: Refusal, least: &mut u64) -> u8
     ensures value { result ≡ number_of x }
     ensures least_after { least.new ≡ least_after x least.old }
 {
-    *least = least_of(x, *least);
-    x.number()
-}
-
-// What 13 returns beside its number; any other cause keeps the value.
-fn least_of(x: Refusal, old: u64) -> u64
-    ensures { result ≡ least_after x old }
-{
-    match x {
-        Refusal::SessionExpiresTooSmall(least) => least,
-        Refusal::TextTooLong => old,
-        Refusal::Malformed => old,
-        Refusal::BadStore => old,
-        Refusal::MissingHeader => old,
-        Refusal::InvalidStatus => old,
-        Refusal::InvalidUri => old,
-        Refusal::UriTooLong => old,
-        Refusal::RouteSetTooLarge => old,
-        Refusal::CSeqZero => old,
-        Refusal::CSeqTooLarge => old,
-        Refusal::InvalidCSeq => old,
-        Refusal::CSeqJumpTooLarge => old,
-        Refusal::SessionExpiresTooLarge => old,
-        Refusal::NotFound => old,
-        Refusal::TooManyDialogs => old,
-        Refusal::TooManyEarlyDialogs => old,
-        Refusal::NoRoom => old,
-        Refusal::InvalidRAck => old,
-        Refusal::NoPendingList => old,
-        Refusal::UnknownRSeq => old,
-        Refusal::RAckCSeqMismatch => old,
-        Refusal::RAckMethodMismatch => old,
-        Refusal::DuplicatePrack => old,
-        Refusal::IdentifierEmpty => old,
-        Refusal::IdentifierTooLong => old,
-        Refusal::ControlCharacters => old,
-        Refusal::InvalidMethod => old,
+    if let Refusal::SessionExpiresTooSmall(given) = x {
+        *least = given;
     }
+    x.number()
 }

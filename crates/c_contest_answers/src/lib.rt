@@ -1,9 +1,8 @@
 // The answer of the interval contest handed over to a C caller: the number is returned, and the values go to the lent numbers.
 #![tactic(auto)]
 
-ghost use Rattle.std.specs.Prelude.{◌≡◌};
-ghost use Rattle.interval_contest.specs.Answers.{extent_in, outcome_in};
-ghost use Rattle.c_contest_answers.specs.Given.{least_in, most_in, ContestGives};
+ghost use Rattle.interval_contest.specs.Answers.{outcome_in};
+ghost use Rattle.c_contest_answers.specs.Given.{ContestGives};
 
 use c_answers::give_least;
 use interval_contest::Contest;
@@ -27,34 +26,14 @@ pub fn give_contest(
             let first = c.first;
             let retry = c.retry;
             *has_first = u8::from(first.is_some());
-            *first_least = least_in(first, *first_least);
-            *first_most = most_in(first, *first_most);
+            *first_least = first.map_or(*first_least, |(least, _)| least);
+            *first_most = first.map_or(*first_most, |(_, most)| most);
             *has_retry = u8::from(retry.is_some());
-            *retry_least = least_in(retry, *retry_least);
-            *retry_most = most_in(retry, *retry_most);
+            *retry_least = retry.map_or(*retry_least, |(least, _)| least);
+            *retry_most = retry.map_or(*retry_most, |(_, most)| most);
             *only_requested = u8::from(c.only_requested);
             0
         }
         Err(x) => give_least(x, least),
-    }
-}
-
-// The least that can be forced; the old value where that is nothing.
-fn least_in(f: Option<(u64, u64)>, old: u64) -> u64
-    ensures { result ≡ least_in (extent_in f) old }
-{
-    match f {
-        Some((least, _)) => least,
-        None => old,
-    }
-}
-
-// The most, in the same way.
-fn most_in(f: Option<(u64, u64)>, old: u64) -> u64
-    ensures { result ≡ most_in (extent_in f) old }
-{
-    match f {
-        Some((_, most)) => most,
-        None => old,
     }
 }

@@ -8,10 +8,8 @@ use Rattle.limits.specs.Outcome.{number_in}
 use Rattle.limits.specs.declared.Refusal.{Refusal}
 use Rattle.record.specs.declared.numbers.State.{State}
 use Rattle.record.specs.declared.numbers.State.TheVariants as state
-use Rattle.record.specs.declared.numbers.Refresher.{Refresher}
-use Rattle.record.specs.declared.numbers.Refresher.TheVariants as refresher
 use Rattle.image.specs.declared.RecordAt.{RecordAt}
-use Rattle.c_answers.specs.Given.{Gives, IdNumbers}
+use Rattle.c_answers.specs.Given.{Gives, IdNumbers, refresher_number}
 
 -- ---- plain values
 
@@ -20,12 +18,6 @@ abbrev pub state_number : State → ℕ
 state_number state.Early = 1
 state_number state.Confirmed = 2
 state_number state.Terminated = 3
-
--- 0 none, 1 uac, 2 uas
-abbrev pub refresher_number : Refresher → ℕ
-refresher_number refresher.Unspecified = 0
-refresher_number refresher.Uac = 1
-refresher_number refresher.Uas = 2
 
 -- ---- the accessors
 

@@ -1,12 +1,11 @@
 // Answers about one record image handed over to a C caller: the number is returned, and the values go to the lent numbers.
 #![tactic(auto)]
 
-ghost use Rattle.std.specs.Prelude.{◌≡◌};
-ghost use Rattle.c_image_answers.specs.Given.{state_number, refresher_number, ImageIdGives, StateGives, UrisGives, NumbersGives, RouteCountGives};
+ghost use Rattle.c_image_answers.specs.Given.{ImageIdGives, StateGives, UrisGives, NumbersGives, RouteCountGives};
 
-use image::{RecordAt, either};
+use c_answers::refresher_number;
+use image::{RecordAt, state_number};
 use limits::Refusal;
-use record::{Refresher, State};
 
 pub fn give_image_id(
     answer: Result<RecordAt, Refusal>,
@@ -49,7 +48,7 @@ pub fn give_state(
             let uris = r.uris;
             *state = state_number(s);
             *we_are_uac = u8::from(r.we_are_uac);
-            *secure = u8::from(either(uris.local_secure, uris.remote_secure));
+            *secure = u8::from(uris.local_secure || uris.remote_secure);
             0
         }
         Err(x) => x.number(),
@@ -122,27 +121,5 @@ pub fn give_route_count(answer: Result<RecordAt, Refusal>, count: &mut usize) ->
             0
         }
         Err(x) => x.number(),
-    }
-}
-
-// 1 Early, 2 Confirmed, 3 Terminated. No `From`, which the crate of the enum would have to hold, and no cast, which would hand over the order of its variants.
-fn state_number(s: State) -> u8
-    ensures { result ≡ state_number s }
-{
-    match s {
-        State::Early => 1,
-        State::Confirmed => 2,
-        State::Terminated => 3,
-    }
-}
-
-// 0 none, 1 uac, 2 uas, in the same way.
-fn refresher_number(r: Refresher) -> u8
-    ensures { result ≡ refresher_number r }
-{
-    match r {
-        Refresher::Unspecified => 0,
-        Refresher::Uac => 1,
-        Refresher::Uas => 2,
     }
 }

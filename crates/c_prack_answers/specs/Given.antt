@@ -3,12 +3,11 @@
 -- answer is given.
 use Rattle.std.specs.Prelude.{ℕ, Err, Ok, Result}
 use Rattle.std.specs.Int.{from_bool}
-use Rattle.limits.specs.Refusal.{number_of}
+use Rattle.limits.specs.Outcome.{number_in}
 use Rattle.limits.specs.declared.Refusal.{Refusal}
 use Rattle.rack.specs.declared.RAck.{RAck}
 use Rattle.prack_validator.specs.Validator.{Value, no_value, rack, flag, written}
 use Rattle.prack_validator.specs.declared.Validated.{Validated}
-use Rattle.prack_validator.specs.declared.Validated.TheVariants as validated
 use Rattle.c_answers.specs.Given.{Gives}
 
 -- three lent numbers as a RAck
@@ -30,12 +29,15 @@ pub record ValidatedNumbers : Type 0 where
   pub rack : RAck
 
 abbrev pub validated_number : Validated → ℕ
-validated_number (validated.Is k length) = 0
-validated_number (validated.Refused cause length) = number_of cause
+validated_number answer = number_in answer.verdict
+
+-- the three numbers of the RAck that was accepted
+abbrev pub rack_given : Result RAck Refusal → RAck → RAck
+rack_given (Ok k) old = k
+rack_given (Err cause) old = old
 
 abbrev pub validated_after : Validated → ValidatedNumbers → ValidatedNumbers
-validated_after (validated.Is k length) old = record { used = length; rack = k }
-validated_after (validated.Refused cause length) old = record { used = length; rack = old.rack }
+validated_after answer old = record { used = answer.used; rack = rack_given answer.verdict old.rack }
 
 abbrev pub ValidatedGives : Validated → ValidatedNumbers → ℕ → ValidatedNumbers → Type 0
 ValidatedGives answer old r left = Gives (validated_number answer) (validated_after answer old) r left

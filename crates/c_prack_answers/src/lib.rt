@@ -16,17 +16,14 @@ pub fn give_validated(
 ) -> u8
     ensures { ValidatedGives answer (record { used = used.old; rack = rack_of rseq.old cseq.old method.old }) result (record { used = used.new; rack = rack_of rseq.new cseq.new method.new }) }
 {
-    match answer {
-        Validated::Is(k, length) => {
-            *used = length;
+    *used = answer.used;
+    match answer.verdict {
+        Ok(k) => {
             *rseq = k.rseq;
             *cseq = k.cseq;
             *method = k.method;
             0
         }
-        Validated::Refused(x, length) => {
-            *used = length;
-            x.number()
-        }
+        Err(x) => x.number(),
     }
 }

@@ -6,6 +6,7 @@ ghost use Rattle.codec.specs.Codec.{two, four, eight, text};
 use edit::put;
 
 // Two length bytes, and the text.
+// Kept (5): the place goes in as a number and comes back as the next one, which the caller writes at.
 pub fn write_text(out: &mut [u8], at: usize, t: &[u8]) -> usize
     requires { (length t.now < 65536) × (at + 2 + length t.now ≤ length out.old) }
     ensures value { result ≡ at + length (text.write t.now) }
@@ -17,6 +18,7 @@ pub fn write_text(out: &mut [u8], at: usize, t: &[u8]) -> usize
 }
 
 // One byte.
+// Kept (5): the place goes in as a number and comes back as the next one, which the caller writes at.
 pub fn write_byte(out: &mut [u8], at: usize, b: u8) -> usize
     requires { at + 1 ≤ length out.old }
     ensures value { result ≡ at + 1 }
@@ -27,6 +29,7 @@ pub fn write_byte(out: &mut [u8], at: usize, b: u8) -> usize
 }
 
 // A number of two bytes, the higher first.
+// Kept (5): the place goes in as a number and comes back as the next one, which the caller writes at.
 pub fn write_two(out: &mut [u8], at: usize, n: usize) -> usize
     requires { (n < 65536) × (at + 2 ≤ length out.old) }
     ensures value { result ≡ at + 2 }
@@ -37,6 +40,7 @@ pub fn write_two(out: &mut [u8], at: usize, n: usize) -> usize
 }
 
 // A number of four bytes, the highest first.
+// Kept (5): the place goes in as a number and comes back as the next one, which the caller writes at.
 pub fn write_four(out: &mut [u8], at: usize, n: u32) -> usize
     requires { at + 4 ≤ length out.old }
     ensures value { result ≡ at + 4 }
@@ -47,6 +51,7 @@ pub fn write_four(out: &mut [u8], at: usize, n: u32) -> usize
 }
 
 // A number of eight bytes, the highest first.
+// Kept (5): the place goes in as a number and comes back as the next one, which the caller writes at.
 pub fn write_eight(out: &mut [u8], at: usize, n: u64) -> usize
     requires { at + 8 ≤ length out.old }
     ensures value { result ≡ at + 8 }

@@ -1,17 +1,25 @@
--- A step of the code: what a creation is given, as the functions have it: the record of dialog_rules/specs/Creation.antt from their parameters.
-use Rattle.std.specs.Prelude.{ℕ, List, []}
+-- A step of the code: what a creation is given, as the functions have it: the record of dialog_rules/specs/Creation.antt from their struct.
+use Rattle.std.specs.Prelude.{[]}
 use Rattle.dialog_rules.specs.Creation.{Creation}
+use Rattle.creation_checks.specs.declared.NewDialog.{NewDialog}
 
-abbrev pub creation_of : List ℕ → List ℕ → ℕ → List ℕ → List ℕ → List ℕ → Creation
-creation_of method request status response local_uri remote_uri = record {
-  method = method;
-  request = request;
-  status = status;
-  response = response;
-  local_uri = local_uri;
-  remote_uri = remote_uri;
+abbrev pub creation_of : NewDialog → Creation
+creation_of c = record {
+  method = c.method.now;
+  request = c.request.now;
+  status = c.status;
+  response = c.response.now;
+  local_uri = c.local_uri.now;
+  remote_uri = c.remote_uri.now;
 }
 
 -- after 1 the method is not looked at
-abbrev pub checked_of : List ℕ → ℕ → List ℕ → List ℕ → List ℕ → Creation
-checked_of request status response local_uri remote_uri = creation_of [] request status response local_uri remote_uri
+abbrev pub checked_of : NewDialog → Creation
+checked_of c = record {
+  method = [];
+  request = c.request.now;
+  status = c.status;
+  response = c.response.now;
+  local_uri = c.local_uri.now;
+  remote_uri = c.remote_uri.now;
+}

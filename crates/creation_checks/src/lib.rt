@@ -1,57 +1,61 @@
 // The checks of a creation, each group of causes in its order.
 #![tactic(auto)]
 
-ghost use Rattle.std.specs.Prelude.{◌≡◌, [], ◌≤◌, length};
+ghost use Rattle.std.specs.Prelude.{◌≡◌, ◌≤◌, length};
 ghost use Rattle.limits.specs.Limits.{rust_limits};
 ghost use Rattle.limits.specs.Outcome.{or_else, check_of};
+ghost use Rattle.text.specs.Answers.{length_cause};
 ghost use Rattle.dialog_rules.specs.Creation.{texts_cause, form_cause, uri_cause, estimate_cause};
 ghost use Rattle.creation_checks.specs.Given.{creation_of};
 
 use limits::Refusal;
 
+// What a creation is given: the method, the two messages with the response's status, and the two URIs.
+#[derive(Clone, Copy)]
+pub struct NewDialog<'a> {
+    pub method: &'a [u8],
+    pub request: &'a [u8],
+    pub status: u16,
+    pub response: &'a [u8],
+    pub local_uri: &'a [u8],
+    pub remote_uri: &'a [u8],
+}
+
 // 1 of every text.
-pub fn check_texts(
-    method: &[u8],
-    request: &[u8],
-    response: &[u8],
-    local_uri: &[u8],
-    remote_uri: &[u8],
-) -> Result<(), Refusal>
-    ensures { result ≡ check_of (texts_cause rust_limits (creation_of method.now request.now 0 response.now local_uri.now remote_uri.now)) }
+pub fn check_texts(c: NewDialog<'_>) -> Result<(), Refusal>
+    ensures { result ≡ check_of (texts_cause rust_limits (creation_of c.entry)) }
 {
-    if text::too_long(method) {
-        return Err(Refusal::TextTooLong);
-    }
-    if text::too_long(request) {
-        return Err(Refusal::TextTooLong);
-    }
-    if text::too_long(response) {
-        return Err(Refusal::TextTooLong);
-    }
-    if text::too_long(local_uri) {
-        return Err(Refusal::TextTooLong);
-    }
-    if text::too_long(remote_uri) {
+    check_length(c.method)?;
+    check_length(c.request)?;
+    check_length(c.response)?;
+    check_length(c.local_uri)?;
+    check_length(c.remote_uri)
+}
+
+fn check_length(t: &[u8]) -> Result<(), Refusal>
+    ensures { result ≡ check_of (length_cause rust_limits t.now) }
+{
+    if text::too_long(t) {
         return Err(Refusal::TextTooLong);
     }
     Ok(())
 }
 
 // 2 of the two messages, which are not too long.
-pub fn check_forms(request: &[u8], response: &[u8]) -> Result<(), Refusal>
-    requires { (length request.now ≤ 8192) × (length response.now ≤ 8192) }
-    ensures { result ≡ check_of (form_cause (creation_of [] request.now 0 response.now [] [])) }
+pub fn check_forms(c: NewDialog<'_>) -> Result<(), Refusal>
+    requires { (length c.request.now ≤ 8192) × (length c.response.now ≤ 8192) }
+    ensures { result ≡ check_of (form_cause (creation_of c.entry)) }
 {
-    msg::check_block(request)?;
-    msg::check_block(response)
+    msg::check_block(c.request)?;
+    msg::check_block(c.response)
 }
 
 // 6 of the two URIs.
-pub fn check_uris(local_uri: &[u8], remote_uri: &[u8]) -> Result<(), Refusal>
-    ensures { result ≡ check_of (or_else (uri_cause local_uri.now) (uri_cause remote_uri.now)) }
+pub fn check_uris(c: NewDialog<'_>) -> Result<(), Refusal>
+    ensures { result ≡ check_of (or_else (uri_cause c.entry.local_uri.now) (uri_cause c.entry.remote_uri.now)) }
 {
-    check_uri(local_uri)?;
-    check_uri(remote_uri)
+    check_uri(c.local_uri)?;
+    check_uri(c.remote_uri)
 }
 
 fn check_uri(t: &[u8]) -> Result<(), Refusal>
@@ -64,11 +68,11 @@ fn check_uri(t: &[u8]) -> Result<(), Refusal>
 }
 
 // 7 of the two URIs and of the target.
-pub fn check_estimates(local_uri: &[u8], remote_uri: &[u8], target: &[u8]) -> Result<(), Refusal>
-    ensures { result ≡ check_of (or_else (estimate_cause rust_limits local_uri.now) (or_else (estimate_cause rust_limits remote_uri.now) (estimate_cause rust_limits target.now))) }
+pub fn check_estimates(c: NewDialog<'_>, target: &[u8]) -> Result<(), Refusal>
+    ensures { result ≡ check_of (or_else (estimate_cause rust_limits c.entry.local_uri.now) (or_else (estimate_cause rust_limits c.entry.remote_uri.now) (estimate_cause rust_limits target.now))) }
 {
-    check_estimate(local_uri)?;
-    check_estimate(remote_uri)?;
+    check_estimate(c.local_uri)?;
+    check_estimate(c.remote_uri)?;
     check_estimate(target)
 }
 

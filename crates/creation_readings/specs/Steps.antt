@@ -15,7 +15,7 @@ use Rattle.record.specs.NumbersForm.{meaning, state_from}
 use Rattle.record.specs.declared.numbers.State.{State as CodeState}
 use Rattle.record.specs.declared.numbers.Numbers.{Numbers as CodeNumbers}
 use Rattle.dialog_rules.specs.Creation.{numbers_at, sequence_in, interval_cause}
-use Rattle.dialog_rules.specs.Updates.{side_of, interval_from}
+use Rattle.dialog_rules.specs.Updates.{interval_from}
 use Rattle.route_section.specs.Section.{section_of, route_texts}
 
 -- ---- the side
@@ -47,17 +47,9 @@ first_state (Err cause) = None
 first_state (Ok s) = Some (state_from s)
 
 -- an interval as the code has it
-abbrev pub interval_in : Option (ℕ × Refresher) → Option Interval
+abbrev pub interval_in : Option (ℕ × Option Refresher) → Option Interval
 interval_in (Some (n, r)) = Some (record { seconds = n; refresher = r })
 interval_in None = None
-
-abbrev pub seconds_in : Option (ℕ × Refresher) → Option ℕ
-seconds_in (Some (n, r)) = Some n
-seconds_in None = None
-
-abbrev pub refresher_in : Option (ℕ × Refresher) → Option Side
-refresher_in (Some (n, r)) = side_of r
-refresher_in None = None
 
 -- 4, 9, 10 of the request, 13 and 14 of the response; then the numbers of the record
 abbrev pub numbers_in : LimitSet → Side → State → List ℕ → List ℕ → Result Numbers Refusal

@@ -4,8 +4,8 @@ use native.Mathlib.Omega.{arith}
 use mathlib.Core.Path.{◌≡◌, refl, sym, ap, ◌∙◌}
 use mathlib.Core.Bool.{Bool, true, false, ◌||◌}
 use mathlib.Core.List.{List, [], ◌∷◌, ◌++◌, append_assoc}
-use lib.ListN.{length, take, drop, length-append, length-take, length-drop}
-use lib.Seq.{length-take-le, take_at, drop_at, drop-drop}
+use lib.ListN.{length, take, drop, length-append, length-take}
+use lib.Seq.{take_at, drop_at, drop-drop}
 use lib.Dec.{ltb}
 use borrow.Author.Tests.{lt-ltb, ltb-false}
 use borrow.Rule.Slice.PartMut.{put_mid}
@@ -13,17 +13,16 @@ use Rattle.std.specs.Prelude.{Err, Ok, Result}
 use Rattle.limits.specs.Outcome.{cause_if, refuse_by}
 use Rattle.limits.specs.declared.Refusal.{Refusal}
 use Rattle.limits.specs.declared.Refusal.TheVariants.{NoRoom}
-use Rattle.text.specs.declared.Span.{Span}
 use Rattle.text.proofs.Alike.{alike_length}
 use Rattle.edit.specs.Edit.{over}
 use Rattle.output.specs.Output.{fitted, leaves, written_from}
 use Rattle.uri.specs.SipUri.{sips}
-use Rattle.dialog_id.specs.declared.DialogId.{DialogId}
+use Rattle.dialog_id.specs.declared.IdTexts.{IdTexts}
 use Rattle.record.specs.Record.{Numbers, is_filled, is_sips}
-use Rattle.image_writer.specs.Parts.{Parts, parts_of, image_of, Front, front_of, fitted_before}
+use Rattle.image_writer.specs.declared.UriTexts.{UriTexts}
+use Rattle.image_writer.specs.Parts.{Parts, ids_given, uris_given, image_of, Front, front_of, fitted_before}
 use Rattle.image_writer.proofs.FieldLaws.{accepted}
 use Rattle.image_writer.proofs.ImageLaws.{image_front}
-use Rattle.text.specs.Spans.{part_in}
 use Rattle.creation_writing.specs.NewParts.{parts_for}
 
 -- ---- the parts
@@ -32,13 +31,10 @@ use Rattle.creation_writing.specs.NewParts.{parts_for}
 pub short_sips : (t : List ℕ) → length t < 5 → is_sips t ≡ false
 short_sips t h = alike_length _ (take 5 t) sips (λ e. omega (arith, length-take 5 t))
 
--- a part of a short text is short
-pub part_short : (s : List ℕ) (v : Span) {t : List ℕ} → length s ≤ 8192 → t ≡ part_in s v → length t < 65536
-part_short s v h e = omega (arith, ap length e, length-take v.length (drop v.start s), length-drop v.start s)
-
-pub parts_same : (u : Bool) (x : Numbers) (id : DialogId) (r t l m routes : List ℕ) {s : Bool} {a b c : List ℕ} → s ≡ (is_sips l || is_sips m) → a ≡ part_in r id.call_id → b ≡ part_in r id.local_tag → c ≡ part_in r id.remote_tag
-    → parts_of x u s a b c t l m routes ≡ parts_for u x id r t l m routes
-parts_same u x id r t l m routes e f g h = rw (e, f, g, h)
+-- the same parts with the secure bit as it was tested
+pub parts_same : (u : Bool) (x : Numbers) (id : IdTexts) (t : UriTexts) (routes : List ℕ) {s : Bool} → s ≡ (is_sips t.local_uri.now || is_sips t.remote_uri.now)
+    → record { numbers = x; we_are_uac = u; secure = s; ids = ids_given id; uris = uris_given t; routes = routes } ≡ parts_for u x id t routes
+parts_same u x id t routes e = rw e
 
 -- ---- the front and the routes
 
@@ -101,10 +97,6 @@ module _ (p : Parts) (size : ℕ) (h : size ≡ length p.routes) where
         by false q i j =
             let s : length (front_of (front_at p size)) ≡ n = cc in
             record { starts = sym s; fits = omega (arith, s, ltb-false (length out) (length (front_of (front_at p size)) + size) q); bytes = j }
-
-  -- the routes' bytes, where they are lent
-  pub room_behind : (out after : List ℕ) (n : ℕ) → Begun out n after → length after ≡ length out → length (take (n + size - n) (drop n after)) ≡ size
-  room_behind out after n b k = length-take-le (n + size - n) (drop n after) (omega (arith, length-drop n after, b.fits, k)) ∙ omega arith
 
   pub image_done : (out : List ℕ) {after : List ℕ} (n : ℕ) (s : List ℕ) → Begun out n after → s ≡ p.routes
       → (Ok (n + size) ≡ written_from (fitted (length out) (image_of p))) × (put_mid n (n + size - n) after s ≡ leaves (fitted (length out) (image_of p)) out)

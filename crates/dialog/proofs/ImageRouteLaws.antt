@@ -13,6 +13,7 @@ use Rattle.text.specs.Answers.{lookup_of}
 use Rattle.codec.specs.Codec.{Reading, two, write_all}
 use Rattle.record.specs.Record.{Record, is_filled, uri_text, routes_field, image}
 use Rattle.codec.proofs.CodecLaws.{bytes_all}
+use Rattle.codec.proofs.ReadLaws.{two_at}
 use Rattle.record.proofs.WellFormedLaws.{image_back}
 use Rattle.image.specs.Places.{ids_of, uris_of, record_places}
 use Rattle.image.specs.declared.RecordAt.{RecordAt}
@@ -26,13 +27,12 @@ use Rattle.dialog.specs.ImageRoutes.{text_at, route_at, image_route}
 
 -- ---- the one record
 
--- every refusal is 3
-pub no_route : (s : List ℕ) (index : ℕ) {cause : Refusal} → Err cause ≡ image_answer (one_record s) → Err BadStore ≡ lookup_of (image_route s index)
+pub no_route : (s : List ℕ) (index : ℕ) {cause : Refusal} → Err cause ≡ image_answer (one_record s) → Err cause ≡ lookup_of (image_route s index)
 unfolding one_record
 no_route s index e = by (only_one (image.read s)) e
   where
-    by : (o : Option Record) {cause : Refusal} → Err cause ≡ image_answer (or_refuse BadStore o) → Err BadStore ≡ lookup_of (and_then (or_refuse BadStore o) (λ r. Ok (route_at index r)))
-    by None h = refl
+    by : (o : Option Record) {cause : Refusal} → Err cause ≡ image_answer (or_refuse BadStore o) → Err cause ≡ lookup_of (and_then (or_refuse BadStore o) (λ r. Ok (route_at index r)))
+    by None {cause} h = let z : cause ≡ BadStore = cc in ap Err z
     by (Some r) h = absurd (let z : ◌≡◌ {A = ℕ} 0 1 = cc in omega arith)
 
 -- the record, where its parts lie, and that the bytes are its image
@@ -167,13 +167,21 @@ module _ (s : List ℕ) (index at left : ℕ) (w : Left s index at left) where
       by [] h e = absurd (omega arith)
       by (t ∷ ts) h e = omega (arith, (first s at t ts e).within)
 
-  module _ {n : ℕ} (c : n ≡ get_or s at 0 * 256 + get_or s (at + 1) 0) where
+  module _ {n : ℕ} (r : two.read (drop at s) ≡ Some (record { value = n; rest = drop (at + 2) s })) where
+    c : n ≡ get_or s at 0 * 256 + get_or s (at + 1) 0
+    c =
+        let a : Reading ℕ = record { value = n; rest = drop (at + 2) s } in
+        let b : Reading ℕ = record { value = get_or s at 0 * 256 + get_or s (at + 1) 0; rest = drop (at + 2) s } in
+        let q : ◌≡◌ {A = Option (Reading ℕ)} (Some a) (Some b) = sym r ∙ two_at s at length_within in
+        let o : a ≡ b = cc in
+        ap (λ (x : Reading ℕ). x.value) o
+
     pub text_within : at + 2 + n ≤ length s
     text_within = by w.texts w.inside w.there
       where
         by : (l : List (List ℕ)) → left < length l → drop at s ≡ write_all uri_text l → at + 2 + n ≤ length s
         by [] h e = absurd (omega arith)
-        by (t ∷ ts) h e = let f = first s at t ts e in omega (arith, f.within, f.counted)
+        by (t ∷ ts) h e = let f = first s at t ts e in omega (arith, c, f.within, f.counted)
 
     -- a turn passes one text
     pub turn : 0 < left → Left s index (at + 2 + n) (left - 1)

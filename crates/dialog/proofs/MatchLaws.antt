@@ -2,7 +2,7 @@
 use Prim.Native.Nat.{ℕ, ◌+◌, ◌≤◌}
 use native.Mathlib.Omega.{arith}
 use mathlib.Core.Path.{◌≡◌, refl, sym, ap, subst, ◌∙◌}
-use mathlib.Core.Bool.{Bool, ◌&&◌}
+use mathlib.Core.Bool.{Bool, true, ◌&&◌}
 use mathlib.Core.List.{List, [], ◌∷◌}
 use lib.ListN.{length, drop}
 use Rattle.std.specs.Prelude.{Err, None, Ok, Option, Result, Some, false}
@@ -72,28 +72,32 @@ compared block bytes i p q h b =
 
 -- ---- the answers
 
+yes_or_no : (t : Bool) → Ok t ≡ matches_answer (Ok t)
+yes_or_no true = refl
+yes_or_no false = refl
+
 module _ (L : LimitSet) (block bytes : List ℕ) where
   pub bad_block : {r : Result (Unit {0}) Refusal} {cause : Refusal} → r ≡ check_of (block_cause L block) → r ≡ Err cause → Err cause ≡ matches_answer (matches_request L block bytes)
   unfolding matches_request
   bad_block h e = rw (stopped (block_cause L block) (sym h ∙ e))
 
   module _ (clear : block_cause L block ≡ None) where
-    pub bad_image : {cause : Refusal} → Err cause ≡ image_answer (one_record bytes) → Err BadStore ≡ matches_answer (matches_request L block bytes)
+    pub bad_image : {cause : Refusal} → Err cause ≡ image_answer (one_record bytes) → Err cause ≡ matches_answer (matches_request L block bytes)
     unfolding matches_request one_record
     bad_image e = by (only_one (image.read bytes)) refl e
       where
-        by : (o : Option Record) {cause : Refusal} → only_one (image.read bytes) ≡ o → Err cause ≡ image_answer (or_refuse BadStore o) → Err BadStore ≡ matches_answer (matches_request L block bytes)
-        by None q h = rw (clear, q)
+        by : (o : Option Record) {cause : Refusal} → only_one (image.read bytes) ≡ o → Err cause ≡ image_answer (or_refuse BadStore o) → Err cause ≡ matches_answer (matches_request L block bytes)
+        by None {cause} q h = let z : cause ≡ BadStore = cc in rw (clear, q) (ap Err z)
         by (Some r) q h = absurd (let z : ◌≡◌ {A = ℕ} 0 1 = cc in omega arith)
 
     pub no_part : (p : RecordAt) → Held bytes p → identifier_of from_name to_name block ≡ None → Ok false ≡ matches_answer (matches_request L block bytes)
     unfolding matches_request
     no_part p h e = rw (clear, h.one, e)
 
-    pub matched : (p : RecordAt) (i : DialogId) (h : Held bytes p) (q : Asked block i) → Bytes bytes → (t : Bool) (m : Result Bool Refusal)
+    pub matched : (p : RecordAt) (i : DialogId) (h : Held bytes p) (q : Asked block i) → Bytes bytes → (t : Bool)
         → t ≡ (equal (part_in block i.call_id) (part_in bytes p.ids.call_id) && (equal (part_in block i.local_tag) (part_in bytes p.ids.remote_tag) && equal (part_in block i.remote_tag) (part_in bytes p.ids.local_tag)))
-        → m ≡ matches_answer (Ok t) → m ≡ matches_answer (matches_request L block bytes)
+        → Ok t ≡ matches_answer (matches_request L block bytes)
     unfolding matches_request
-    matched p i h q b t m e w =
+    matched p i h q b t e =
         let k : t ≡ named_by h.value (Some q.parts) = e ∙ compared block bytes i p q h b in
-        rw (clear, h.one, q.reads) (w ∙ ap (λ (u : Bool). matches_answer (Ok u)) k)
+        rw (clear, h.one, q.reads) (ap Ok k ∙ yes_or_no (named_by h.value (Some q.parts)))

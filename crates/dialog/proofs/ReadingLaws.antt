@@ -2,7 +2,7 @@
 use Prim.Native.Nat.{ℕ, ◌≤◌, ◌<◌}
 use native.Mathlib.Omega.{arith}
 use mathlib.Core.Path.{◌≡◌, refl, ap, ◌∙◌}
-use mathlib.Core.Bool.{Bool}
+use mathlib.Core.Bool.{Bool, true, false}
 use mathlib.Core.List.{List, [], ◌∷◌}
 use lib.ListN.{length, drop, length-drop, drop_of_length-le}
 use Rattle.std.specs.Prelude.{Err, None, Ok, Option, Result, Some}
@@ -11,8 +11,8 @@ use Rattle.limits.specs.declared.Refusal.{Refusal}
 use Rattle.limits.specs.declared.Refusal.TheVariants.{BadStore}
 use Rattle.session_timer_manager.specs.Intervals.{refresh_due}
 use Rattle.record.specs.Record.{Record, image}
-use Rattle.record.specs.NumbersForm.{number_in}
-use Rattle.record.proofs.NumberLaws.{number_same}
+use Rattle.record.specs.NumbersForm.{number_from}
+use Rattle.session_timer_manager.specs.Answers.{seconds_of}
 use Rattle.image.specs.Places.{record_from, record_places}
 use Rattle.image.specs.declared.RecordAt.{RecordAt}
 use Rattle.image.proofs.AnswerLaws.{RecordGot, record_got, record_not}
@@ -45,24 +45,31 @@ module _ (s : List ℕ) where
 
 -- ---- the refresh
 
--- every refusal is 3
-refused_three : (o : Option Record) {cause : Refusal} → Err cause ≡ image_answer (or_refuse BadStore o) → o ≡ None
-refused_three None e = refl
-refused_three (Some r) e = absurd (let z : ◌≡◌ {A = ℕ} 0 1 = cc in omega arith)
+seconds_same : (o : Option ℕ) → seconds_of (number_from o) ≡ o
+seconds_same None = refl
+seconds_same (Some n) = refl
+
+due_or_not : (t : Bool) → Ok t ≡ refresh_answer (Ok t)
+due_or_not true = refl
+due_or_not false = refl
 
 of_record : (o : Option Record) {p : RecordAt} → Ok p ≡ image_answer (or_refuse BadStore o) → (r : Record) × ((o ≡ Some r) × (p ≡ record_places 0 r))
 of_record None e = absurd (let z : ◌≡◌ {A = ℕ} 0 1 = cc in omega arith)
 of_record (Some r) e = (r, (refl, cc))
 
 module _ (s : List ℕ) (elapsed : ℕ) where
-  pub no_image : {cause : Refusal} → Err cause ≡ image_answer (one_record s) → Err BadStore ≡ refresh_answer (refresh_of s elapsed)
+  pub no_image : {cause : Refusal} → Err cause ≡ image_answer (one_record s) → Err cause ≡ refresh_answer (refresh_of s elapsed)
   unfolding one_record
-  no_image e = rw (refused_three (only_one (image.read s)) e)
+  no_image {cause} e = by (only_one (image.read s)) refl e
+    where
+      by : (o : Option Record) → only_one (image.read s) ≡ o → Err cause ≡ image_answer (or_refuse BadStore o) → Err cause ≡ refresh_answer (refresh_of s elapsed)
+      by None q h = let z : cause ≡ BadStore = cc in rw q (ap Err z)
+      by (Some r) q h = absurd (let z : ◌≡◌ {A = ℕ} 0 1 = cc in omega arith)
 
   -- t is what the interval of the record says
-  pub refresh_is : {p : RecordAt} (t : Bool) (r : Result Bool Refusal) → Ok p ≡ image_answer (one_record s) → t ≡ refresh_due (number_in p.numbers.seconds) elapsed → r ≡ refresh_answer (Ok t) → r ≡ refresh_answer (refresh_of s elapsed)
+  pub refresh_is : {p : RecordAt} {t : Bool} → Ok p ≡ image_answer (one_record s) → t ≡ refresh_due (seconds_of p.numbers.seconds) elapsed → Ok t ≡ refresh_answer (refresh_of s elapsed)
   unfolding one_record
-  refresh_is {p} t r e h q =
+  refresh_is {p} {t} e h =
       let g = of_record (only_one (image.read s)) e in
-      let k : number_in p.numbers.seconds ≡ g.0.numbers.seconds = ap (λ (z : RecordAt). number_in z.numbers.seconds) g.1.1 ∙ number_same g.0.numbers.seconds in
-      rw (g.1.0, ← k, ← h) q
+      let k : seconds_of p.numbers.seconds ≡ g.0.numbers.seconds = ap (λ (z : RecordAt). seconds_of z.numbers.seconds) g.1.1 ∙ seconds_same g.0.numbers.seconds in
+      rw (g.1.0, ← k, ← h) (due_or_not t)

@@ -1,7 +1,5 @@
 // Readings of one record's image, given by itself.
 ghost use Rattle.std.specs.Prelude.{◌≡◌};
-ghost use Rattle.record.specs.NumbersForm.{number_in};
-ghost use Rattle.session_timer_manager.specs.Answers.{seconds_of};
 ghost use Rattle.dialog_rules.specs.OneImage.{one_record};
 ghost use Rattle.dialog.specs.Readings.{image_answer, refresh_of, refresh_answer};
 
@@ -25,22 +23,7 @@ pub fn read_image(bytes: &[u8]) -> Result<RecordAt, Refusal>
 pub fn needs_refresh(bytes: &[u8], elapsed: u64) -> Result<bool, Refusal>
     ensures { result ≡ refresh_answer (refresh_of bytes.now elapsed) }
 {
-    let Ok(r) = read_image(bytes) else {
-        return Err(Refusal::BadStore);
-    };
+    let r = read_image(bytes)?;
     let numbers = r.numbers;
-    let seconds = numbers.seconds;
-    if session_timer_manager::needs_refresh(interval(seconds), elapsed) {
-        return Ok(true);
-    }
-    Ok(false)
-}
-
-fn interval(seconds: Option<u32>) -> Option<u32>
-    ensures { seconds_of result ≡ number_in seconds }
-{
-    match seconds {
-        Some(n) => Some(n),
-        None => None,
-    }
+    Ok(session_timer_manager::needs_refresh(numbers.seconds, elapsed))
 }

@@ -21,35 +21,36 @@ use Rattle.record.specs.Record.{Record, Numbers, image}
 use Rattle.image.specs.Places.{record_from, record_places}
 use Rattle.image.specs.declared.RecordAt.{RecordAt}
 use Rattle.image_edit.specs.Changes.{read_at, changed}
+use Rattle.image_edit.specs.Stands.{StandsAt}
+use Rattle.image_edit.specs.declared.RecordPlace.{RecordPlace}
 use Rattle.image_edit.proofs.ImageCuts.{held_used, changed_held}
 use Rattle.dialog_rules.specs.OneImage.{alone, only_one, one_record}
 use Rattle.dialog.specs.Readings.{image_answer}
-use Rattle.dialog_changes.specs.ImageUpdates.{used_record, image_after, local_raised, raised_record, raised_answer}
+use Rattle.dialog_changes.specs.ImageUpdates.{used_record, place_answer, image_after, local_raised, raised_record, raised_answer}
 use Rattle.dialog_rules.specs.Updates.{local_update}
 
 -- ---- the record of the used bytes
 
-pub over_used : (bytes : List ℕ) (used : ℕ) → length bytes < used → Err BadStore ≡ image_answer (used_record bytes used)
+pub over_used : (bytes : List ℕ) (used : ℕ) → length bytes < used → Err BadStore ≡ place_answer used (used_record bytes used)
 over_used bytes used h = rw (lt-ltb (length bytes) used h)
 
 pub within_used : (bytes : List ℕ) (used : ℕ) → used ≤ length bytes → used_record bytes used ≡ one_record (take used bytes)
 within_used bytes used h = rw (le-ltb (length bytes) used h)
 
--- every refusal of the reading is 3
-one_refused : (s : List ℕ) {cause : Refusal} → Err cause ≡ image_answer (one_record s) → one_record s ≡ Err BadStore
-unfolding one_record
-one_refused s e = by (only_one (image.read s)) e
+pub place_refused : (bytes : List ℕ) (used : ℕ) {cause : Refusal} → used ≤ length bytes → Err cause ≡ image_answer (one_record (take used bytes)) → Err cause ≡ place_answer used (used_record bytes used)
+place_refused bytes used l e = rw (within_used bytes used l) (by (one_record (take used bytes)) e)
   where
-    by : (o : Option Record) {cause : Refusal} → Err cause ≡ image_answer (or_refuse BadStore o) → or_refuse BadStore o ≡ Err BadStore
-    by None h = refl
-    by (Some r) h = absurd (let z : ◌≡◌ {A = ℕ} 0 1 = cc in omega arith)
+    by : (o : Result Record Refusal) {cause : Refusal} → Err cause ≡ image_answer o → Err cause ≡ place_answer used o
+    by (Err own) {cause} h = let z : cause ≡ own = cc in ap Err z
+    by (Ok r) h = absurd (let z : ◌≡◌ {A = ℕ} 0 1 = cc in omega arith)
 
-pub used_refused : (bytes : List ℕ) (used : ℕ) {cause : Refusal} → Err cause ≡ image_answer (used_record bytes used) → used_record bytes used ≡ Err BadStore
-used_refused bytes used e = by (ltb (length bytes) used) refl
+-- the refusal of the place is that of the record
+pub used_refused : (bytes : List ℕ) (used : ℕ) {cause : Refusal} → Err cause ≡ place_answer used (used_record bytes used) → used_record bytes used ≡ Err cause
+used_refused bytes used e = by (used_record bytes used) e
   where
-    by : (t : Bool) → ltb (length bytes) used ≡ t → used_record bytes used ≡ Err BadStore
-    by true t = rw t
-    by false t = rw t (one_refused (take used bytes) (rw t at e))
+    by : (o : Result Record Refusal) {cause : Refusal} → Err cause ≡ place_answer used o → o ≡ Err cause
+    by (Err own) {cause} h = let z : own ≡ cause = cc in ap Err z
+    by (Ok r) h = absurd (let z : ◌≡◌ {A = ℕ} 0 1 = cc in omega arith)
 
 -- the record that was read, and where it lies: nothing stands after it
 pub record One (bytes : List ℕ) (used : ℕ) (p : RecordAt) : Type 0 where
@@ -84,12 +85,36 @@ one_read bytes used p l e = by (image.read s) refl e
             }
         is (b ∷ t) r h = absurd (let z : ◌≡◌ {A = ℕ} 0 1 = cc in omega arith)
 
-pub one_used : (bytes : List ℕ) (used : ℕ) (p : RecordAt) → Ok p ≡ image_answer (used_record bytes used) → One bytes used p
-one_used bytes used p e = by (ltb (length bytes) used) refl
+-- the place that is answered
+pub place_is : (bytes : List ℕ) (used : ℕ) {r : RecordAt} → used ≤ length bytes → Ok r ≡ image_answer (one_record (take used bytes)) → Ok (record { used = used; at = 0; «record» = r }) ≡ place_answer used (used_record bytes used)
+place_is bytes used {r} l e =
+    let o = one_read bytes used r l e in
+    rw o.one (ap (λ (x : RecordAt). Ok (record { used = used; at = 0; «record» = x })) o.placed)
+
+pub place_stands : (bytes : List ℕ) (used : ℕ) {r : RecordAt} → used ≤ length bytes → Ok r ≡ image_answer (one_record (take used bytes)) → StandsAt bytes (record { used = used; at = 0; «record» = r })
+place_stands bytes used {r} l e = (l, omega arith, (one_read bytes used r l e).whole)
+
+pub record Placed (bytes : List ℕ) (used : ℕ) (p : RecordPlace) : Type 0 where
+  pub one : One bytes used p.record
+  pub used_is : p.used ≡ used
+  pub at_is : p.at ≡ 0
+
+pub place_read : (bytes : List ℕ) (used : ℕ) (p : RecordPlace) → Ok p ≡ place_answer used (used_record bytes used) → Placed bytes used p
+place_read bytes used p e = by (ltb (length bytes) used) refl
   where
-    by : (t : Bool) → ltb (length bytes) used ≡ t → One bytes used p
+    by : (t : Bool) → ltb (length bytes) used ≡ t → Placed bytes used p
     by true t = absurd (let u : Ok p ≡ Err BadStore = (rw t at e) in let z : ◌≡◌ {A = ℕ} 0 1 = cc in omega arith)
-    by false t = one_read bytes used p (ltb-false (length bytes) used t) (rw t at e)
+    by false t = of (one_record (take used bytes)) refl (rw t at e)
+      where
+        of : (o : Result Record Refusal) → one_record (take used bytes) ≡ o → Ok p ≡ place_answer used o → Placed bytes used p
+        of (Err cause) q h = absurd (let z : ◌≡◌ {A = ℕ} 0 1 = cc in omega arith)
+        of (Ok r) q h =
+            let k : p ≡ record { used = used; at = 0; «record» = record_places 0 r } = cc in
+            record {
+              one = one_read bytes used p.record (ltb-false (length bytes) used t) (ap Ok (ap (λ (x : RecordPlace). x.record) k) ∙ ap image_answer (sym q));
+              used_is = ap (λ (x : RecordPlace). x.used) k;
+              at_is = ap (λ (x : RecordPlace). x.at) k;
+            }
 
 -- the numbers that were read are the record's
 pub meaning_read : (bytes : List ℕ) (used : ℕ) (p : RecordAt) (h : One bytes used p) → meaning p.numbers ≡ h.value.numbers
@@ -120,36 +145,39 @@ module _ (bytes : List ℕ) (used : ℕ) (step : Numbers → Result Numbers Refu
   Ended r after = (r ≡ written_from after_step) × (after ≡ leaves after_step bytes)
 
   -- 3
-  pub unread_ended : {cause : Refusal} → Err cause ≡ image_answer (used_record bytes used) → Ended (Err BadStore) bytes
+  pub unread_ended : {cause : Refusal} → Err cause ≡ place_answer used (used_record bytes used) → Ended (Err cause) bytes
   unfolding image_after
   unread_ended e = rw (used_refused bytes used e) (refl, refl)
 
   -- p is where the record lies
-  module _ {p : RecordAt} (e : Ok p ≡ image_answer (used_record bytes used)) where
-    the_record : One bytes used p
-    the_record = one_used bytes used p e
+  module _ {p : RecordPlace} (e : Ok p ≡ place_answer used (used_record bytes used)) where
+    place : Placed bytes used p
+    place = place_read bytes used p e
 
-    step_is : {o : Result Numbers Refusal} → step (meaning p.numbers) ≡ o → step the_record.value.numbers ≡ o
-    step_is f = ap step (sym (meaning_read bytes used p the_record)) ∙ f
+    step_is : {o : Result Numbers Refusal} → step (meaning p.record.numbers) ≡ o → step place.one.value.numbers ≡ o
+    step_is f = ap step (sym (meaning_read bytes used p.record place.one)) ∙ f
 
     -- the step's refusals
-    pub refused_ended : {cause : Refusal} → step (meaning p.numbers) ≡ Err cause → Ended (Err cause) bytes
+    pub refused_ended : {cause : Refusal} → step (meaning p.record.numbers) ≡ Err cause → Ended (Err cause) bytes
     unfolding image_after
-    refused_ended f = rw (the_record.one, step_is f) (refl, refl)
+    refused_ended f = rw (place.one.one, step_is f) (refl, refl)
 
     -- the numbers are changed, or 18; r and after are what the change answers and leaves
-    pub changed_ended : {x : Numbers} → step (meaning p.numbers) ≡ Ok x → ((i : ℕ) → get_or bytes i 0 < 256) → {r : Result ℕ Refusal} {after : List ℕ}
-        → (r ≡ written_from (fitted (length bytes) (changed (with_numbers x) 0 (take used bytes)))) × (after ≡ leaves (fitted (length bytes) (changed (with_numbers x) 0 (take used bytes))) bytes)
+    pub changed_ended : {x : Numbers} → step (meaning p.record.numbers) ≡ Ok x → ((i : ℕ) → get_or bytes i 0 < 256) → {r : Result ℕ Refusal} {after : List ℕ}
+        → (r ≡ written_from (fitted (length bytes) (changed (with_numbers x) p.at (take p.used bytes)))) × (after ≡ leaves (fitted (length bytes) (changed (with_numbers x) p.at (take p.used bytes))) bytes)
         → Ended r after
     unfolding image_after
     changed_ended {x} f b {r} {after} w =
-        rw (the_record.one, step_is f)
-        (subst (λ (s : List ℕ). (r ≡ written_from (fitted (length bytes) s)) × (after ≡ leaves (fitted (length bytes) s) bytes)) (changed_one bytes used p the_record (with_numbers x) b) w)
+        rw (place.one.one, step_is f)
+        (subst (λ (s : List ℕ). (r ≡ written_from (fitted (length bytes) s)) × (after ≡ leaves (fitted (length bytes) s) bytes)) moved w)
+      where
+        moved : changed (with_numbers x) p.at (take p.used bytes) ≡ image.write (with_numbers x place.one.value)
+        moved = ap (λ (n : ℕ). changed (with_numbers x) n (take p.used bytes)) place.at_is ∙ ap (λ (n : ℕ). changed (with_numbers x) 0 (take n bytes)) place.used_is ∙ changed_one bytes used p.record place.one (with_numbers x) b
 
 -- ---- the new local number
 
 module _ (bytes : List ℕ) (used : ℕ) where
-  pub raised_refused : used_record bytes used ≡ Err BadStore → Err BadStore ≡ raised_answer (raised_record bytes used)
+  pub raised_refused : {cause : Refusal} → used_record bytes used ≡ Err cause → Err cause ≡ raised_answer (raised_record bytes used)
   unfolding raised_record
   raised_refused e = rw e
 

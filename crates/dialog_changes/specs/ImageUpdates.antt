@@ -8,12 +8,19 @@ use Rattle.limits.specs.declared.Refusal.{Refusal}
 use Rattle.limits.specs.declared.Refusal.TheVariants.{BadStore, NoRoom}
 use Rattle.output.specs.Output.{fitted}
 use Rattle.record.specs.Record.{Record, image}
+use Rattle.image.specs.Places.{record_places}
+use Rattle.image_edit.specs.declared.RecordPlace.{RecordPlace}
 use Rattle.dialog_rules.specs.OneImage.{one_record}
 use Rattle.dialog_rules.specs.Updates.{confirm_update, terminate_update, local_update, interval_update}
 
 -- the record of the used bytes: 3
 abbrev pub used_record : List ℕ → ℕ → Result Record Refusal
 used_record bytes used = refuse_if (ltb (length bytes) used) BadStore (one_record (take used bytes))
+
+-- where it lies: at the front of the used bytes
+abbrev pub place_answer : ℕ → Result Record Refusal → Result RecordPlace Refusal
+place_answer used (Err cause) = Err cause
+place_answer used (Ok r) = Ok (record { used = used; at = 0; «record» = record_places 0 r })
 
 -- 3, the step's refusals, 18; then the image of the changed record
 unfoldable pub image_after : (Record → Result Record Refusal) → List ℕ → ℕ → Result (List ℕ) Refusal

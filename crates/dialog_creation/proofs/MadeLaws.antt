@@ -1,31 +1,37 @@
 -- What a creation comes to after its checks: each refusal in its order, and the image of the record that is made. Assumes nothing.
-use Prim.Native.Nat.{ℕ, ◌+◌, ◌≤◌}
+use Prim.Native.Nat.{ℕ, ◌+◌, ◌≤◌, ◌<◌}
 use native.Mathlib.Omega.{arith}
-use mathlib.Core.Path.{◌≡◌, refl, sym, ap, subst, ◌∙◌}
+use mathlib.Core.Path.{◌≡◌, refl, sym, ap, ap₂, subst, ◌∙◌}
 use mathlib.Core.Bool.{Bool, true, false, cond, ◌||◌}
 use mathlib.Core.List.{List}
-use lib.ListN.{length}
+use lib.ListN.{length, drop, length-take, length-drop}
 use Rattle.std.specs.Prelude.{Err, None, Ok, Option, Result, Some}
 use Rattle.limits.specs.Limits.{LimitSet, rust_limits}
 use Rattle.limits.specs.Outcome.{or_else, refuse_by, and_then, check_of}
 use Rattle.limits.specs.declared.Refusal.{Refusal}
 use Rattle.limits.specs.declared.Refusal.TheVariants.{MissingHeader, InvalidStatus}
 use Rattle.limits.proofs.Laws.{passed, stopped}
+use Rattle.text.specs.Spans.{part_in}
 use Rattle.text.specs.Text.{Piece}
+use Rattle.text.specs.declared.Span.{Span}
 use Rattle.output.specs.Output.{fitted, leaves, written_from}
 use Rattle.msg.specs.Status.{in_class}
 use Rattle.dialog_id.specs.DialogId.{Identifier, dialog_id_from, id_from, from_name, to_name}
 use Rattle.headers.specs.SessionExpires.{expires_named}
+use Rattle.dialog_id.specs.Ident.{Ident, ident}
+use Rattle.dialog_id.specs.IdTexts.{ident_of, ident_in}
 use Rattle.dialog_id.specs.declared.DialogId.{DialogId}
+use Rattle.dialog_id.specs.declared.IdTexts.{IdTexts}
 use Rattle.route_set.specs.Routes.{contact_of, routes_of}
 use Rattle.route_section.specs.Section.{section_of, route_texts, section_in}
 use Rattle.route_section.proofs.SectionLaws.{section_size}
-use Rattle.record.specs.Record.{State, early, confirmed, Side, Numbers, Record, is_sips, image}
+use Rattle.record.specs.Record.{State, early, confirmed, Side, Numbers, Record, Uris, is_sips, image}
 use Rattle.record.specs.NumbersForm.{meaning, state_in, state_from}
 use Rattle.record.specs.declared.numbers.State.{State as CodeState}
 use Rattle.record.specs.declared.numbers.Numbers.{Numbers as CodeNumbers}
 use Rattle.record.proofs.NumberLaws.{state_same}
-use Rattle.image_writer.specs.Parts.{Parts, parts_of, image_of}
+use Rattle.image_writer.specs.Parts.{Parts, Short, ids_given, uris_given, parts_of, image_of}
+use Rattle.image_writer.specs.declared.UriTexts.{UriTexts}
 use Rattle.image_writer.proofs.ImageLaws.{image_parts}
 use Rattle.dialog_rules.specs.Creation.{Creation, peer_block, identifier_in, target_of, is_uac, numbers_at, estimate_cause, state_by, sequence_in, interval_cause, record_with, made_by}
 use Rattle.dialog_rules.specs.Updates.{text_or, interval_from}
@@ -33,6 +39,7 @@ use Rattle.dialog_rules.proofs.PlacedLaws.{PlacedId, identifier_placed}
 use Rattle.dialog_rules.proofs.ReadLaws.{contact_within}
 use Rattle.dialog_creation.specs.NewImage.{made_image}
 use Rattle.creation_checks.specs.Given.{checked_of}
+use Rattle.creation_checks.specs.declared.NewDialog.{NewDialog}
 use Rattle.creation_readings.specs.Steps.{side_for, peer_of, identifier_for, first_state, numbers_in, Remainder, remainder_by, remainder_of, remainder_in}
 use Rattle.creation_writing.specs.NewParts.{parts_for}
 
@@ -165,12 +172,33 @@ unread : (o : Option Identifier) → id_from o ≡ None → o ≡ None
 unread None e = refl
 unread (Some id) e = absurd (let z : ◌≡◌ {A = ℕ} 0 1 = cc in omega arith)
 
--- the texts of an identifier are the response's own bytes
-own_bytes : (u : Bool) (x : Numbers) (r t l m routes : List ℕ) (i : DialogId) (n : Named u r i)
-    → parts_of x u (is_sips l || is_sips m) n.id.call_id.text n.id.local_tag.text n.id.remote_tag.text t l m routes ≡ parts_for u x i r t l m routes
-own_bytes u x r t l m routes i n =
-    rw (sym n.placed.call_id.there, sym n.placed.local_tag.there, sym n.placed.remote_tag.there)
-    (ap (λ (d : DialogId). parts_for u x d r t l m routes) n.spans)
+-- the texts of an identifier that was read are the response's own bytes, and no longer than it
+own_texts : (u : Bool) (r : List ℕ) (i : DialogId) (n : Named u r i) → ident_in r i ≡ ident n.id.call_id.text n.id.local_tag.text n.id.remote_tag.text
+own_texts u r i n =
+    ap (λ (d : DialogId). ident_in r d) (sym n.spans)
+    ∙ rw (n.placed.call_id.there, n.placed.local_tag.there, n.placed.remote_tag.there)
+
+part_short : (r : List ℕ) (v : Span) → length r ≤ 8192 → length (part_in r v) < 65536
+part_short r v h = omega (arith, length-take v.length (drop v.start r), length-drop v.start r)
+
+pub id_short : (r : List ℕ) (i : DialogId) (k : IdTexts) → ident_of k ≡ ident_in r i → length r ≤ 8192 → Short (ids_given k)
+id_short r i k e h = subst (λ (x : Ident). (length x.call_id < 65536) × (length x.local_tag < 65536) × (length x.remote_tag < 65536)) (sym e) (part_short r i.call_id h, part_short r i.local_tag h, part_short r i.remote_tag h)
+
+-- the parts of an image by the identifier and the URIs
+abbrev parts_by : Bool → Numbers → Ident → Uris → List ℕ → Parts
+parts_by u x id uris routes = record {
+  numbers = x;
+  we_are_uac = u;
+  secure = is_sips uris.second.first || is_sips uris.second.second;
+  ids = record { first = id.call_id; second = record { first = id.local_tag; second = id.remote_tag } };
+  uris = uris;
+  routes = routes;
+}
+
+own_parts : (u : Bool) (x : Numbers) (r t l m routes : List ℕ) (i : DialogId) (n : Named u r i) (k : IdTexts) (v : UriTexts) → ident_of k ≡ ident_in r i
+    → uris_given v ≡ record { first = t; second = record { first = l; second = m } }
+    → parts_of x u (is_sips l || is_sips m) n.id.call_id.text n.id.local_tag.text n.id.remote_tag.text t l m routes ≡ parts_for u x k v routes
+own_parts u x r t l m routes i n k v e f = ap₂ (λ (a : Ident) (b : Uris). parts_by u x a b routes) (sym (e ∙ own_texts u r i n)) (sym f)
 
 -- ---- the message with Contact and Record-Route, and the target, are short
 
@@ -187,21 +215,21 @@ target_short m peer {t} e h k = by (contact_of peer) refl e
 
 -- ---- a creation of either side
 
-module _ (u : Bool) (q : List ℕ) (st : ℕ) (r l m : List ℕ) (room : ℕ) where
+module _ (u : Bool) (d : NewDialog) (room : ℕ) where
   abbrev g : Creation
-  g = checked_of q st r l m
+  g = checked_of d
 
-  name_is : identifier_in (side_for u) g ≡ identifier_for u r
+  name_is : identifier_in (side_for u) g ≡ identifier_for u d.response.now
   name_is = by u
     where
-      by : (v : Bool) → identifier_in (side_for v) g ≡ identifier_for v r
+      by : (v : Bool) → identifier_in (side_for v) g ≡ identifier_for v d.response.now
       by true = refl
       by false = refl
 
-  peer_is : peer_block (side_for u) g ≡ peer_of u q r
+  peer_is : peer_block (side_for u) g ≡ peer_of u d.request.now d.response.now
   peer_is = by u
     where
-      by : (v : Bool) → peer_block (side_for v) g ≡ peer_of v q r
+      by : (v : Bool) → peer_block (side_for v) g ≡ peer_of v d.request.now d.response.now
       by true = refl
       by false = refl
 
@@ -212,52 +240,55 @@ module _ (u : Bool) (q : List ℕ) (st : ℕ) (r l m : List ℕ) (room : ℕ) wh
       by true = refl
       by false = refl
 
-  pub no_identifier : id_from (identifier_for u r) ≡ None → made_image rust_limits (side_for u) g room ≡ Err MissingHeader
-  no_identifier e = unnamed rust_limits (side_for u) g room (name_is ∙ unread (identifier_for u r) e)
+  pub no_identifier : id_from (identifier_for u d.response.now) ≡ None → made_image rust_limits (side_for u) g room ≡ Err MissingHeader
+  no_identifier e = unnamed rust_limits (side_for u) g room (name_is ∙ unread (identifier_for u d.response.now) e)
 
-  module _ (i : DialogId) (n : Named u r i) where
-    pub no_state : first_state (state_by st) ≡ None → made_image rust_limits (side_for u) g room ≡ Err InvalidStatus
-    no_state e = stateless rust_limits (side_for u) g room n.id (name_is ∙ n.reads) (state_outside st e)
+  module _ (i : DialogId) (n : Named u d.response.now i) where
+    pub no_state : first_state (state_by d.status) ≡ None → made_image rust_limits (side_for u) g room ≡ Err InvalidStatus
+    no_state e = stateless rust_limits (side_for u) g room n.id (name_is ∙ n.reads) (state_outside d.status e)
 
-    module _ (s : CodeState) (f : first_state (state_by st) ≡ Some s) (peer t : List ℕ) (a : peer ≡ peer_of u q r) (b : t ≡ text_or m (contact_of peer)) where
+    module _ (s : CodeState) (f : first_state (state_by d.status) ≡ Some s) (peer t : List ℕ) (a : peer ≡ peer_of u d.request.now d.response.now) (b : t ≡ text_or d.remote_uri.now (contact_of peer)) where
       abbrev estimates : List ℕ → Option Refusal
-      estimates x = or_else (estimate_cause rust_limits l) (or_else (estimate_cause rust_limits m) (estimate_cause rust_limits x))
+      estimates x = or_else (estimate_cause rust_limits d.local_uri.now) (or_else (estimate_cause rust_limits d.remote_uri.now) (estimate_cause rust_limits x))
 
       peers : peer_block (side_for u) g ≡ peer
       peers = peer_is ∙ sym a
 
       targets : target_of (side_for u) g ≡ t
-      targets = ap (λ (x : List ℕ). text_or m (contact_of x)) peers ∙ sym b
+      targets = ap (λ (x : List ℕ). text_or d.remote_uri.now (contact_of x)) peers ∙ sym b
 
       pub over_estimate_lem : {cause : Refusal} → check_of (estimates t) ≡ Err cause → made_image rust_limits (side_for u) g room ≡ Err cause
       over_estimate_lem e =
-          overlong rust_limits (side_for u) g room n.id (name_is ∙ n.reads) (state_in s) (state_of_lem (state_by st) f) (stopped (estimates (target_of (side_for u) g)) (ap (λ (x : List ℕ). check_of (estimates x)) targets ∙ e))
+          overlong rust_limits (side_for u) g room n.id (name_is ∙ n.reads) (state_in s) (state_of_lem (state_by d.status) f) (stopped (estimates (target_of (side_for u) g)) (ap (λ (x : List ℕ). check_of (estimates x)) targets ∙ e))
 
-      module _ (e : check_of (estimates t) ≡ Ok tt) (w : Result (CodeNumbers × ℕ) Refusal) (k : remainder_in w ≡ remainder_of rust_limits (side_for u) (state_in s) q r peer) where
+      module _ (e : check_of (estimates t) ≡ Ok tt) (w : Result (CodeNumbers × ℕ) Refusal) (k : remainder_in w ≡ remainder_of rust_limits (side_for u) (state_in s) d.request.now d.response.now peer) where
         clear : estimates (target_of (side_for u) g) ≡ None
         clear = passed (estimates (target_of (side_for u) g)) (ap (λ (x : List ℕ). check_of (estimates x)) targets ∙ e)
 
-        remains : remainder_of rust_limits (side_for u) (state_in s) q r (peer_block (side_for u) g) ≡ remainder_in w
-        remains = ap (λ (x : List ℕ). remainder_of rust_limits (side_for u) (state_in s) q r x) peers ∙ sym k
+        remains : remainder_of rust_limits (side_for u) (state_in s) d.request.now d.response.now (peer_block (side_for u) g) ≡ remainder_in w
+        remains = ap (λ (x : List ℕ). remainder_of rust_limits (side_for u) (state_in s) d.request.now d.response.now x) peers ∙ sym k
 
         pub rest_refused : {cause : Refusal} → w ≡ Err cause → made_image rust_limits (side_for u) g room ≡ Err cause
-        rest_refused h = remainderless rust_limits (side_for u) g room n.id (name_is ∙ n.reads) (state_in s) (state_of_lem (state_by st) f) clear (remains ∙ ap remainder_in h)
+        rest_refused h = remainderless rust_limits (side_for u) g room n.id (name_is ∙ n.reads) (state_in s) (state_of_lem (state_by d.status) f) clear (remains ∙ ap remainder_in h)
 
         module _ (x : CodeNumbers) (size : ℕ) (h : w ≡ Ok (x, size)) where
           abbrev Whole : Bool → List ℕ → List ℕ → Type 0
           Whole v y z =
               (size ≡ length (section_in v (routes_of rust_limits y)))
-              × (made_image rust_limits (side_for u) g room ≡ fitted room (image_of (parts_of (meaning x) v (is_sips l || is_sips m) n.id.call_id.text n.id.local_tag.text n.id.remote_tag.text z l m (section_in v (routes_of rust_limits y)))))
+              × (made_image rust_limits (side_for u) g room ≡ fitted room (image_of (parts_of (meaning x) v (is_sips d.local_uri.now || is_sips d.remote_uri.now) n.id.call_id.text n.id.local_tag.text n.id.remote_tag.text z d.local_uri.now d.remote_uri.now (section_in v (routes_of rust_limits y)))))
 
           whole_is : Whole u peer t
           whole_is =
               subst (λ (v : Bool). Whole v peer t) uac_is
               (subst (λ (y : List ℕ). Whole (is_uac (side_for u)) y t) peers
               (subst (λ (z : List ℕ). Whole (is_uac (side_for u)) (peer_block (side_for u) g) z) targets
-              (whole rust_limits (side_for u) g room n.id (name_is ∙ n.reads) (state_in s) (state_of_lem (state_by st) f) clear (remains ∙ ap remainder_in h))))
+              (whole rust_limits (side_for u) g room n.id (name_is ∙ n.reads) (state_in s) (state_of_lem (state_by d.status) f) clear (remains ∙ ap remainder_in h))))
 
           pub size_is : size ≡ length (section_in u (routes_of rust_limits peer))
           size_is = whole_is.0
 
-          pub image_is : made_image rust_limits (side_for u) g room ≡ fitted room (image_of (parts_for u (meaning x) i r t l m (section_in u (routes_of rust_limits peer))))
-          image_is = whole_is.1 ∙ ap (λ (p : Parts). fitted room (image_of p)) (own_bytes u (meaning x) r t l m (section_in u (routes_of rust_limits peer)) i n)
+          pub image_is : (k : IdTexts) (v : UriTexts) → ident_of k ≡ ident_in d.response.now i → uris_given v ≡ record { first = t; second = record { first = d.local_uri.now; second = d.remote_uri.now } }
+              → made_image rust_limits (side_for u) g room ≡ fitted room (image_of (parts_for u (meaning x) k v (section_in u (routes_of rust_limits peer))))
+          image_is k v ie ue =
+              whole_is.1
+              ∙ ap (λ (p : Parts). fitted room (image_of p)) (own_parts u (meaning x) d.response.now t d.local_uri.now d.remote_uri.now (section_in u (routes_of rust_limits peer)) i n k v ie ue)

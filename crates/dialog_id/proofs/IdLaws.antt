@@ -1,12 +1,11 @@
 -- The causes of `DialogId::new` in their order, and the parts of an identifier that a block has. Assumes nothing.
-use Prim.Native.Nat.{ℕ, ◌+◌, ◌-◌, ◌≤◌}
-use native.Mathlib.Nat.{add-sub_cancel_left}
+use Prim.Native.Nat.{ℕ, ◌+◌, ◌≤◌}
 use native.Mathlib.Omega.{arith}
 use mathlib.Core.Path.{◌≡◌, refl, sym, ap, subst}
 use mathlib.Core.List.{List}
 use lib.ListN.{length, take, drop, length-drop}
 use lib.Seq.{length-take-le}
-use Rattle.std.specs.Prelude.{Err, None, Ok, Option, Some}
+use Rattle.std.specs.Prelude.{ok_or, None, Option, Some}
 use Rattle.limits.specs.Limits.{LimitSet}
 use Rattle.limits.specs.Outcome.{or_else, or_refuse}
 use Rattle.limits.specs.declared.Refusal.{Refusal}
@@ -17,10 +16,9 @@ use Rattle.text.specs.declared.Span.{Span}
 use Rattle.msg.specs.Block.{first_named, lines_of, found_of, block_cause}
 use Rattle.msg.specs.Table.{value_at, end_of}
 use Rattle.msg.proofs.TableLaws.{value_at_lem}
-use Rattle.headers.specs.Tag.{tag_of, part_of}
-use Rattle.dialog_id.specs.declared.DialogId.{DialogId}
+use Rattle.headers.specs.Tag.{part_of}
 use Rattle.dialog_id.specs.Ident.{ident, ident_cause}
-use Rattle.dialog_id.specs.DialogId.{part_cause, identifier_cause, call_id_name, tag_in, tag_named, Identifier, identifier, identifier_of, read_identifier, dialog_id_from, id_from, id_answer}
+use Rattle.dialog_id.specs.DialogId.{part_cause, identifier_cause, call_id_name, tag_in, tag_named, Identifier, identifier, identifier_of, read_identifier, id_from, id_answer}
 
 -- 1, or the causes of the three parts
 module _ (L : LimitSet) (c l r : List ℕ) where
@@ -38,10 +36,6 @@ module _ (L : LimitSet) (c l r : List ℕ) where
 pub tag_moved : (o : Option Piece) (at : ℕ) (t : Span) → part_of o ≡ Some t → Some (record { start = at + t.start; length = t.length }) ≡ part_of (moved at o)
 tag_moved None at t e = absurd (let z : ◌≡◌ {A = ℕ} 0 1 = cc in omega arith)
 tag_moved (Some p) at t e = let q : span_of p ≡ t = cc in ap (λ (x : Span). Some (record { start = at + x.start; length = x.length })) (sym q)
-
--- the tag in the value of a line, read from the block's bytes there
-pub tag_line : (s : List ℕ) (f : Option (Span × ℕ)) (v : Span) (next : ℕ) → f ≡ Some (v, next) → tag_in (value_at f s) ≡ moved v.start (tag_of (take (v.start + v.length - v.start) (drop v.start s)))
-tag_line s f v next e = rw (e, add-sub_cancel_left)
 
 pub no_part : (o : Option Piece) → part_of o ≡ None → o ≡ None
 no_part None e = refl
@@ -80,13 +74,9 @@ no_remote (Some c) None = refl
 no_remote (Some c) (Some l) = refl
 
 -- the answer with refusals by the one without
-pub id_missing : (o : Option Identifier) → id_from o ≡ None → Err MissingHeader ≡ id_answer (or_refuse MissingHeader o)
-id_missing None e = refl
-id_missing (Some i) e = absurd (let z : ◌≡◌ {A = ℕ} 0 1 = cc in omega arith)
-
-pub id_read : (o : Option Identifier) (i : DialogId) → id_from o ≡ Some i → Ok i ≡ id_answer (or_refuse MissingHeader o)
-id_read None i e = absurd (let z : ◌≡◌ {A = ℕ} 0 1 = cc in omega arith)
-id_read (Some j) i e = let q : dialog_id_from j ≡ i = cc in ap Ok (sym q)
+pub id_required : (o : Option Identifier) → ok_or (id_from o) MissingHeader ≡ id_answer (or_refuse MissingHeader o)
+id_required None = refl
+id_required (Some i) = refl
 
 -- a block that passed its check has an identifier, or 4
 pub id_clear : (L : LimitSet) (a b block : List ℕ) → block_cause L block ≡ None → read_identifier L a b block ≡ or_refuse MissingHeader (identifier_of a b block)

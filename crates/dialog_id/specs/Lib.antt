@@ -1,2 +1,3 @@
 pub mod DialogId
 pub mod Ident
+pub mod IdTexts

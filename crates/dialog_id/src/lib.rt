@@ -8,13 +8,41 @@ ghost use Rattle.text.specs.Text.{all, span};
 ghost use Rattle.msg.specs.Block.{lines_of};
 ghost use Rattle.msg.specs.Table.{table_of, value_at, end_of};
 ghost use Rattle.headers.specs.Tag.{part_of};
-ghost use Rattle.dialog_id.specs.Ident.{ident, ident_cause};
-ghost use Rattle.dialog_id.specs.DialogId.{is_plain, part_cause, identifier_cause, tag_in, identifier, from_name, to_name, identifier_of, from_request, from_response_uac, from_response_uas, id_from, id_answer};
+ghost use Rattle.text.specs.Spans.{PartWithin};
+ghost use Rattle.dialog_id.specs.Ident.{ident_cause};
+ghost use Rattle.dialog_id.specs.IdTexts.{ident_of, ident_in};
+ghost use Rattle.dialog_id.specs.DialogId.{is_plain, part_cause, identifier_cause, tag_in, identifier, read_identifier, from_name, to_name, identifier_of, from_request, from_response_uac, from_response_uas, id_from, id_answer};
 
 use headers::find_tag;
 use limits::{Limits, Refusal};
 use msg::HeaderTable;
-use text::Span;
+use text::{ByteClass, Span, run_length};
+
+// The three texts of an identifier.
+#[derive(Clone, Copy, PartialEq)]
+pub struct IdTexts<'a> {
+    pub call_id: &'a [u8],
+    pub local_tag: &'a [u8],
+    pub remote_tag: &'a [u8],
+}
+
+impl<'a> IdTexts<'a> {
+    // The length of each text: 1.
+    pub fn check_lengths(self) -> Result<(), Refusal>
+        ensures { result ≡ check_of (ident_cause rust_limits (ident_of self.entry)) }
+    {
+        if text::too_long(self.call_id) {
+            return Err(Refusal::TextTooLong);
+        }
+        if text::too_long(self.local_tag) {
+            return Err(Refusal::TextTooLong);
+        }
+        if text::too_long(self.remote_tag) {
+            return Err(Refusal::TextTooLong);
+        }
+        Ok(())
+    }
+}
 
 // Where the three parts stand in a header block.
 #[derive(Clone, Copy)]
@@ -26,24 +54,33 @@ pub struct DialogId {
 
 impl DialogId {
     // The check of given parts: 1, then 25, 26, 27 of each.
-    pub fn new(call_id: &[u8], local_tag: &[u8], remote_tag: &[u8]) -> Result<(), Refusal>
-        ensures { result ≡ check_of (identifier_cause rust_limits call_id.now local_tag.now remote_tag.now) }
+    pub fn new(id: IdTexts<'_>) -> Result<(), Refusal>
+        ensures { result ≡ check_of (identifier_cause rust_limits id.entry.call_id.now id.entry.local_tag.now id.entry.remote_tag.now) }
     {
-        check_lengths(call_id, local_tag, remote_tag)?;
-        check_part(call_id, Limits::MAX_CALL_ID_LENGTH)?;
-        check_part(local_tag, Limits::MAX_TAG_LENGTH)?;
-        check_part(remote_tag, Limits::MAX_TAG_LENGTH)
+        id.check_lengths()?;
+        check_part(id.call_id, Limits::MAX_CALL_ID_LENGTH)?;
+        check_part(id.local_tag, Limits::MAX_TAG_LENGTH)?;
+        check_part(id.remote_tag, Limits::MAX_TAG_LENGTH)
+    }
+
+    // The three texts that the parts are in the block.
+    // Kept (2): a record's three places in an image are a type of their own, which lies above this crate; each type names its places itself.
+    pub fn texts<'a>(self, block: &'a [u8]) -> IdTexts<'a>
+        requires { PartWithin block.now self.call_id × PartWithin block.now self.local_tag × PartWithin block.now self.remote_tag }
+        ensures { ident_of result ≡ ident_in block.now self }
+    {
+        IdTexts {
+            call_id: self.call_id.text(block),
+            local_tag: self.local_tag.text(block),
+            remote_tag: self.remote_tag.text(block),
+        }
     }
 
     // From a request, with the tag of From as local tag: 1, 2, 4.
     pub fn from_request(block: &[u8]) -> Result<DialogId, Refusal>
         ensures { result ≡ id_answer (from_request rust_limits block.now) }
     {
-        msg::check_block(block)?;
-        let Some(id) = read_id(block, b"From", b"To") else {
-            return Err(Refusal::MissingHeader);
-        };
-        Ok(id)
+        read_checked(block, b"From", b"To")
     }
 
     // From a response to a request that we sent: 1, 2, 4.
@@ -57,12 +94,16 @@ impl DialogId {
     pub fn from_response_uas(block: &[u8]) -> Result<DialogId, Refusal>
         ensures { result ≡ id_answer (from_response_uas rust_limits block.now) }
     {
-        msg::check_block(block)?;
-        let Some(id) = read_id(block, b"To", b"From") else {
-            return Err(Refusal::MissingHeader);
-        };
-        Ok(id)
+        read_checked(block, b"To", b"From")
     }
+}
+
+// The identifier by the two headers named: 1, 2, 4.
+fn read_checked(block: &[u8], local_name: &[u8], remote_name: &[u8]) -> Result<DialogId, Refusal>
+    ensures { result ≡ id_answer (read_identifier rust_limits local_name.now remote_name.now block.now) }
+{
+    msg::check_block(block)?;
+    read_id(block, local_name, remote_name).ok_or(Refusal::MissingHeader)
 }
 
 // The identifier that a request names, of a block that was checked before; the tag of From as local tag.
@@ -114,34 +155,17 @@ pub fn id_at(
 }
 
 // The tag of a line that was looked up, where it stands in the block.
+// Kept (5): the line is one of many that a table holds of the same block; a struct of both would be made at each call and taken apart in it.
 fn tag_at(block: &[u8], line: Option<(Span, usize)>) -> Option<Span>
     requires { end_of line ≤ length block.now }
     ensures { result ≡ part_of (tag_in (value_at line block.now)) }
 {
     let (v, _) = line?;
-    let a = v.start;
-    let e = a + v.length;
-    let t = find_tag(&block[a..e])?;
+    let t = find_tag(v.text(block))?;
     Some(Span {
-        start: a + t.start,
+        start: v.start + t.start,
         length: t.length,
     })
-}
-
-// The lengths of the three texts of an identifier: 1.
-pub fn check_lengths(call_id: &[u8], local_tag: &[u8], remote_tag: &[u8]) -> Result<(), Refusal>
-    ensures { result ≡ check_of (ident_cause rust_limits (ident call_id.now local_tag.now remote_tag.now)) }
-{
-    if text::too_long(call_id) {
-        return Err(Refusal::TextTooLong);
-    }
-    if text::too_long(local_tag) {
-        return Err(Refusal::TextTooLong);
-    }
-    if text::too_long(remote_tag) {
-        return Err(Refusal::TextTooLong);
-    }
-    Ok(())
 }
 
 // A part of an identifier, of at most `limit` bytes: 25, 26, 27.
@@ -173,14 +197,20 @@ fn plain_length(s: &[u8]) -> usize
     ensures value { result ≡ span is_plain s.now }
     ensures upper_bound { result ≤ length s.now }
 {
-    let mut i = 0;
-    while i < s.len() {
-        if !is_plain(s[i]) {
-            return i;
-        }
-        i += 1;
+    run_length(s, &PlainByte {})
+}
+
+// The bytes that an identifier part may have.
+#[derive(Clone, Copy)]
+struct PlainByte {}
+
+impl ByteClass for PlainByte {
+    ghost test = { λ _ b. is_plain b };
+
+    // Kept (5): the parameters are the trait's.
+    fn has(&self, b: u8) -> bool {
+        is_plain(b)
     }
-    i
 }
 
 fn is_plain(b: u8) -> bool

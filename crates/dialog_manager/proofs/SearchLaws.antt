@@ -10,7 +10,7 @@ use Rattle.std.proofs.lemmas.Option.{same_Some}
 use Rattle.std.specs.Prelude.{None, Option, Some}
 use Rattle.text.specs.Text.{equal}
 use Rattle.codec.specs.Codec.{Reading, write_all}
-use Rattle.record.specs.Record.{Record, image}
+use Rattle.record.specs.Record.{Record, is_given, image}
 use Rattle.record.specs.Store.{distinct, encode_all, record_before, records_in, only_distinct, decode_all}
 use Rattle.codec.proofs.CodecLaws.{Bytes, bytes_drop}
 use Rattle.record.proofs.StoreLaws.{EachFormed, decoded}
@@ -23,10 +23,11 @@ use Rattle.image.proofs.SizeLaws.{record_size}
 use Rattle.image_writer.proofs.LieLaws.{Lie, record_lies}
 use Rattle.text.specs.Spans.{part_in}
 use Rattle.record_walk.specs.Walk.{At, end_at}
+use Rattle.record_walk.proofs.Walks.{given_is}
 use Rattle.store.proofs.WalkLaws.{Step, step}
 use Rattle.dialog_id.specs.Ident.{same_ident}
 use Rattle.book.specs.Book.{Book}
-use Rattle.dialog_manager.specs.Search.{named, of_call_id, Spot, first, found_of, found_in, Stored, IdsWithin, named_at, of_call_id_at}
+use Rattle.dialog_manager.specs.Search.{named, of_call_id, Spot, first, found_of, found_in, Stored, TextsOf, IdsWithin, named_at, of_call_id_at}
 
 -- ---- records of bytes
 
@@ -42,6 +43,10 @@ whole s b e = by (records_in (length s) s) refl e
     by : (o : Option (List Record)) → records_in (length s) s ≡ o → only_distinct o ≡ Some b → records_in (length s) s ≡ Some b
     by None q e = absurd (let z : ◌≡◌ {A = ℕ} 0 1 = cc in omega arith)
     by (Some rs) q e = q ∙ is rs (distinct rs) e
+
+-- so they are whole records
+pub stored_whole : (s : List ℕ) → Stored s → is_given (records_in (length s) s) ≡ true
+stored_whole s k = given_is (records_in (length s) s) (whole s k.records k.are)
 
 -- no record in front
 not_broken : (fuel : ℕ) (t : List ℕ) (b : Book) → 0 < length t → records_in fuel t ≡ Some b → image.read t ≡ None → ⊥
@@ -186,12 +191,17 @@ module _ (s : List ℕ) (at : ℕ) (p : RecordAt) (t : Turn s at p) (b : Bytes s
   lie : Lie s (at + 2) (ids_of t.step.value)
   lie = record_lies s at (record { value = t.step.value; rest = drop p.end s }) (bytes_drop at s b) t.step.reads
 
-  pub compared : (c l r : List ℕ) → named_at s p.ids c l r ≡ named c l r t.step.value
-  unfolding same_ident
-  compared c l r = rw (t.placed, lie.call_id, lie.local_tag, lie.remote_tag)
+  pub texts_of : TextsOf s p.ids t.step.value
+  texts_of = rw t.placed (lie.call_id, lie.local_tag, lie.remote_tag)
 
-  pub call_compared : (c : List ℕ) → of_call_id_at s p.ids c ≡ of_call_id c t.step.value
-  call_compared c = rw (t.placed, lie.call_id)
+-- the record of an identifier
+pub named_held : (s : List ℕ) (i : IdsAt) (c l r : List ℕ) (x : Record) → TextsOf s i x → named_at s i c l r ≡ named c l r x
+unfolding same_ident
+named_held s i c l r x w = rw (w.0, w.1, w.2)
+
+-- and of a Call-ID
+pub call_held : (s : List ℕ) (i : IdsAt) (c : List ℕ) (x : Record) → TextsOf s i x → of_call_id_at s i c ≡ of_call_id c x
+call_held s i c x w = rw w.0
 
 -- ---- the comparison, text by text
 

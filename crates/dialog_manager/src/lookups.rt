@@ -6,27 +6,23 @@ ghost use Rattle.book.specs.Store.{run};
 ghost use Rattle.dialog_manager.specs.Lookups.{getting, answer_in};
 
 use crate::placing::{place_of, place_of_call_id, place_of_request};
-use dialog_id::{check_lengths, request_id};
+use dialog_id::{IdTexts, request_id};
 use limits::Refusal;
 
 // DialogManager::get: 1, 3, 15.
-pub fn get(
-    call_id: &[u8],
-    local_tag: &[u8],
-    remote_tag: &[u8],
-    bytes: &[u8],
-    used: usize,
-) -> Result<(usize, usize), Refusal>
-    ensures { answer_in result ≡ (run rust_limits (read (length bytes.now) (getting call_id.now local_tag.now remote_tag.now)) bytes.now used).answer }
+// Kept (5, 6): a C caller lends bytes and says how many are used.
+pub fn get(id: IdTexts<'_>, bytes: &[u8], used: usize) -> Result<(usize, usize), Refusal>
+    ensures { answer_in result ≡ (run rust_limits (read (length bytes.now) (getting id.entry.call_id.now id.entry.local_tag.now id.entry.remote_tag.now)) bytes.now used).answer }
 {
-    check_lengths(call_id, local_tag, remote_tag)?;
+    id.check_lengths()?;
     let Ok(_) = store::count(bytes, used) else {
         return Err(Refusal::BadStore);
     };
-    place_of(&bytes[..used], call_id, local_tag, remote_tag)
+    place_of(&bytes[..used], id)
 }
 
 // DialogManager::find_by_call_id: 1, 3, 15. The first in the store.
+// Kept (5, 6): a C caller lends bytes and says how many are used.
 pub fn find_by_call_id(call_id: &[u8], bytes: &[u8], used: usize) -> Result<(usize, usize), Refusal>
     ensures { answer_in result ≡ (run rust_limits (read (length bytes.now) (find_by_call_id call_id.now)) bytes.now used).answer }
 {
@@ -40,6 +36,7 @@ pub fn find_by_call_id(call_id: &[u8], bytes: &[u8], used: usize) -> Result<(usi
 }
 
 // DialogManager::find_by_request: 1, 2, 3, 15, the last where a part of the identifier can't be read too. A request from the peer has From as remote tag.
+// Kept (5, 6): a C caller lends bytes and says how many are used.
 pub fn find_by_request(block: &[u8], bytes: &[u8], used: usize) -> Result<(usize, usize), Refusal>
     ensures { answer_in result ≡ (run rust_limits (read (length bytes.now) (find_by_request block.now)) bytes.now used).answer }
 {

@@ -6,26 +6,23 @@ ghost use Rattle.dialog_manager.specs.Search.{named, of_call_id, Stored};
 ghost use Rattle.dialog_manager.specs.Lookups.{answer_in, place_in};
 
 use crate::finding::{search_call_id, search_id};
-use dialog_id::DialogId;
+use dialog_id::{DialogId, IdTexts};
 use limits::Refusal;
 
 // By the identifier: 15.
-pub fn place_of(
-    bytes: &[u8],
-    call_id: &[u8],
-    local_tag: &[u8],
-    remote_tag: &[u8],
-) -> Result<(usize, usize), Refusal>
+// Kept (2, 5): what is looked for is another type, and the search of each has its own clause.
+pub fn place_of(bytes: &[u8], id: IdTexts<'_>) -> Result<(usize, usize), Refusal>
     requires { Stored bytes.now }
-    ensures { answer_in result ≡ place_in (named call_id.now local_tag.now remote_tag.now) (decode_all bytes.now) }
+    ensures { answer_in result ≡ place_in (named id.entry.call_id.now id.entry.local_tag.now id.entry.remote_tag.now) (decode_all bytes.now) }
 {
-    let Some((at, r)) = search_id(bytes, call_id, local_tag, remote_tag) else {
+    let Some((at, r)) = search_id(bytes, id) else {
         return Err(Refusal::NotFound);
     };
     Ok((at, r.end - at))
 }
 
 // By the Call-ID alone: 15.
+// Kept (2): as for `place_of`.
 pub fn place_of_call_id(bytes: &[u8], call_id: &[u8]) -> Result<(usize, usize), Refusal>
     requires { Stored bytes.now }
     ensures { answer_in result ≡ place_in (of_call_id call_id.now) (decode_all bytes.now) }
@@ -42,16 +39,13 @@ pub fn place_of_request(block: &[u8], i: DialogId, bytes: &[u8]) -> Result<(usiz
     requires stored { Stored bytes.now }
     ensures { answer_in result ≡ place_in (named (part_in block.now i.call_id) (part_in block.now i.remote_tag) (part_in block.now i.local_tag)) (decode_all bytes.now) }
 {
-    let call_id = i.call_id;
-    let local = i.remote_tag;
-    let remote = i.local_tag;
-    let a = call_id.start;
-    let b = local.start;
-    let c = remote.start;
-    place_of(
-        bytes,
-        &block[a..a + call_id.length],
-        &block[b..b + local.length],
-        &block[c..c + remote.length],
-    )
+    let named = i.texts(block);
+    let local_tag = named.remote_tag;
+    let remote_tag = named.local_tag;
+    let id = IdTexts {
+        call_id: named.call_id,
+        local_tag,
+        remote_tag,
+    };
+    place_of(bytes, id)
 }

@@ -7,7 +7,7 @@ use Rattle.std.specs.Prelude.{Err, None, Ok, Some}
 use Rattle.limits.specs.Limits.{LimitSet}
 use Rattle.limits.specs.Outcome.{check_of}
 use Rattle.limits.specs.declared.Refusal.{Refusal}
-use Rattle.limits.specs.declared.Refusal.TheVariants.{TextTooLong, BadStore, MissingHeader}
+use Rattle.limits.specs.declared.Refusal.TheVariants.{TextTooLong, MissingHeader}
 use Rattle.limits.proofs.Laws.{passed, stopped}
 use Rattle.text.specs.Answers.{too_long}
 use Rattle.msg.specs.Block.{block_cause}
@@ -51,6 +51,6 @@ module _ (L : LimitSet) (method block bytes : List ℕ) (used : ℕ) where
       unfolding requested
       as_image = rw (short, passed (block_cause L block) good)
 
-      pub no_record : used_record bytes used ≡ Err BadStore → requested L method block bytes used ≡ Err BadStore
+      pub no_record : {cause : Refusal} → used_record bytes used ≡ Err cause → requested L method block bytes used ≡ Err cause
       unfolding image_after
       no_record e = as_image ∙ rw e

@@ -1,27 +1,27 @@
 // Dialog::update_from_request.
 #![tactic(auto)]
 
-ghost use Rattle.std.specs.Prelude.{◌≡◌, ◌≤◌, length, take, Some};
+ghost use Rattle.std.specs.Prelude.{◌≡◌, ◌≤◌, length, take};
 ghost use Rattle.limits.specs.Limits.{rust_limits};
 ghost use Rattle.msg.specs.Block.{lines_of, first_named, found_of};
 ghost use Rattle.route_set.specs.Routes.{contact_name};
 ghost use Rattle.prack_headers.specs.Sequence.{cseq_name};
 ghost use Rattle.output.specs.Output.{leaves, written_from};
 ghost use Rattle.record.specs.NumbersForm.{kind_in};
-ghost use Rattle.image.specs.Places.{record_from};
-ghost use Rattle.image_edit.specs.Changes.{read_at};
+ghost use Rattle.image_edit.specs.Stands.{StandsAt};
 ghost use Rattle.dialog_rules.specs.Updates.{kind_of, request_update};
 ghost use Rattle.dialog_updates.specs.AtPlace.{stepped};
 ghost use Rattle.dialog_updates.specs.Messages.{requested};
 
 use dialog_changes::read_used;
 use dialog_updates::revise_to;
-use image::RecordAt;
+use image_edit::RecordPlace;
 use limits::Refusal;
 use record::Method;
 use text::Span;
 
 // On one record, given as its image with room behind it: 1, 2, 3, 4, 9; ACK: 11; others: 10, 11, 12; 18. Answers the image's new length.
+// Kept (5, 6): a C caller lends bytes and says how many are used.
 pub fn update_from_request(
     method: &[u8],
     block: &[u8],
@@ -35,55 +35,51 @@ pub fn update_from_request(
         return Err(Refusal::TextTooLong);
     }
     msg::check_block(block)?;
-    let Ok(r) = read_used(bytes, used) else {
-        return Err(Refusal::BadStore);
-    };
-    request_at(bytes, used, 0, r, method, block)
+    let p = read_used(bytes, used)?;
+    request_at(bytes, p, method, block)
 }
 
 // On the record that was read at a place of a store's used bytes, by a block that was checked: 4, 9; ACK: 11; others: 10, 11, 12; 18.
 // Answers the new used length.
+// Kept (5): the place is read through a shared reference, so that a struct with the bytes to be changed would be made for this call alone.
 pub fn request_at(
     bytes: &mut [u8],
-    used: usize,
-    at: usize,
-    r: RecordAt,
+    p: RecordPlace,
     method: &[u8],
     block: &[u8],
 ) -> Result<usize, Refusal>
-    requires used_in_bounds { (used ≤ length bytes.old) × (at ≤ used) × (length block.now ≤ 8192) }
-    requires bytes_value { record_from at (read_at at (take used bytes.old)) ≡ Some r }
-    ensures value { result ≡ written_from (stepped (request_update rust_limits (kind_of method.now) block.now) (length bytes.old) at (take used bytes.old)) }
-    ensures bytes_after { bytes.new ≡ leaves (stepped (request_update rust_limits (kind_of method.now) block.now) (length bytes.old) at (take used bytes.old)) bytes.old }
+    requires stands { StandsAt bytes.old p }
+    requires block_bound { length block.now ≤ 8192 }
+    ensures value { result ≡ written_from (stepped (request_update rust_limits (kind_of method.now) block.now) (length bytes.old) p.at (take p.used bytes.old)) }
+    ensures bytes_after { bytes.new ≡ leaves (stepped (request_update rust_limits (kind_of method.now) block.now) (length bytes.old) p.at (take p.used bytes.old)) bytes.old }
 {
     let cseq = msg::find(block, b"CSeq");
     let contact = msg::find(block, b"Contact");
-    request_by(bytes, used, at, r, method, block, cseq, contact)
+    request_by(bytes, p, method, block, cseq, contact)
 }
 
 // The same with the first lines of CSeq and Contact that were looked up.
+// Kept (5): the place is read through a shared reference, so that a struct with the bytes to be changed would be made for this call alone.
 pub fn request_by(
     bytes: &mut [u8],
-    used: usize,
-    at: usize,
-    r: RecordAt,
+    p: RecordPlace,
     method: &[u8],
     block: &[u8],
     cseq: Option<(Span, usize)>,
     contact: Option<(Span, usize)>,
 ) -> Result<usize, Refusal>
-    requires used_in_bounds { (used ≤ length bytes.old) × (at ≤ used) × (length block.now ≤ 8192) × (cseq ≡ found_of (first_named cseq_name (lines_of block.now))) × (contact ≡ found_of (first_named contact_name (lines_of block.now))) }
-    requires bytes_value { record_from at (read_at at (take used bytes.old)) ≡ Some r }
-    ensures value { result ≡ written_from (stepped (request_update rust_limits (kind_of method.now) block.now) (length bytes.old) at (take used bytes.old)) }
-    ensures bytes_after { bytes.new ≡ leaves (stepped (request_update rust_limits (kind_of method.now) block.now) (length bytes.old) at (take used bytes.old)) bytes.old }
+    requires stands { StandsAt bytes.old p }
+    requires block_value { (length block.now ≤ 8192) × (cseq ≡ found_of (first_named cseq_name (lines_of block.now))) × (contact ≡ found_of (first_named contact_name (lines_of block.now))) }
+    ensures value { result ≡ written_from (stepped (request_update rust_limits (kind_of method.now) block.now) (length bytes.old) p.at (take p.used bytes.old)) }
+    ensures bytes_after { bytes.new ≡ leaves (stepped (request_update rust_limits (kind_of method.now) block.now) (length bytes.old) p.at (take p.used bytes.old)) bytes.old }
 {
     let Some(n) = prack_headers::cseq_at(block, cseq) else {
         return Err(Refusal::MissingHeader);
     };
-    let numbers = r.numbers;
+    let numbers = p.record.numbers;
     let x = numbers.request(kind_of(method), n)?;
     let target = route_set::contact_at(block, contact);
-    revise_to(bytes, used, at, r, x, block, target)
+    revise_to(bytes, p, x, block, target)
 }
 
 // `ACK`, exactly those letters, or any other method.

@@ -9,7 +9,6 @@ use Rattle.std.specs.Prelude.{Err, None, Ok, Option, Result, Some}
 use Rattle.limits.specs.Limits.{LimitSet}
 use Rattle.limits.specs.Outcome.{check_of}
 use Rattle.limits.specs.declared.Refusal.{Refusal}
-use Rattle.limits.specs.declared.Refusal.TheVariants.{BadStore}
 use Rattle.limits.proofs.Laws.{passed, stopped, some_pair, ok_pair}
 use Rattle.text.specs.Text.{Piece}
 use Rattle.msg.specs.Block.{block_cause}
@@ -19,8 +18,9 @@ use Rattle.route_set.specs.Routes.{routes_of}
 use Rattle.route_section.specs.Section.{section_from}
 use Rattle.routes_edit.specs.Rerouted.{renewed_by}
 use Rattle.record.specs.Changes.{with_numbers, with_routes}
+use Rattle.record.specs.NumbersForm.{side_in}
 use Rattle.record.specs.Record.{Side, Numbers, Record}
-use Rattle.dialog_rules.specs.Updates.{retargeted, confirms, routes_or, side_of, interval_from, answered, response_update}
+use Rattle.dialog_rules.specs.Updates.{retargeted, confirms, routes_or, interval_from, answered, response_update}
 use Rattle.dialog_changes.specs.ImageUpdates.{used_record, image_after}
 use Rattle.dialog_updates.specs.Messages.{responded}
 
@@ -30,13 +30,13 @@ pub no_interval : (o : Option Interval) (x : Numbers) → expires_from o ≡ Non
 no_interval None x e = refl
 no_interval (Some i) x e = absurd (let z : ◌≡◌ {A = ℕ} 0 1 = cc in omega arith)
 
-pub an_interval : (o : Option Interval) (x : Numbers) (n : ℕ) (r : Refresher) (s : Option Side) → expires_from o ≡ Some (n, r) → s ≡ side_of r
-    → record { state = x.state; local = x.local; remote = x.remote; last_ack = x.last_ack; seconds = Some n; refresher = s } ≡ interval_from o x
-an_interval None x n r s e q = absurd (let z : ◌≡◌ {A = ℕ} 0 1 = cc in omega arith)
-an_interval (Some i) x n r s e q =
+pub an_interval : (o : Option Interval) (x : Numbers) (n : ℕ) (r : Option Refresher) → expires_from o ≡ Some (n, r)
+    → record { state = x.state; local = x.local; remote = x.remote; last_ack = x.last_ack; seconds = Some n; refresher = side_in r } ≡ interval_from o x
+an_interval None x n r e = absurd (let z : ◌≡◌ {A = ℕ} 0 1 = cc in omega arith)
+an_interval (Some i) x n r e =
     let same : (i.seconds ≡ n) × (i.refresher ≡ r) = some_pair e in
-    ap (λ (k : ℕ). record { state = x.state; local = x.local; remote = x.remote; last_ack = x.last_ack; seconds = Some k; refresher = s }) (sym same.0)
-    ∙ ap (λ (y : Option Side). record { state = x.state; local = x.local; remote = x.remote; last_ack = x.last_ack; seconds = Some i.seconds; refresher = y }) (q ∙ ap side_of (sym same.1))
+    ap (λ (k : ℕ). record { state = x.state; local = x.local; remote = x.remote; last_ack = x.last_ack; seconds = Some k; refresher = side_in r }) (sym same.0)
+    ∙ ap (λ (y : Option Side). record { state = x.state; local = x.local; remote = x.remote; last_ack = x.last_ack; seconds = Some i.seconds; refresher = y }) (ap side_in (sym same.1))
 
 -- ---- the routes
 
@@ -78,6 +78,6 @@ module _ (L : LimitSet) (status : ℕ) (block bytes : List ℕ) (used : ℕ) whe
     unfolding responded
     response_image = rw (passed (block_cause L block) good)
 
-    pub no_image : used_record bytes used ≡ Err BadStore → responded L status block bytes used ≡ Err BadStore
+    pub no_image : {cause : Refusal} → used_record bytes used ≡ Err cause → responded L status block bytes used ≡ Err cause
     unfolding image_after
     no_image e = response_image ∙ rw e

@@ -11,8 +11,7 @@ use Rattle.limits.specs.declared.Refusal.TheVariants.{MissingHeader}
 use Rattle.text.specs.Text.{Piece, equal}
 use Rattle.msg.specs.Status.{in_class}
 use Rattle.headers.specs.SessionExpires.{Interval, expires_named}
-use Rattle.headers.specs.declared.session_timer.Refresher.{Refresher}
-use Rattle.headers.specs.declared.session_timer.Refresher.TheVariants as refresher
+use Rattle.record.specs.NumbersForm.{side_in}
 use Rattle.route_set.specs.Routes.{contact_of, routes_of}
 use Rattle.prack_headers.specs.Sequence.{cseq_number}
 use Rattle.record.specs.Record.{State, early, confirmed, terminated, Side, uac, uas, Numbers, Record}
@@ -66,16 +65,10 @@ routes_or old (Ok (p ∷ ps)) = map (λ (q : Piece). q.text) (reverse (p ∷ ps)
 abbrev pub rerouted : LimitSet → ℕ → List ℕ → Record → Record
 rerouted L status block r = cond (confirms status r.numbers.state) (with_routes (routes_or r.routes (routes_of L block)) r) r
 
--- who refreshes, as the record has it
-abbrev pub side_of : Refresher → Option Side
-side_of refresher.Uac = Some uac
-side_of refresher.Uas = Some uas
-side_of refresher.Unspecified = None
-
 -- a readable Session-Expires replaces seconds and refresher both
 abbrev pub interval_from : Option Interval → Numbers → Numbers
 interval_from None x = x
-interval_from (Some i) x = record { state = x.state; local = x.local; remote = x.remote; last_ack = x.last_ack; seconds = Some i.seconds; refresher = side_of i.refresher }
+interval_from (Some i) x = record { state = x.state; local = x.local; remote = x.remote; last_ack = x.last_ack; seconds = Some i.seconds; refresher = side_in i.refresher }
 
 -- a 2xx confirms
 abbrev pub confirmed_by : ℕ → Numbers → Numbers

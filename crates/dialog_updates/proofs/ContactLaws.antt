@@ -8,6 +8,7 @@ use Rattle.std.specs.Prelude.{Err, None, Ok, Option, Result, Some}
 use Rattle.limits.specs.declared.Refusal.{Refusal}
 use Rattle.text.specs.Text.{Piece}
 use Rattle.text.specs.Answers.{span_of}
+use Rattle.text.specs.Spans.{part_in}
 use Rattle.text.specs.declared.Span.{Span}
 use Rattle.route_set.specs.Routes.{contact_of, contact_from}
 use Rattle.routes_edit.specs.Rerouted.{renewed_by}
@@ -32,15 +33,14 @@ contact_within block c e = by (contact_of block) refl e
     by None q e = absurd (let z : ◌≡◌ {A = ℕ} 0 1 = cc in omega arith)
     by (Some p) q e = let s : span_of p ≡ c = cc in subst (λ (x : Span). x.start + x.length ≤ length block) s (contact_placed block p q).fits
 
-pub contact_target : (block old : List ℕ) (c : Span) → contact_from (contact_of block) ≡ Some c → text_or old (contact_of block) ≡ take (c.start + c.length - c.start) (drop c.start block)
+pub contact_target : (block old : List ℕ) (c : Span) → contact_from (contact_of block) ≡ Some c → text_or old (contact_of block) ≡ part_in block c
 contact_target block old c e = by (contact_of block) refl e
   where
-    by : (o : Option Piece) → contact_of block ≡ o → contact_from o ≡ Some c → text_or old o ≡ take (c.start + c.length - c.start) (drop c.start block)
+    by : (o : Option Piece) → contact_of block ≡ o → contact_from o ≡ Some c → text_or old o ≡ part_in block c
     by None q e = absurd (let z : ◌≡◌ {A = ℕ} 0 1 = cc in omega arith)
     by (Some p) q e =
         let s : span_of p ≡ c = cc in
-        let n : p.place + length p.text - p.place ≡ length p.text = omega arith in
-        subst (λ (x : Span). p.text ≡ take (x.start + x.length - x.start) (drop x.start block)) s (sym (contact_placed block p q).there ∙ ap (λ (m : ℕ). take m (drop p.place block)) (sym n))
+        subst (λ (x : Span). p.text ≡ part_in block x) s (sym (contact_placed block p q).there)
 
 -- the target kept: by the routes that were read, since the record is then one with them
 pub target_kept : (x : Numbers) (o : Result (List Piece) Refusal) (v : Record) {t : List ℕ} → t ≡ (renewed_by x o v).target → with_target t (renewed_by x o v) ≡ renewed_by x o v

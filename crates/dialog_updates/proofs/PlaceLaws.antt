@@ -16,7 +16,8 @@ use Rattle.image.specs.declared.RecordAt.{RecordAt}
 use Rattle.image_edit.specs.Changes.{changed}
 use Rattle.image_edit.proofs.ImageCuts.{Held, held_used, changed_held}
 use Rattle.dialog_changes.specs.ImageUpdates.{image_after}
-use Rattle.dialog_changes.proofs.ImageUpdateLaws.{One, changed_one}
+use Rattle.image_edit.specs.declared.RecordPlace.{RecordPlace}
+use Rattle.dialog_changes.proofs.ImageUpdateLaws.{One, Placed, changed_one}
 use Rattle.dialog_updates.specs.AtPlace.{stepped}
 
 -- ---- at a place
@@ -62,7 +63,7 @@ module _ (bytes : List ℕ) (used : ℕ) (p : RecordAt) (h : One bytes used p) (
       ap (λ (x : Reading Record). x.value) q
 
   -- the step on the one record is the step on the record at 0
-  pub stepped_one : image_after step bytes used ≡ stepped step (length bytes) 0 (take used bytes)
+  stepped_one : image_after step bytes used ≡ stepped step (length bytes) 0 (take used bytes)
   unfolding image_after
   stepped_one = rw h.one (by (step h.value) refl)
     where
@@ -71,3 +72,11 @@ module _ (bytes : List ℕ) (used : ℕ) (p : RecordAt) (h : One bytes used p) (
       by (Ok v) e =
           ap (fitted (length bytes)) (sym (changed_one bytes used p h (λ _. v) byte))
           ∙ sym (stepped_given (take used bytes) 0 p held_one step (length bytes) (λ _. v) (ap step same_value ∙ e))
+
+-- the same at the place that the code has read
+pub stepped_place : (bytes : List ℕ) (used : ℕ) (p : RecordPlace) (h : Placed bytes used p) → ((i : ℕ) → get_or bytes i 0 < 256) → (step : Record → Result Record Refusal)
+    → image_after step bytes used ≡ stepped step (length bytes) p.at (take p.used bytes)
+stepped_place bytes used p h byte step =
+    stepped_one bytes used p.record h.one byte step
+    ∙ ap (λ (n : ℕ). stepped step (length bytes) n (take used bytes)) (sym h.at_is)
+    ∙ ap (λ (n : ℕ). stepped step (length bytes) p.at (take n bytes)) (sym h.used_is)

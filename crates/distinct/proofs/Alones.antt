@@ -3,11 +3,11 @@ use Prim.Native.Nat.{ℕ, ◌≤◌, ◌<◌}
 use mathlib.Core.Path.{◌≡◌, refl, sym, ap, ◌∙◌}
 use mathlib.Core.Bool.{Bool, true, false, cond, not, ◌&&◌}
 use mathlib.Core.List.{List, ◌∷◌}
-use lib.ListN.{length}
+use lib.ListN.{length, drop}
 use Rattle.std.specs.Prelude.{None, Some}
 use Rattle.text.specs.Text.{equal}
 use Rattle.record.specs.Record.{Record, is_given}
-use Rattle.record.specs.Store.{same_id, lacks, distinct, decode_all}
+use Rattle.record.specs.Store.{same_id, lacks, distinct, records_in, decode_all}
 use Rattle.codec.proofs.CodecLaws.{Bytes}
 use Rattle.distinct.specs.Distinct.{Whole, is_distinct}
 use Rattle.ordered_store.specs.Order.{order}
@@ -20,7 +20,9 @@ use Rattle.distinct.proofs.Identities.{same_key}
 use Rattle.record_walk.proofs.Images.{back}
 use Rattle.distinct.proofs.KeysAt.{key_is}
 use Rattle.text.proofs.Sames.{equal_same, equal_is}
-use Rattle.distinct.proofs.Walks.{From, Next, next, from_end, from_more}
+use Rattle.record_walk.proofs.Walks.{From, Next, next, from_end, from_more, given_records, still}
+use Rattle.record_walk.specs.declared.records.Records.{Records}
+use Rattle.distinct.proofs.Walks.{key_next}
 
 module _ (s : List ℕ) (b : Bytes s) where
   -- a record from a place on, its end, and what follows
@@ -36,6 +38,10 @@ module _ (s : List ℕ) (b : Bytes s) where
       let e : From s at (m.0 ∷ m.1.0) = w.are ∙ ap Some m.1.1 in
       record { rec = m.0; others = m.1.0; all = e; next = next s b at m.0 m.1.0 e }
 
+  -- of a walk over these bytes
+  pub whole_here : (r : Records) → r.bytes.now ≡ s → WholeFrom s r.at
+  whole_here r e = let g = given_records (records_in (length s) (drop r.at s)) (still s r e) in record { records = g.0; are = g.1 }
+
   abbrev pub step_whole : (at : ℕ) → Step at → WholeFrom s (end_at s at)
   step_whole at n = record { records = n.others; are = n.next.others }
 
@@ -50,7 +56,7 @@ module _ (s : List ℕ) (b : Bytes s) where
     alone_step : (q : ℕ) (n : Step q) → alone_from s p q ≡ (not (equal (key_at s q) (key_at s p)) && alone_from s p (end_at s q))
     unfolding alone_from lacks
     alone_step q n =
-        let k : same_id n.rec x.reading.value ≡ equal (key_at s q) (key_at s p) = same_key n.rec x.reading.value n.next.formed (back s p b x).1 ∙ rw (n.next.key, key_is s p b x) in
+        let k : same_id n.rec x.reading.value ≡ equal (key_at s q) (key_at s p) = same_key n.rec x.reading.value n.next.formed (back s p b x).1 ∙ rw (key_next s b q n.rec n.others n.next, key_is s p b x) in
         rw (x.reads, n.all, n.next.others, k)
 
     pub alone_met : (q : ℕ) → Step q → order (key_at s q) (key_at s p) ≡ Equal → alone_from s p q ≡ false

@@ -16,7 +16,8 @@ use Rattle.distinct.specs.Sorting.{EachAt, tally, SortedOr}
 use Rattle.distinct.proofs.Ascents.{once}
 use Rattle.distinct.proofs.Identities.{same_key}
 use Rattle.text.proofs.Sames.{equal_same, equal_is}
-use Rattle.distinct.proofs.Walks.{From, next, each_formed, each_place}
+use Rattle.record_walk.proofs.Walks.{From, next}
+use Rattle.distinct.proofs.Walks.{key_next, each_formed, each_place}
 
 -- how many of the records have a key
 unfoldable count : List ℕ → List Record → ℕ
@@ -80,7 +81,7 @@ module _ (s : List ℕ) (b : Bytes s) where
   tally_places k (r ∷ rs) at e =
       let n = next s b at r rs e in
       let m = tally_places k rs (end_at s at) n.others in
-      rw (n.key, ← n.ends, m)
+      rw (key_next s b at r rs n, ← n.ends, m)
 
   pub places_each : (ps : List ℕ) → Places s ps → EachAt s ps
   places_each ps p = rw p.1.1 (each_place s b p.0 0 p.1.0)

@@ -8,7 +8,10 @@ mod keys;
 mod merging;
 mod pairs;
 
+use record_walk::Records;
+
 // Of bytes that are whole records: `places` are those of their images, and `scratch` is as long. Both are changed.
+// Kept (5, 6): no heap: the caller lends both tables.
 pub fn is_distinct(bytes: &[u8], places: &mut [usize], scratch: &mut [usize]) -> bool
     requires places { Places bytes.now places.old }
     requires scratch_len { length scratch.old ≡ length places.old }
@@ -22,13 +25,11 @@ pub fn is_distinct_by_pairs(bytes: &[u8]) -> bool
     requires { Whole bytes.now }
     ensures { result ≡ is_distinct bytes.now }
 {
-    let mut p = 0;
-    while p < bytes.len() {
-        let end = record_walk::record_end(bytes, p);
-        if !pairs::is_alone(bytes, p, end) {
+    let mut records = Records::new(bytes);
+    while let Some(p) = records.next() {
+        if !pairs::is_alone(bytes, p, records) {
             return false;
         }
-        p = end;
     }
     true
 }

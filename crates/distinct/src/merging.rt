@@ -6,6 +6,7 @@ use crate::keys::compare;
 use std::cmp::Ordering;
 
 // `places` in the order of their keys; or `false`, if two keys are equal.
+// Kept (5, 6): no heap: the caller lends the table of places and one as long to merge into.
 pub fn sort(bytes: &[u8], places: &mut [usize], scratch: &mut [usize]) -> bool
     requires each_at { EachAt bytes.now places.old }
     requires scratch_len { length scratch.old ≡ length places.old }
@@ -26,6 +27,7 @@ pub fn sort(bytes: &[u8], places: &mut [usize], scratch: &mut [usize]) -> bool
 }
 
 // Two ascending runs, the places before `mid` and the others, as one; or `false`, if two keys are equal.
+// Kept (5, 6): as for `sort`.
 fn join(bytes: &[u8], places: &mut [usize], mid: usize, scratch: &mut [usize]) -> bool
     requires { Runs bytes.now places.old mid scratch.old }
     ensures { SortedOr result bytes.now places.old places.new }
@@ -44,6 +46,7 @@ fn merge(bytes: &[u8], places: &[usize], mid: usize, out: &mut [usize]) -> bool
 {
     let mut i = 0;
     let mut j = mid;
+    // Kept (3): a merge: the comparison says which of the two runs goes on.
     while i < mid && j < places.len() {
         let p = places[i];
         let q = places[j];
@@ -67,13 +70,12 @@ fn merge(bytes: &[u8], places: &[usize], mid: usize, out: &mut [usize]) -> bool
 }
 
 // `piece` over the places from `at` on.
+// Kept (4): most pieces are one place or none, for which a call of `memcpy` costs more than this loop.
 fn copy_at(out: &mut [usize], at: usize, piece: &[usize])
     requires { at + length piece.now ≤ length out.old }
     ensures { out.new ≡ put out.old at piece.now }
 {
-    let mut k = 0;
-    while k < piece.len() {
+    for k in 0..piece.len() {
         out[at + k] = piece[k];
-        k += 1;
     }
 }

@@ -5,6 +5,7 @@ ghost use Rattle.std.specs.Prelude.{◌≡◌, ◌+◌, ◌-◌, ◌≤◌, leng
 ghost use Rattle.edit.specs.Edit.{put_at, over, spliced, tail_moved};
 
 // The old_length bytes at a place, of the used ones, replaced by a piece. The new used length.
+// Kept (5, 6): the bytes past the used ones are room for a longer piece, so they are lent whole, with how many are used.
 pub fn replace(bytes: &mut [u8], used: usize, at: usize, old_length: usize, piece: &[u8]) -> usize
     requires { (at + old_length ≤ used) × (used ≤ length bytes.old) × (used - old_length + length piece.now ≤ length bytes.old) }
     ensures value { result ≡ used - old_length + length piece.now }
@@ -16,6 +17,7 @@ pub fn replace(bytes: &mut [u8], used: usize, at: usize, old_length: usize, piec
 }
 
 // The used bytes after the old_length ones at a place, moved to where they follow new_length bytes. The new used length.
+// Kept (5, 6): the bytes past the used ones are room for a longer piece, so they are lent whole, with how many are used.
 pub fn move_tail(
     bytes: &mut [u8],
     used: usize,
@@ -35,6 +37,7 @@ pub fn move_tail(
 }
 
 // A piece over the bytes from a place on.
+// Kept (5): a place is a number that records hold and clauses name.
 pub fn put(bytes: &mut [u8], at: usize, piece: &[u8])
     requires { at + length piece.now ≤ length bytes.old }
     ensures { bytes.new ≡ put_at at piece.now bytes.old }
@@ -43,25 +46,10 @@ pub fn put(bytes: &mut [u8], at: usize, piece: &[u8])
 }
 
 // The n bytes from a place on, moved to another, down or up.
+// Kept (5): the numbers are those of `copy_within`, and each call has its own.
 pub fn shift(bytes: &mut [u8], from: usize, to: usize, n: usize)
     requires { (from + n ≤ length bytes.old) × (to + n ≤ length bytes.old) }
     ensures { bytes.new ≡ put_at to (take n (drop from bytes.old)) bytes.old }
 {
     bytes.copy_within(from..from + n, to);
-}
-
-// The n bytes from a place on, moved down to another.
-pub fn move_left(bytes: &mut [u8], from: usize, to: usize, n: usize)
-    requires { (to ≤ from) × (from + n ≤ length bytes.old) }
-    ensures { bytes.new ≡ put_at to (take n (drop from bytes.old)) bytes.old }
-{
-    shift(bytes, from, to, n);
-}
-
-// The n bytes from a place on, moved up to another.
-pub fn move_right(bytes: &mut [u8], from: usize, to: usize, n: usize)
-    requires { (from ≤ to) × (to + n ≤ length bytes.old) }
-    ensures { bytes.new ≡ put_at to (take n (drop from bytes.old)) bytes.old }
-{
-    shift(bytes, from, to, n);
 }

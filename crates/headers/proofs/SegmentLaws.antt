@@ -1,18 +1,18 @@
 -- Segments of a value, cut outside quotes and angle brackets: the turns of the loops of `segment_length` and `find_tag`, and that
 -- a value in which no semicolon is held is cut as by the Rust. Assumes nothing.
-use Prim.Native.Nat.{ℕ, suc, ◌+◌, ◌-◌, ◌≤◌, ◌<◌}
+use Prim.Native.Nat.{ℕ, suc, ◌+◌, ◌≤◌, ◌<◌}
 use native.Mathlib.Nat.{add-zero, add-suc, suc-add, le_of_suc-le-suc}
 use native.Mathlib.Numerals.{add-one}
 use native.Mathlib.Omega.{arith}
 use mathlib.Core.Path.{◌≡◌, refl, sym, ap, ap₂, ◌∙◌}
 use mathlib.Core.Bool.{Bool, true, false, cond, not, ◌&&◌, ◌||◌, true≢false}
 use mathlib.Core.List.{List, [], ◌∷◌}
-use lib.ListN.{length, get_or, take, drop, drop_of_length-le, length-drop, length-take}
-use lib.Seq.{take_all, drop-drop, drop-cons}
-use lib.Dec.{ltb, leb, eqb}
-use borrow.Author.Tests.{ltb-true, ltb-false, le-leb, lt-leb, eqb-true}
+use lib.ListN.{length, get_or, take, drop, drop_of_length-le}
+use lib.Seq.{drop-cons}
+use lib.Dec.{eqb}
+use borrow.Author.Tests.{eqb-true}
 use Rattle.text.specs.Text.{is, split}
-use Rattle.text.proofs.Runs.{drop_part}
+use Rattle.text.specs.Segments.{Cuts}
 use Rattle.headers.specs.declared.tag.Mode.{Mode}
 use Rattle.headers.specs.declared.tag.Mode.TheVariants.{Outside, Quoted, Escaped, Bracketed}
 use Rattle.headers.specs.Tag.{mode_after, is_outside, is_cut, segments_in, tag_segments, holds_in, holds_semicolon, first_tag, tag_of, cut_length}
@@ -70,38 +70,13 @@ segments_last m (b ∷ t) h = by (is_cut m b) refl h (segments_last (mode_after 
     by true e h more = absurd (omega (arith, rw e at h))
     by false e h more = rw (e, more (le_of_suc-le-suc (rw e at h)))
 
--- the segments of s that start at `at` or after it: none past the end
-abbrev pub left : List ℕ → ℕ → List (List ℕ)
-left s at = cond (leb at (length s)) (segments_in Outside (drop at s)) []
-
-pub left_start : (s : List ℕ) → left s 0 ≡ segments_in Outside s
-left_start s = rw (le-leb 0 (length s) (omega arith))
-
-pub left_done : (s : List ℕ) (at : ℕ) → length s < at → left s at ≡ []
-left_done s at h = rw (lt-leb at (length s) h)
-
--- the segment that starts at a place, ended by a semicolon or the last
-by_more : (s : List ℕ) (at : ℕ) (u : Bool) → ltb (cut_length Outside (drop at s)) (length (drop at s)) ≡ u → at ≤ length s
-    → segments_in Outside (drop at s) ≡ take (cut_length Outside (drop at s)) (drop at s) ∷ left s (at + cut_length Outside (drop at s) + 1)
-by_more s at true e h =
-    let l : cut_length Outside (drop at s) < length (drop at s) = ltb-true _ _ e in
-    let q : at + suc (cut_length Outside (drop at s)) ≡ at + cut_length Outside (drop at s) + 1 = omega arith in
-    let k : at + cut_length Outside (drop at s) + 1 ≤ length s = omega (arith, l, length-drop at s) in
-    rw (segments_at Outside (drop at s) l, drop-drop (suc (cut_length Outside (drop at s))) at s, q, le-leb _ _ k)
-by_more s at false e h =
-    let l : length (drop at s) ≤ cut_length Outside (drop at s) = ltb-false _ _ e in
-    let k : length s < at + cut_length Outside (drop at s) + 1 = omega (arith, length-drop at s) in
-    rw (segments_last Outside (drop at s) l, lt-leb _ _ k, take_all (cut_length Outside (drop at s)) (drop at s) l)
-
--- the same with the part from `at` on as the code has it: n is how many of its bytes stand before the next cut
-module _ (s : List ℕ) (at n : ℕ) (h : at ≤ length s) (hn : n ≡ cut_length Outside (take (length s - at) (drop at s))) where
-  pub left_cons : left s at ≡ take n (take (length s - at) (drop at s)) ∷ left s (at + n + 1)
-  left_cons =
-      let k : n ≡ cut_length Outside (drop at s) = rw drop_part at hn in
-      rw (le-leb at (length s) h, drop_part s at, k) (by_more s at _ refl h)
-
-  pub segment_fits : at + n ≤ length s
-  segment_fits = omega (arith, cut_le Outside (take (length s - at) (drop at s)), length-take (length s - at) (drop at s), length-drop at s)
+-- n is how many bytes stand before the first cut
+pub first_cuts : (s : List ℕ) (n : ℕ) → n ≡ cut_length Outside s → Cuts tag_segments s n
+first_cuts s n h = (
+  rw h (cut_le Outside s),
+  (λ l. rw (h, add-one) (segments_at Outside s (rw h at l))),
+  (λ l. segments_last Outside s (rw h at l)),
+)
 
 -- ---- where no semicolon is held, the segments are the Rust's
 

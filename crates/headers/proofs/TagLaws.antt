@@ -2,36 +2,62 @@
 use Prim.Native.Nat.{ℕ, zero, suc, ◌+◌, ◌-◌, ◌≤◌, ◌<◌}
 use native.Mathlib.Omega.{arith}
 use mathlib.Core.Path.{◌≡◌, refl, sym, ap, subst, ◌∙◌}
-use mathlib.Core.Bool.{Bool, true, false, true≢false}
-use mathlib.Core.List.{List, ◌∷◌}
-use lib.ListN.{length, take, drop, length-drop, length-take}
-use lib.Seq.{length-take-le, drop-drop}
+use mathlib.Core.Bool.{Bool, true, false, cond, true≢false}
+use mathlib.Core.List.{List, [], ◌∷◌}
+use lib.ListN.{length, take, drop, length-drop}
+use lib.Seq.{drop-drop}
 use lib.Dec.{ltb}
 use borrow.Author.Tests.{ltb-true, ltb-false}
-use Rattle.std.specs.Prelude.{Err, None, Ok, Option, Some}
+use Rattle.std.specs.Prelude.{ok_or, None, Option, Some}
 use Rattle.text.specs.Text.{blanks, trimmed, Piece}
 use Rattle.text.specs.Answers.{span_of}
 use Rattle.text.specs.declared.Span.{Span}
-use Rattle.text.proofs.Runs.{part_length, drop_part}
+use Rattle.text.proofs.Runs.{drop_part}
 use Rattle.text.proofs.Trimming.{trimmed_fits, trimmed_part, drop_take}
 use Rattle.msg.proofs.LookupLaws.{Placed}
-use Rattle.text.proofs.Alike.{alike_length}
-use Rattle.headers.proofs.SegmentLaws.{left, left_start, left_done, left_cons, segment_fits}
+use Rattle.text.proofs.Alike.{starts_not}
+use Rattle.text.specs.Segments.{Cuts, placed, segments_left}
+use Rattle.text.proofs.SegmentLaws.{left_start, left_done, left_cons, segment_fits, segment_length}
+use Rattle.headers.proofs.SegmentLaws.{first_cuts}
 use Rattle.headers.specs.declared.tag.Mode.TheVariants.{Outside}
-use Rattle.headers.specs.Tag.{segments_in, cut_length, tag_eq, is_tag, tag_at, first_tag, part_of, part_answer}
+use Rattle.headers.specs.Tag.{tag_segments, segments_in, cut_length, tag_eq, is_tag, tag_at, first_tag, part_of, part_answer}
 use Rattle.limits.specs.Outcome.{or_refuse}
 use Rattle.limits.specs.declared.Refusal.TheVariants.{MissingHeader}
 
+-- the tag of the first segment that has one, of segments with their places
+unfoldable pub tag_among : List Piece → Option Piece
+tag_among [] = None
+tag_among (p ∷ ps) = cond (is_tag (trimmed p.text)) (Some (tag_at p.place p.text)) (tag_among ps)
+
+pub first_among : (at : ℕ) (gs : List (List ℕ)) → first_tag at gs ≡ tag_among (placed at gs)
+unfolding first_tag tag_among placed
+first_among at [] = refl
+first_among at (g ∷ gs) = rw (first_among (at + length g + 1) gs)
+
+-- p is the first of them
+module _ (ps qs : List Piece) (p : Piece) (e : ps ≡ p ∷ qs) where
+  pub tag_next : is_tag (trimmed p.text) ≡ false → tag_among ps ≡ tag_among qs
+  unfolding tag_among
+  tag_next d = rw (e, d)
+
+  pub tag_hit : is_tag (trimmed p.text) ≡ true → part_of (tag_among ps) ≡ Some (record { start = p.place + blanks p.text + 4; length = length (trimmed p.text) - 4 })
+  unfolding tag_among
+  tag_hit d = rw (e, d, length-drop)
+
+pub tag_none : (ps : List Piece) → ps ≡ [] → tag_among ps ≡ None
+unfolding tag_among
+tag_none ps e = rw e
+
 -- the tag in the segments of v that are left at a place
-abbrev pub tag_from : List ℕ → ℕ → Option Piece
-tag_from v at = first_tag at (left v at)
+abbrev tag_from : List ℕ → ℕ → Option Piece
+tag_from v at = first_tag at (segments_left tag_segments v at)
 
-pub tag_start : (v : List ℕ) → first_tag 0 (segments_in Outside v) ≡ tag_from v 0
-tag_start v = ap (first_tag 0) (sym (left_start v))
+tag_start : (v : List ℕ) → first_tag 0 (tag_segments v) ≡ tag_from v 0
+tag_start v = ap (first_tag 0) (sym (left_start tag_segments v))
 
-pub tag_done : (v : List ℕ) (at : ℕ) → length v < at → tag_from v at ≡ None
+tag_done : (v : List ℕ) (at : ℕ) → length v < at → tag_from v at ≡ None
 unfolding first_tag
-tag_done v at h = rw (left_done v at h)
+tag_done v at h = rw (left_done tag_segments v at h)
 
 -- n is how many bytes of the part from `at` on stand before the next cut
 module _ (v : List ℕ) (at n : ℕ) (h : at ≤ length v) (hn : n ≡ cut_length Outside (take (length v - at) (drop at v))) where
@@ -39,25 +65,16 @@ module _ (v : List ℕ) (at n : ℕ) (h : at ≤ length v) (hn : n ≡ cut_lengt
   abbrev segment : List ℕ
   segment = take n (take (length v - at) (drop at v))
 
-  pub segment_length : length (take n (take (length v - at) (drop at v))) ≡ n
-  segment_length = length-take-le n (take (length v - at) (drop at v)) (omega (arith, part_length v at, segment_fits v at n h hn))
+  cuts : Cuts tag_segments (take (length v - at) (drop at v)) n
+  cuts = first_cuts (take (length v - at) (drop at v)) n hn
 
-  pub tag_next : is_tag (trimmed segment) ≡ false → tag_from v at ≡ tag_from v (at + n + 1)
-  unfolding first_tag
-  tag_next e = rw (left_cons v at n h hn, e, segment_length)
-
-  pub tag_hit : is_tag (trimmed segment) ≡ true
-      → part_of (tag_from v at) ≡ Some (record { start = at + blanks segment + 4; length = length (trimmed segment) - 4 })
-  unfolding first_tag
-  tag_hit e = rw (left_cons v at n h hn, e, length-drop)
-
-  pub segment_within : at + blanks segment + length (trimmed segment) ≤ length v
-  segment_within = omega (arith, trimmed_fits segment, segment_length, segment_fits v at n h hn)
+  segment_within : at + blanks segment + length (trimmed segment) ≤ length v
+  segment_within = omega (arith, trimmed_fits segment, segment_length tag_segments v at n h cuts, segment_fits tag_segments v at n h cuts)
 
 -- fewer than four bytes are no tag
-pub short : (t : List ℕ) → length t < 4 → is_tag t ≡ false
+short : (t : List ℕ) → length t < 4 → is_tag t ≡ false
 unfolding is_tag
-short t h = alike_length _ (take 4 t) tag_eq (λ e. omega (arith, length-take 4 t))
+short t h = starts_not t tag_eq h
 
 -- a tag's four bytes are there
 pub long : (t : List ℕ) → is_tag t ≡ true → 4 ≤ length t
@@ -101,10 +118,10 @@ placed_from v p (suc fuel) at h e = by (ltb (length v) at) refl (λ m. placed_fr
         let n : ℕ = cut_length Outside (take (length v - at) (drop at v)) in
         let l : at ≤ length v = ltb-false _ _ k in
         let g : List ℕ = take n (take (length v - at) (drop at v)) in
-        by_first v p at g (left v (at + n + 1)) (is_tag (trimmed g)) refl
+        by_first v p at g (segments_left tag_segments v (at + n + 1)) (is_tag (trimmed g)) refl
         (placed_here v at n l refl)
-        (λ q. more (at + n + 1) (omega arith) (rw (segment_length v at n l refl) at q))
-        (rw (left_cons v at n l refl) at e)
+        (λ q. more (at + n + 1) (omega arith) (rw (segment_length tag_segments v at n l (cuts v at n l refl)) at q))
+        (rw (left_cons tag_segments v at n l (cuts v at n l refl)) at e)
 
 -- a tag that was read stands in the value
 pub tag_placed : (v : List ℕ) (p : Piece) → first_tag 0 (segments_in Outside v) ≡ Some p → Placed v p
@@ -116,10 +133,6 @@ tag_says v None t k e = absurd (let z : ◌≡◌ {A = ℕ} 0 1 = cc in omega ar
 tag_says v (Some p) t k e = let q : span_of p ≡ t = cc in subst (λ (x : Span). x.start + x.length ≤ length v) q (k p refl).fits
 
 -- the answer with refusals by the one without
-pub tag_missing : (o : Option Piece) → part_of o ≡ None → Err MissingHeader ≡ part_answer (or_refuse MissingHeader o)
-tag_missing None e = refl
-tag_missing (Some p) e = absurd (let z : ◌≡◌ {A = ℕ} 0 1 = cc in omega arith)
-
-pub tag_read : (o : Option Piece) (t : Span) → part_of o ≡ Some t → Ok t ≡ part_answer (or_refuse MissingHeader o)
-tag_read None t e = absurd (let z : ◌≡◌ {A = ℕ} 0 1 = cc in omega arith)
-tag_read (Some p) t e = let q : span_of p ≡ t = cc in ap Ok (sym q)
+pub tag_required : (o : Option Piece) → ok_or (part_of o) MissingHeader ≡ part_answer (or_refuse MissingHeader o)
+tag_required None = refl
+tag_required (Some p) = refl

@@ -10,7 +10,7 @@ use Rattle.text.specs.Number.{read_digits}
 use Rattle.text.specs.Answers.{value_cause}
 use Rattle.msg.specs.Block.{block_cause, value_named}
 use Rattle.headers.specs.declared.session_timer.Refresher.{Refresher}
-use Rattle.headers.specs.declared.session_timer.Refresher.TheVariants.{Uac, Uas, Unspecified}
+use Rattle.headers.specs.declared.session_timer.Refresher.TheVariants.{Uac, Uas}
 
 -- `refresher=uac` and `refresher=uas`
 abbrev pub refresher_uac : List ℕ
@@ -20,14 +20,14 @@ abbrev pub refresher_uas : List ℕ
 refresher_uas = 114 ∷ 101 ∷ 102 ∷ 114 ∷ 101 ∷ 115 ∷ 104 ∷ 101 ∷ 114 ∷ 61 ∷ 117 ∷ 97 ∷ 115 ∷ []
 
 -- the first part that names a refresher
-unfoldable pub refresher_in : List (List ℕ) → Refresher
-refresher_in [] = Unspecified
-refresher_in (p ∷ ps) = cond (same (trimmed p) refresher_uac) Uac (cond (same (trimmed p) refresher_uas) Uas (refresher_in ps))
+unfoldable pub refresher_in : List (List ℕ) → Option Refresher
+refresher_in [] = None
+refresher_in (p ∷ ps) = cond (same (trimmed p) refresher_uac) (Some Uac) (cond (same (trimmed p) refresher_uas) (Some Uas) (refresher_in ps))
 
--- an interval in seconds, and who refreshes it
+-- an interval in seconds, and who refreshes it, if that is said
 pub record Interval : Type 0 where
   pub seconds : ℕ
-  pub refresher : Refresher
+  pub refresher : Option Refresher
 
 abbrev pub with_refresher : Option ℕ → List (List ℕ) → Option Interval
 with_refresher None ps = None
@@ -62,11 +62,11 @@ block_expires L block = refuse_by (block_cause L block) (Ok (expires_named block
 
 -- ---- the answers, case by case
 
-abbrev pub expires_from : Option Interval → Option (ℕ × Refresher)
+abbrev pub expires_from : Option Interval → Option (ℕ × Option Refresher)
 expires_from None = None
 expires_from (Some i) = Some (i.seconds, i.refresher)
 
-abbrev pub expires_answer : Result (Option Interval) Refusal → Result (Option (ℕ × Refresher)) Refusal
+abbrev pub expires_answer : Result (Option Interval) Refusal → Result (Option (ℕ × Option Refresher)) Refusal
 expires_answer (Err cause) = Err cause
 expires_answer (Ok None) = Ok None
 expires_answer (Ok (Some i)) = Ok (Some (i.seconds, i.refresher))

@@ -6,57 +6,48 @@ ghost use Rattle.text.specs.Text.{is, split};
 ghost use Rattle.headers.specs.SessionExpires.{refresher_in, session_expires, expires_named, parse_expires, block_expires, expires_from, expires_answer};
 
 use limits::Refusal;
+use text::{Cut, Segments};
 
+// Who refreshes a session.
 #[derive(Clone, Copy)]
 pub enum Refresher {
     Uac,
     Uas,
-    Unspecified,
 }
 
 // The interval of a value: 1, 2.
-pub fn parse_session_expires(value: &[u8]) -> Result<Option<(u32, Refresher)>, Refusal>
+pub fn parse_session_expires(value: &[u8]) -> Result<Option<(u32, Option<Refresher>)>, Refusal>
     ensures { result ≡ expires_answer (parse_expires rust_limits value.now) }
 {
     text::check_value(value)?;
-    let Some((seconds, refresher)) = read_expires(value) else {
-        return Ok(None);
-    };
-    Ok(Some((seconds, refresher)))
+    Ok(read_expires(value))
 }
 
 // The interval of a block's first Session-Expires line: 1, 2.
-pub fn session_expires(block: &[u8]) -> Result<Option<(u32, Refresher)>, Refusal>
+pub fn session_expires(block: &[u8]) -> Result<Option<(u32, Option<Refresher>)>, Refusal>
     ensures { result ≡ expires_answer (block_expires rust_limits block.now) }
 {
     msg::check_block(block)?;
-    let Some((seconds, refresher)) = expires_named(block) else {
-        return Ok(None);
-    };
-    Ok(Some((seconds, refresher)))
+    Ok(expires_named(block))
 }
 
 // The same of a block that was checked.
-pub fn expires_named(block: &[u8]) -> Option<(u32, Refresher)>
+pub fn expires_named(block: &[u8]) -> Option<(u32, Option<Refresher>)>
     ensures { result ≡ expires_from (expires_named block.now) }
 {
     let (v, _) = msg::find(block, b"Session-Expires")?;
-    let a = v.start;
-    let e = a + v.length;
-    read_expires(&block[a..e])
+    read_expires(v.text(block))
 }
 
 // The digits before the first semicolon, then the first part that names a refresher.
-pub fn read_expires(value: &[u8]) -> Option<(u32, Refresher)>
+pub fn read_expires(value: &[u8]) -> Option<(u32, Option<Refresher>)>
     ensures { result ≡ expires_from (session_expires value.now) }
 {
     let n = text::find(value, 59);
     let digits = text::trim(&value[..n]);
-    let Some(seconds) = read_seconds(digits) else {
-        return None;
-    };
+    let seconds = read_seconds(digits)?;
     if n == value.len() {
-        return Some((seconds, Refresher::Unspecified));
+        return Some((seconds, None));
     }
     let refresher = find_refresher(&value[n + 1..]);
     Some((seconds, refresher))
@@ -70,21 +61,30 @@ fn read_seconds(s: &[u8]) -> Option<u32>
 }
 
 // The first part between semicolons that names a refresher.
-fn find_refresher(parts: &[u8]) -> Refresher
+fn find_refresher(parts: &[u8]) -> Option<Refresher>
     ensures { result ≡ refresher_in (split (is 59) parts.now) }
 {
-    let mut at = 0;
-    while at <= parts.len() {
-        let rest = &parts[at..];
-        let n = text::find(rest, 59);
-        let part = text::trim(&rest[..n]);
+    for p in Segments::from(parts, 0, Semicolon {}) {
+        let part = text::trim(p.text);
         if text::same_text(part, b"refresher=uac") {
-            return Refresher::Uac;
+            return Some(Refresher::Uac);
         }
         if text::same_text(part, b"refresher=uas") {
-            return Refresher::Uas;
+            return Some(Refresher::Uas);
         }
-        at = at + n + 1;
     }
-    Refresher::Unspecified
+    None
+}
+
+// Cut at every semicolon.
+#[derive(Clone, Copy)]
+struct Semicolon {}
+
+impl Cut for Semicolon {
+    ghost segments = { λ _ s. split (is 59) s };
+
+    // Kept (5): the parameters are the trait's.
+    fn first(&self, s: &[u8]) -> usize {
+        text::find(s, b';')
+    }
 }

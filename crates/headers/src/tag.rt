@@ -2,12 +2,13 @@
 ghost use Rattle.std.specs.Prelude.{◌≡◌, ◌≤◌, length};
 ghost use Rattle.limits.specs.Limits.{rust_limits};
 ghost use Rattle.headers.specs.declared.tag.Mode.TheVariants.{Outside as outside, Quoted as quoted, Bracketed as bracketed};
-ghost use Rattle.headers.specs.Tag.{mode_after, is_outside, is_cut, cut_length, is_tag, tag_of, extract_tag, part_of, part_answer};
+ghost use Rattle.headers.specs.Tag.{mode_after, is_outside, is_cut, cut_length, is_tag, tag_segments, tag_of, extract_tag, part_of, part_answer};
 
 use limits::Refusal;
-use text::Span;
+use text::{Cut, Segments, Span};
 
 // How a byte of a value is read: outside quotes and angle brackets, in quotes, in quotes right after a backslash, or in brackets.
+// Kept (1): four ways of reading of which each byte has one, and none of them an absence.
 #[derive(Clone, Copy)]
 pub enum Mode {
     Outside,
@@ -21,32 +22,36 @@ pub fn extract_tag(value: &[u8]) -> Result<Span, Refusal>
     ensures { result ≡ part_answer (extract_tag rust_limits value.now) }
 {
     text::check_value(value)?;
-    let Some(t) = find_tag(value) else {
-        return Err(Refusal::MissingHeader);
-    };
-    Ok(t)
+    find_tag(value).ok_or(Refusal::MissingHeader)
 }
 
 // What follows `tag=` in the first segment that, trimmed, begins so.
 pub fn find_tag(value: &[u8]) -> Option<Span>
     ensures { result ≡ part_of (tag_of value.now) }
 {
-    let mut at = 0;
-    while at <= value.len() {
-        let rest = &value[at..];
-        let n = segment_length(rest);
-        let g = &rest[..n];
-        let lead = text::leading(g);
-        let t = text::trim(g);
+    for g in Segments::from(value, 0, Unheld {}) {
+        let t = text::trim(g.text);
         if is_tag(t) {
             return Some(Span {
-                start: at + lead + 4,
+                start: g.place + text::leading(g.text) + 4,
                 length: t.len() - 4,
             });
         }
-        at = at + n + 1;
     }
     None
+}
+
+// Cut at the semicolons outside quotes and angle brackets.
+#[derive(Clone, Copy)]
+struct Unheld {}
+
+impl Cut for Unheld {
+    ghost segments = { λ _ s. tag_segments s };
+
+    // Kept (5): the parameters are the trait's.
+    fn first(&self, s: &[u8]) -> usize {
+        segment_length(s)
+    }
 }
 
 // How many bytes stand before the first semicolon outside quotes and angle brackets.
@@ -55,16 +60,13 @@ fn segment_length(s: &[u8]) -> usize
     ensures upper_bound { result ≤ length s.now }
 {
     let mut mode = Mode::Outside;
-    let mut i = 0;
-    while i < s.len() {
-        let b = s[i];
+    for (i, &b) in s.iter().enumerate() {
         if is_cut(mode, b) {
             return i;
         }
         mode = mode_after(mode, b);
-        i += 1;
     }
-    i
+    s.len()
 }
 
 fn is_cut(mode: Mode, b: u8) -> bool
@@ -79,15 +81,11 @@ fn is_cut(mode: Mode, b: u8) -> bool
 fn is_outside(mode: Mode) -> bool
     ensures { result ≡ is_outside mode }
 {
-    match mode {
-        Mode::Outside => true,
-        Mode::Quoted => false,
-        Mode::Escaped => false,
-        Mode::Bracketed => false,
-    }
+    matches!(mode, Mode::Outside)
 }
 
 // How the byte after b is read.
+// Kept (4, 7): the way of reading goes on from byte to byte as a table of document 02 has it; it converts nothing and chooses no step.
 fn mode_after(mode: Mode, b: u8) -> Mode
     ensures { result ≡ mode_after mode b }
 {
@@ -136,8 +134,5 @@ fn after_bracketed(b: u8) -> Mode
 fn is_tag(t: &[u8]) -> bool
     ensures { result ≡ is_tag t.now }
 {
-    if t.len() < 4 {
-        return false;
-    }
-    text::same_text(&t[..4], b"tag=")
+    text::starts_with(t, b"tag=")
 }

@@ -12,7 +12,7 @@ use Rattle.codec.proofs.AnswerLaws.{PlacesGot, places_got, nothing_got, span_end
 use Rattle.record.specs.Record.{Side, is_sips, id_text, uri_text, number, optional, refresher_field, routes_field, StateByte, state_byte, Ids, Uris, Tail, ids_field, uris_field, tail_field, Record, image}
 use Rattle.record.specs.NumbersForm.{state_from, number_from, side_from}
 use Rattle.record.specs.declared.numbers.State.{State}
-use Rattle.record.specs.declared.numbers.Refresher.{Refresher}
+use Rattle.headers.specs.declared.session_timer.Refresher.{Refresher}
 use Rattle.codec.specs.Places.{text_span}
 use Rattle.image.specs.Places.{number_size, option_size, routes_size, id_span, id_from, uri_from, number_at, optional_at, refresher_at, routes_at, state_field_of, ids_places, ids_from, uris_places, uris_from, tail_places, tail_from, record_places, record_from}
 use Rattle.image.specs.declared.sections.IdsAt.{IdsAt}
@@ -65,10 +65,10 @@ optional_got flag s at h e = places_got (optional_sized flag) s at h e (λ q. cc
 pub optional_not : (at : ℕ) (o : Option (Reading (Option ℕ))) → optional_at at o ≡ None → o ≡ None
 optional_not at o e = nothing_got o e (λ a q. cc)
 
-abbrev pub SideGot : Bool → List ℕ → ℕ → Refresher → ℕ → Type 0
+abbrev pub SideGot : Bool → List ℕ → ℕ → Option Refresher → ℕ → Type 0
 SideGot flag s at n next = ShownGot (refresher_field flag) side_from option_size s at n next
 
-pub side_got : (flag : Bool) (s : List ℕ) (at : ℕ) {n : Refresher} {next : ℕ} → at ≤ length s → refresher_at at ((refresher_field flag).read (drop at s)) ≡ Some (n, next) → SideGot flag s at n next
+pub side_got : (flag : Bool) (s : List ℕ) (at : ℕ) {n : Option Refresher} {next : ℕ} → at ≤ length s → refresher_at at ((refresher_field flag).read (drop at s)) ≡ Some (n, next) → SideGot flag s at n next
 side_got flag s at h e = places_got (side_sized flag) s at h e (λ q. cc) (λ a q. cc) (λ a. refl)
 
 pub side_not : (at : ℕ) (o : Option (Reading (Option Side))) → refresher_at at o ≡ None → o ≡ None

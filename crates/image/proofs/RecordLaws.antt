@@ -9,17 +9,17 @@ use lib.Dec.{eqb}
 use borrow.Author.Tests.{not-true, not-false}
 use Rattle.std.specs.Prelude.{None, Option, Some}
 use Rattle.codec.specs.Codec.{Reading, two, paired, passing, renamed, keyed_by}
-use Rattle.record.specs.Record.{Fields, Tail, is_secure, secure_right, map_of, fields, record_of, image, state_byte, ids_field, uris_field, tail_field}
+use Rattle.record.specs.Record.{Fields, Tail, is_secure, secure_right, map_of, fields, record_of, image, state_byte, uris_field, tail_field}
 use Rattle.record.specs.NumbersForm.{state_from, numbers_from}
 use Rattle.record.specs.declared.numbers.State.{State}
-use Rattle.image.specs.Places.{numbers_size, routes_size, ids_places, uris_places, tail_places, record_places, ids_from, state_field_of, uris_from, tail_from, record_from}
+use Rattle.image.specs.Places.{numbers_size, routes_size, ids_places, uris_places, tail_places, record_places, state_field_of, uris_from, tail_from, record_from}
 use Rattle.image.specs.declared.sections.IdsAt.{IdsAt}
 use Rattle.image.specs.declared.sections.UrisAt.{UrisAt}
 use Rattle.image.specs.declared.sections.TailAt.{TailAt}
 use Rattle.image.specs.declared.RecordAt.{RecordAt}
 use Rattle.codec.proofs.ReadLaws.{two_none}
 use Rattle.codec.proofs.AnswerLaws.{both}
-use Rattle.image.proofs.AnswerLaws.{IdsGot, ids_not, StateGot, state_not, UrisGot, uris_not, TailGot, tail_not}
+use Rattle.image.proofs.AnswerLaws.{IdsGot, StateGot, state_not, UrisGot, uris_not, TailGot, tail_not}
 use Rattle.image.proofs.MapBits.{is_map, map_is, map_not, ids_give, tail_gives}
 
 -- ---- the secure bit: v is what the code holds it against
@@ -98,9 +98,6 @@ module _ (s : List ℕ) (at : ℕ) where
         by : (o : Option (Reading Fields)) → None ≡ record_from at (renamed record_of (passing secure_right (keyed_by map_of m o)))
         by None = refl
         by (Some x) = rw (map_not m x.value e)
-
-    pub no_ids : {r : Option IdsAt} → r ≡ ids_from (at + 2) ((ids_field m).read (drop (at + 2) s)) → r ≡ None → None ≡ record_from at (image.read (drop at s))
-    no_ids e q = rw (k, ids_not (at + 2) ((ids_field m).read (drop (at + 2) s)) (sym e ∙ q))
 
     module _ {p : IdsAt} (x : IdsGot m s (at + 2) p) where
       pub no_state : {r : Option (State × Bool × Bool)} → r ≡ state_field_of (state_byte.read (drop p.end s)) → r ≡ None → None ≡ record_from at (image.read (drop at s))

@@ -56,45 +56,40 @@ filled [] h = absurd (omega arith)
 filled (t ∷ l) h = refl
 
 module _ (s : List ℕ) (at : ℕ) where
-  pub routes_absent : {b : Bool} → b ≡ false → Some (0, at) ≡ routes_at at ((routes_field b).read (drop at s))
-  unfolding texts_size
-  routes_absent e = rw (e, add-zero at)
+  pub routes_none : length s ≡ at → None ≡ routes_at at ((routes_field true).read (drop at s))
+  routes_none e = rw (byte_none s at e)
 
-  module _ {b : Bool} (f : b ≡ true) where
-    pub routes_none : length s ≡ at → None ≡ routes_at at ((routes_field b).read (drop at s))
-    routes_none e = rw (f, byte_none s at e)
+  module _ (h : at < length s) {count : ℕ} (c : count ≡ get_or s at 0) where
+    abbrev test : List (List ℕ) → Bool
+    test l = ltb 0 (length l) && leb (length l) 50
 
-    module _ (h : at < length s) {count : ℕ} (c : count ≡ get_or s at 0) where
-      abbrev test : List (List ℕ) → Bool
-      test l = ltb 0 (length l) && leb (length l) 50
+    reads : routes_at at ((routes_field true).read (drop at s)) ≡ routes_at at (passing test (read_all uri_text count (drop (at + 1) s)))
+    reads = rw (byte_at s at h, c)
 
-      reads : routes_at at ((routes_field b).read (drop at s)) ≡ routes_at at (passing test (read_all uri_text count (drop (at + 1) s)))
-      reads = rw (f, byte_at s at h, c)
+    -- the test looks at the count alone
+    pub refused : (ltb 0 count && leb count 50) ≡ false → None ≡ routes_at at ((routes_field true).read (drop at s))
+    refused u = by (read_all uri_text count (drop (at + 1) s)) refl ∙ sym reads
+      where
+        by : (o : Option (Reading (List (List ℕ)))) → read_all uri_text count (drop (at + 1) s) ≡ o → None ≡ routes_at at (passing test o)
+        by None e = refl
+        by (Some x) e =
+            let l : length x.value ≡ count = (texts_end_lem count (drop (at + 1) s) x e).1.1 in
+            let k : test x.value ≡ false = rw l u in
+            rw k
 
-      -- the test looks at the count alone
-      pub refused : (ltb 0 count && leb count 50) ≡ false → None ≡ routes_at at ((routes_field b).read (drop at s))
-      refused u = by (read_all uri_text count (drop (at + 1) s)) refl ∙ sym reads
-        where
-          by : (o : Option (Reading (List (List ℕ)))) → read_all uri_text count (drop (at + 1) s) ≡ o → None ≡ routes_at at (passing test o)
-          by None e = refl
-          by (Some x) e =
-              let l : length x.value ≡ count = (texts_end_lem count (drop (at + 1) s) x e).1.1 in
-              let k : test x.value ≡ false = rw l u in
-              rw k
+    pub no_count : count ≡ 0 → None ≡ routes_at at ((routes_field true).read (drop at s))
+    no_count z = refused (rw z)
 
-      pub no_count : count ≡ 0 → None ≡ routes_at at ((routes_field b).read (drop at s))
-      no_count z = refused (rw z)
+    pub many : 50 < count → None ≡ routes_at at ((routes_field true).read (drop at s))
+    many z = refused (rw (lt-ltb 0 count (omega arith), lt-leb count 50 z))
 
-      pub many : 50 < count → None ≡ routes_at at ((routes_field b).read (drop at s))
-      many z = refused (rw (lt-ltb 0 count (omega arith), lt-leb count 50 z))
-
-      pub start : 0 < count → count ≤ 50 → routes_at at ((routes_field b).read (drop at s)) ≡ resume 0 (at + 1) (read_all uri_text (count - 0) (drop (at + 1) s))
-      start y z = reads ∙ rw sub-zero (by (read_all uri_text count (drop (at + 1) s)) refl)
-        where
-          by : (o : Option (Reading (List (List ℕ)))) → read_all uri_text count (drop (at + 1) s) ≡ o → routes_at at (passing test o) ≡ resume 0 (at + 1) o
-          by None e = refl
-          by (Some x) e =
-              let l : length x.value ≡ count = (texts_end_lem count (drop (at + 1) s) x e).1.1 in
-              let k : test x.value ≡ true = rw (l, lt-ltb 0 count y, le-leb count 50 z) in
-              let n : bit_of (is_filled x.value) ≡ 1 = filled x.value (omega arith) in
-              rw k (ap₂ (λ (x y : ℕ). Some (x, y)) (sym (zero-add _)) (omega arith))
+    pub start : 0 < count → count ≤ 50 → routes_at at ((routes_field true).read (drop at s)) ≡ resume 0 (at + 1) (read_all uri_text (count - 0) (drop (at + 1) s))
+    start y z = reads ∙ rw sub-zero (by (read_all uri_text count (drop (at + 1) s)) refl)
+      where
+        by : (o : Option (Reading (List (List ℕ)))) → read_all uri_text count (drop (at + 1) s) ≡ o → routes_at at (passing test o) ≡ resume 0 (at + 1) o
+        by None e = refl
+        by (Some x) e =
+            let l : length x.value ≡ count = (texts_end_lem count (drop (at + 1) s) x e).1.1 in
+            let k : test x.value ≡ true = rw (l, lt-ltb 0 count y, le-leb count 50 z) in
+            let n : bit_of (is_filled x.value) ≡ 1 = filled x.value (omega arith) in
+            rw k (ap₂ (λ (x y : ℕ). Some (x, y)) (sym (zero-add _)) (omega arith))

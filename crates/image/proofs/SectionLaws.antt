@@ -1,14 +1,15 @@
 -- The sections: the fields in their order, each from where the one before it ends. Assumes nothing.
 use Prim.Native.Nat.{ℕ, ◌+◌, ◌≤◌}
-use mathlib.Core.Path.{◌≡◌, sym, ap, ◌∙◌}
-use mathlib.Core.Bool.{Bool}
+use native.Mathlib.Nat.{add-zero}
+use mathlib.Core.Path.{◌≡◌, refl, sym, ap, subst, ◌∙◌}
+use mathlib.Core.Bool.{Bool, true, false}
 use mathlib.Core.List.{List}
 use lib.ListN.{length, drop}
 use Rattle.std.specs.Prelude.{None, Option, Some}
 use Rattle.text.specs.declared.Span.{Span}
 use Rattle.record.specs.Record.{stands, id_text, uri_text, number, optional, refresher_field, routes_field, ids_field, uris_field, tail_field}
-use Rattle.record.specs.declared.numbers.Refresher.{Refresher}
-use Rattle.image.specs.Places.{id_from, number_at, optional_at, refresher_at, routes_at, ids_from, uris_from, tail_from}
+use Rattle.headers.specs.declared.session_timer.Refresher.{Refresher}
+use Rattle.image.specs.Places.{texts_size, id_from, number_at, optional_at, refresher_at, routes_at, ids_from, uris_from, tail_from}
 use Rattle.codec.proofs.AnswerLaws.{both}
 use Rattle.image.proofs.AnswerLaws.{IdGot, id_got, id_not, UriGot, NumberGot, number_got, number_not, OptionalGot, optional_got, optional_not, SideGot, side_got, side_not, RoutesGot, routes_got, routes_not}
 
@@ -21,36 +22,66 @@ module _ (s : List ℕ) (at : ℕ) {b flag : Bool} (f : b ≡ flag) where
   pub id_none : {r : Option Span} → r ≡ id_from at ((id_text b).read (drop at s)) → r ≡ None → (id_text flag).read (drop at s) ≡ None
   id_none e q = id_not at ((id_text flag).read (drop at s)) (ap (λ (x : Bool). id_from at ((id_text x).read (drop at s))) (sym f) ∙ sym e ∙ q)
 
-  pub number_told : {r : Option (ℕ × ℕ)} {n next : ℕ} → at ≤ length s → r ≡ number_at at ((number b).read (drop at s)) → r ≡ Some (n, next) → NumberGot flag s at n next
-  number_told h e q = number_got flag s at h (ap (λ (x : Bool). number_at at ((number x).read (drop at s))) (sym f) ∙ sym e ∙ q)
+  module _ {r : Option (ℕ × ℕ)} (e : b ≡ true → r ≡ number_at at ((number true).read (drop at s))) (z : b ≡ false → r ≡ Some (0, at)) where
+    number_by : r ≡ number_at at ((number flag).read (drop at s))
+    number_by = subst (λ (x : Bool). r ≡ number_at at ((number x).read (drop at s))) f (by b e z)
+      where
+        by : (x : Bool) → (x ≡ true → r ≡ number_at at ((number true).read (drop at s))) → (x ≡ false → r ≡ Some (0, at)) → r ≡ number_at at ((number x).read (drop at s))
+        by true g k = g refl
+        by false g k = k refl ∙ rw add-zero
 
-  pub number_none : {r : Option (ℕ × ℕ)} → r ≡ number_at at ((number b).read (drop at s)) → r ≡ None → (number flag).read (drop at s) ≡ None
-  number_none e q = number_not at ((number flag).read (drop at s)) (ap (λ (x : Bool). number_at at ((number x).read (drop at s))) (sym f) ∙ sym e ∙ q)
+    pub number_told : {n : ℕ} {next : ℕ} → at ≤ length s → r ≡ Some (n, next) → NumberGot flag s at n next
+    number_told h q = number_got flag s at h (sym number_by ∙ q)
 
-  pub optional_told : {r : Option (Option ℕ × ℕ)} {n : Option ℕ} {next : ℕ} → at ≤ length s → r ≡ optional_at at ((optional b).read (drop at s)) → r ≡ Some (n, next) → OptionalGot flag s at n next
-  optional_told h e q = optional_got flag s at h (ap (λ (x : Bool). optional_at at ((optional x).read (drop at s))) (sym f) ∙ sym e ∙ q)
+    pub number_none : r ≡ None → (number flag).read (drop at s) ≡ None
+    number_none q = number_not at ((number flag).read (drop at s)) (sym number_by ∙ q)
 
-  pub optional_none : {r : Option (Option ℕ × ℕ)} → r ≡ optional_at at ((optional b).read (drop at s)) → r ≡ None → (optional flag).read (drop at s) ≡ None
-  optional_none e q = optional_not at ((optional flag).read (drop at s)) (ap (λ (x : Bool). optional_at at ((optional x).read (drop at s))) (sym f) ∙ sym e ∙ q)
+  module _ {r : Option (Option ℕ × ℕ)} (e : b ≡ true → r ≡ optional_at at ((optional true).read (drop at s))) (z : b ≡ false → r ≡ Some (None, at)) where
+    optional_by : r ≡ optional_at at ((optional flag).read (drop at s))
+    optional_by = subst (λ (x : Bool). r ≡ optional_at at ((optional x).read (drop at s))) f (by b e z)
+      where
+        by : (x : Bool) → (x ≡ true → r ≡ optional_at at ((optional true).read (drop at s))) → (x ≡ false → r ≡ Some (None, at)) → r ≡ optional_at at ((optional x).read (drop at s))
+        by true g k = g refl
+        by false g k = k refl ∙ rw add-zero
 
-  pub side_told : {r : Option (Refresher × ℕ)} {n : Refresher} {next : ℕ} → at ≤ length s → r ≡ refresher_at at ((refresher_field b).read (drop at s)) → r ≡ Some (n, next) → SideGot flag s at n next
-  side_told h e q = side_got flag s at h (ap (λ (x : Bool). refresher_at at ((refresher_field x).read (drop at s))) (sym f) ∙ sym e ∙ q)
+    pub optional_told : {n : Option ℕ} {next : ℕ} → at ≤ length s → r ≡ Some (n, next) → OptionalGot flag s at n next
+    optional_told h q = optional_got flag s at h (sym optional_by ∙ q)
 
-  pub side_none : {r : Option (Refresher × ℕ)} → r ≡ refresher_at at ((refresher_field b).read (drop at s)) → r ≡ None → (refresher_field flag).read (drop at s) ≡ None
-  side_none e q = side_not at ((refresher_field flag).read (drop at s)) (ap (λ (x : Bool). refresher_at at ((refresher_field x).read (drop at s))) (sym f) ∙ sym e ∙ q)
+    pub optional_none : r ≡ None → (optional flag).read (drop at s) ≡ None
+    optional_none q = optional_not at ((optional flag).read (drop at s)) (sym optional_by ∙ q)
 
-  pub routes_told : {r : Option (ℕ × ℕ)} {n next : ℕ} → at ≤ length s → r ≡ routes_at at ((routes_field b).read (drop at s)) → r ≡ Some (n, next) → RoutesGot flag s at n next
-  routes_told h e q = routes_got flag s at h (ap (λ (x : Bool). routes_at at ((routes_field x).read (drop at s))) (sym f) ∙ sym e ∙ q)
+  module _ {r : Option (Option Refresher × ℕ)} (e : b ≡ true → r ≡ refresher_at at ((refresher_field true).read (drop at s))) (z : b ≡ false → r ≡ Some (None, at)) where
+    side_by : r ≡ refresher_at at ((refresher_field flag).read (drop at s))
+    side_by = subst (λ (x : Bool). r ≡ refresher_at at ((refresher_field x).read (drop at s))) f (by b e z)
+      where
+        by : (x : Bool) → (x ≡ true → r ≡ refresher_at at ((refresher_field true).read (drop at s))) → (x ≡ false → r ≡ Some (None, at)) → r ≡ refresher_at at ((refresher_field x).read (drop at s))
+        by true g k = g refl
+        by false g k = k refl ∙ rw add-zero
 
-  pub routes_none : {r : Option (ℕ × ℕ)} → r ≡ routes_at at ((routes_field b).read (drop at s)) → r ≡ None → (routes_field flag).read (drop at s) ≡ None
-  routes_none e q = routes_not at ((routes_field flag).read (drop at s)) (ap (λ (x : Bool). routes_at at ((routes_field x).read (drop at s))) (sym f) ∙ sym e ∙ q)
+    pub side_told : {n : Option Refresher} {next : ℕ} → at ≤ length s → r ≡ Some (n, next) → SideGot flag s at n next
+    side_told h q = side_got flag s at h (sym side_by ∙ q)
+
+    pub side_none : r ≡ None → (refresher_field flag).read (drop at s) ≡ None
+    side_none q = side_not at ((refresher_field flag).read (drop at s)) (sym side_by ∙ q)
+
+  module _ {r : Option (ℕ × ℕ)} (e : b ≡ true → r ≡ routes_at at ((routes_field true).read (drop at s))) (z : b ≡ false → r ≡ Some (0, at)) where
+    routes_by : r ≡ routes_at at ((routes_field flag).read (drop at s))
+    unfolding texts_size
+    routes_by = subst (λ (x : Bool). r ≡ routes_at at ((routes_field x).read (drop at s))) f (by b e z)
+      where
+        by : (x : Bool) → (x ≡ true → r ≡ routes_at at ((routes_field true).read (drop at s))) → (x ≡ false → r ≡ Some (0, at)) → r ≡ routes_at at ((routes_field x).read (drop at s))
+        by true g k = g refl
+        by false g k = k refl ∙ rw add-zero
+
+    pub routes_told : {n : ℕ} {next : ℕ} → at ≤ length s → r ≡ Some (n, next) → RoutesGot flag s at n next
+    routes_told h q = routes_got flag s at h (sym routes_by ∙ q)
+
+    pub routes_none : r ≡ None → (routes_field flag).read (drop at s) ≡ None
+    routes_none q = routes_not at ((routes_field flag).read (drop at s)) (sym routes_by ∙ q)
 
 -- ---- the identifiers
 
 module _ (m : ℕ) (s : List ℕ) (at : ℕ) where
-  pub ids_none_1 : (id_text (stands 0 m)).read (drop at s) ≡ None → None ≡ ids_from at ((ids_field m).read (drop at s))
-  ids_none_1 e = rw e
-
   module _ {a : Span} (x : IdGot (stands 0 m) s at a) where
     pub ids_none_2 : (id_text (stands 1 m)).read (drop (a.start + a.length) s) ≡ None → None ≡ ids_from at ((ids_field m).read (drop at s))
     ids_none_2 e = rw (x.got.reads, e)
@@ -66,9 +97,6 @@ module _ (m : ℕ) (s : List ℕ) (at : ℕ) where
 -- ---- the URIs
 
 module _ (s : List ℕ) (at : ℕ) where
-  pub uris_none_1 : uri_text.read (drop at s) ≡ None → None ≡ uris_from at (uris_field.read (drop at s))
-  uris_none_1 e = rw e
-
   module _ {a : Span} {sa : Bool} (x : UriGot s at a sa) where
     pub uris_none_2 : uri_text.read (drop (a.start + a.length) s) ≡ None → None ≡ uris_from at (uris_field.read (drop at s))
     uris_none_2 e = rw (x.got.reads, e)
@@ -86,9 +114,6 @@ module _ (s : List ℕ) (at : ℕ) where
 -- ---- the numbers and the routes
 
 module _ (m : ℕ) (s : List ℕ) (at : ℕ) where
-  pub tail_none_1 : (number (stands 7 m)).read (drop at s) ≡ None → None ≡ tail_from at ((tail_field m).read (drop at s))
-  tail_none_1 e = rw e
-
   module _ {i b : ℕ} (x1 : NumberGot (stands 7 m) s at i b) where
     pub tail_none_2 : (number (stands 8 m)).read (drop b s) ≡ None → None ≡ tail_from at ((tail_field m).read (drop at s))
     tail_none_2 e = rw (x1.got.reads, e)
@@ -105,7 +130,7 @@ module _ (m : ℕ) (s : List ℕ) (at : ℕ) where
           pub tail_none_5 : (refresher_field (stands 11 m)).read (drop e s) ≡ None → None ≡ tail_from at ((tail_field m).read (drop at s))
           tail_none_5 z = rw (x1.got.reads, x2.got.reads, x3.got.reads, x4.got.reads, z)
 
-          module _ {n : Refresher} {f : ℕ} (x5 : SideGot (stands 11 m) s e n f) where
+          module _ {n : Option Refresher} {f : ℕ} (x5 : SideGot (stands 11 m) s e n f) where
             pub tail_none_6 : (routes_field (stands 12 m)).read (drop f s) ≡ None → None ≡ tail_from at ((tail_field m).read (drop at s))
             tail_none_6 z = rw (x1.got.reads, x2.got.reads, x3.got.reads, x4.got.reads, x5.got.reads, z)
 

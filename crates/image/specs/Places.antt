@@ -8,7 +8,7 @@ use Rattle.codec.specs.Places.{answered, text_span, text_end}
 use Rattle.record.specs.Record.{Side, Record, Numbers, Ids, Uris, Tail, StateByte, bit_of, is_filled, is_given, is_sips}
 use Rattle.record.specs.NumbersForm.{state_from, number_from, side_from, numbers_from}
 use Rattle.record.specs.declared.numbers.State.{State}
-use Rattle.record.specs.declared.numbers.Refresher.{Refresher}
+use Rattle.headers.specs.declared.session_timer.Refresher.{Refresher}
 use Rattle.image.specs.declared.sections.IdsAt.{IdsAt}
 use Rattle.image.specs.declared.sections.UrisAt.{UrisAt}
 use Rattle.image.specs.declared.sections.TailAt.{TailAt}
@@ -57,7 +57,7 @@ number_at at o = answered None (λ v. Some (v, at + number_size v)) o
 abbrev pub optional_at : ℕ → Option (Reading (Option ℕ)) → Option (Option ℕ × ℕ)
 optional_at at o = answered None (λ v. Some (number_from v, at + option_size v)) o
 
-abbrev pub refresher_at : ℕ → Option (Reading (Option Side)) → Option (Refresher × ℕ)
+abbrev pub refresher_at : ℕ → Option (Reading (Option Side)) → Option (Option Refresher × ℕ)
 refresher_at at o = answered None (λ v. Some (side_from v, at + option_size v)) o
 
 -- how many routes, and the place after them

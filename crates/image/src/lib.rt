@@ -11,6 +11,7 @@ use record::{Numbers, State};
 mod parts;
 mod sections;
 
+pub use parts::state_number;
 pub use sections::{IdsAt, UrisAt};
 
 // Where the parts of a record lie: the texts, the state byte, the routes' section and the end; and its numbers.
@@ -27,6 +28,7 @@ pub struct RecordAt {
 }
 
 // The record whose image begins at a place.
+// Kept (5): a store is one slice with many records, each at a place.
 pub fn read_record(bytes: &[u8], at: usize) -> Option<RecordAt>
     requires { at ≤ length bytes.now }
     ensures { result ≡ record_from at (image.read (drop at bytes.now)) }
@@ -63,10 +65,7 @@ fn is_map(map: usize) -> bool
 pub fn either(a: bool, b: bool) -> bool
     ensures { result ≡ a || b }
 {
-    if a {
-        return true;
-    }
-    b
+    a || b
 }
 
 // The parts of a record that was read.

@@ -1,61 +1,69 @@
 // The fields of an image, each read at a place. A field whose bit doesn't stand takes no bytes.
-ghost use Rattle.std.specs.Prelude.{◌≡◌, ◌+◌, ◌≤◌, ◌<◌, length, drop};
-ghost use Rattle.record.specs.Record.{id_text, uri_text, number, optional, refresher_field, routes_field, state_byte};
+ghost use Rattle.std.specs.Prelude.{◌≡◌, ◌+◌, ◌≤◌, ◌<◌, true, false, length, drop, Some};
+ghost use Rattle.record.specs.Record.{id_text, uri_text, number, optional, refresher_field, routes_field, state_number, state_byte};
+ghost use Rattle.record.specs.NumbersForm.{state_in};
 ghost use Rattle.codec.specs.Places.{text_from};
 ghost use Rattle.image.specs.Places.{id_from, uri_from, number_at, optional_at, refresher_at, routes_at, state_field_of};
 
 use codec::{read_four, read_text, wide};
-use record::{Refresher, State};
+use headers::Refresher;
+use record::State;
 use text::Span;
 
 // The most routes that an image has.
 const MOST_ROUTES: usize = 50;
 
-// An identifier part: not empty, of bytes allowed in block values.
-pub fn read_id(bytes: &[u8], at: usize, stands: bool) -> Option<Span>
-    requires { at ≤ length bytes.now }
-    ensures { result ≡ id_from at ((id_text stands).read (drop at bytes.now)) }
+// A field of the map: what `read` answers where its bit stands, else what is absent.
+pub fn where_stands<T: Copy, F: FnOnce() -> Option<T>>(
+    stands: bool,
+    absent: T,
+    read: F,
+) -> Option<T>
+    requires { stands ≡ true → F.pre read }
+    ensures standing { stands ≡ true → F.post read result }
+    ensures absent { stands ≡ false → result ≡ Some absent }
 {
-    if !stands {
-        return Some(Span {
-            start: at,
-            length: 0,
-        });
+    if stands {
+        return read();
     }
+    Some(absent)
+}
+
+// An identifier part: not empty, of bytes allowed in block values.
+// Kept (5): a place is a number that `RecordAt` holds, and each field is read from where the one before it ends.
+pub fn read_id(bytes: &[u8], at: usize) -> Option<Span>
+    requires { at ≤ length bytes.now }
+    ensures { result ≡ id_from at ((id_text true).read (drop at bytes.now)) }
+{
     let t = read_text(bytes, at)?;
     if t.length == 0 {
         return None;
     }
-    let a = t.start;
-    let e = a + t.length;
-    if !text::all_value(&bytes[a..e]) {
+    if !text::all_value(t.text(bytes)) {
         return None;
     }
     Some(t)
 }
 
 // A URI's text: one that can be read; and whether it is `sips`.
+// Kept (5): a place is a number that `RecordAt` holds, and each field is read from where the one before it ends.
 pub fn read_uri_text(bytes: &[u8], at: usize) -> Option<(Span, bool)>
     requires { at ≤ length bytes.now }
     ensures { result ≡ uri_from at (uri_text.read (drop at bytes.now)) }
 {
     let t = read_text(bytes, at)?;
-    let a = t.start;
-    let e = a + t.length;
-    let Some(u) = uri::read_uri(&bytes[a..e]) else {
+    let Some(u) = uri::read_uri(t.text(bytes)) else {
         return None;
     };
     Some((t, u.secure))
 }
 
 // A number that isn't 0, and the place after it.
-pub fn read_number(bytes: &[u8], at: usize, stands: bool) -> Option<(u32, usize)>
+// Kept (5): a place is a number that `RecordAt` holds, and each field is read from where the one before it ends.
+pub fn read_number(bytes: &[u8], at: usize) -> Option<(u32, usize)>
     requires { at ≤ length bytes.now }
-    ensures { result ≡ number_at at ((number stands).read (drop at bytes.now)) }
+    ensures { result ≡ number_at at ((number true).read (drop at bytes.now)) }
 {
-    if !stands {
-        return Some((0, at));
-    }
     if bytes.len() - at < 4 {
         return None;
     }
@@ -67,13 +75,11 @@ pub fn read_number(bytes: &[u8], at: usize, stands: bool) -> Option<(u32, usize)
 }
 
 // A number that may be absent, and may be 0; and the place after it.
-pub fn read_optional(bytes: &[u8], at: usize, stands: bool) -> Option<(Option<u32>, usize)>
+// Kept (5): a place is a number that `RecordAt` holds, and each field is read from where the one before it ends.
+pub fn read_optional(bytes: &[u8], at: usize) -> Option<(Option<u32>, usize)>
     requires { at ≤ length bytes.now }
-    ensures { result ≡ optional_at at ((optional stands).read (drop at bytes.now)) }
+    ensures { result ≡ optional_at at ((optional true).read (drop at bytes.now)) }
 {
-    if !stands {
-        return Some((None, at));
-    }
     if bytes.len() - at < 4 {
         return None;
     }
@@ -81,34 +87,30 @@ pub fn read_optional(bytes: &[u8], at: usize, stands: bool) -> Option<(Option<u3
 }
 
 // Who refreshes: 1 uac, 2 uas; and the place after it.
-pub fn read_refresher(bytes: &[u8], at: usize, stands: bool) -> Option<(Refresher, usize)>
+// Kept (5): a place is a number that `RecordAt` holds, and each field is read from where the one before it ends.
+pub fn read_refresher(bytes: &[u8], at: usize) -> Option<(Option<Refresher>, usize)>
     requires { at ≤ length bytes.now }
-    ensures { result ≡ refresher_at at ((refresher_field stands).read (drop at bytes.now)) }
+    ensures { result ≡ refresher_at at ((refresher_field true).read (drop at bytes.now)) }
 {
-    if !stands {
-        return Some((Refresher::Unspecified, at));
-    }
     if bytes.len() - at < 4 {
         return None;
     }
     let n = read_four(bytes, at);
     if n == 1 {
-        return Some((Refresher::Uac, at + 4));
+        return Some((Some(Refresher::Uac), at + 4));
     }
     if n == 2 {
-        return Some((Refresher::Uas, at + 4));
+        return Some((Some(Refresher::Uas), at + 4));
     }
     None
 }
 
 // A count byte, 1 to 50, then as many URIs: how many, and the place after them.
-pub fn read_routes(bytes: &[u8], at: usize, stands: bool) -> Option<(usize, usize)>
+// Kept (5): a place is a number that `RecordAt` holds, and each field is read from where the one before it ends.
+pub fn read_routes(bytes: &[u8], at: usize) -> Option<(usize, usize)>
     requires { at ≤ length bytes.now }
-    ensures { result ≡ routes_at at ((routes_field stands).read (drop at bytes.now)) }
+    ensures { result ≡ routes_at at ((routes_field true).read (drop at bytes.now)) }
 {
-    if !stands {
-        return Some((0, at));
-    }
     if bytes.len() == at {
         return None;
     }
@@ -120,16 +122,15 @@ pub fn read_routes(bytes: &[u8], at: usize, stands: bool) -> Option<(usize, usiz
         return None;
     }
     let mut end = at + 1;
-    let mut read = 0;
-    while read < count {
+    for read in 0..count {
         let (t, _) = read_uri_text(bytes, end)?;
         end = t.start + t.length;
-        read += 1;
     }
     Some((count, end))
 }
 
 // The state byte: low two bits the state, bit 2 we are uac, bit 3 secure, the rest 0.
+// Kept (5): a place is a number that `RecordAt` holds, and each field is read from where the one before it ends.
 pub fn read_state(bytes: &[u8], at: usize) -> Option<(State, bool, bool)>
     requires { at ≤ length bytes.now }
     ensures { result ≡ state_field_of (state_byte.read (drop at bytes.now)) }
@@ -148,5 +149,17 @@ pub fn read_state(bytes: &[u8], at: usize) -> Option<(State, bool, bool)>
         2 => Some((State::Confirmed, we_are_uac, secure)),
         3 => Some((State::Terminated, we_are_uac, secure)),
         _ => None,
+    }
+}
+
+// The number that the state byte has for a state.
+// Kept (4): a `From` would have to stand in the crate of the enum, and a cast would hand over the order of its variants.
+pub fn state_number(state: State) -> u8
+    ensures { (result ≡ state_number (state_in state)) × (result ≤ 3) }
+{
+    match state {
+        State::Early => 1,
+        State::Confirmed => 2,
+        State::Terminated => 3,
     }
 }

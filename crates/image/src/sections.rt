@@ -1,12 +1,12 @@
 // The sections of an image: identifiers, URIs, numbers with routes. `map` is the image's bit map.
 ghost use Rattle.std.specs.Prelude.{◌≡◌, ◌≤◌, ◌<◌, ◌/◌, ◌%◌, eqb, length, drop};
-ghost use Rattle.record.specs.Record.{ids_field, uris_field, tail_field};
-ghost use Rattle.image.specs.Places.{ids_from, uris_from, tail_from};
+ghost use Rattle.record.specs.Record.{id_text, ids_field, uris_field, tail_field};
+ghost use Rattle.image.specs.Places.{id_from, ids_from, uris_from, tail_from};
 
 use crate::parts::{
-    read_id, read_number, read_optional, read_refresher, read_routes, read_uri_text,
+    read_id, read_number, read_optional, read_refresher, read_routes, read_uri_text, where_stands,
 };
-use record::Refresher;
+use headers::Refresher;
 use text::Span;
 
 // Where the identifier's parts lie, and the place after them.
@@ -36,19 +36,20 @@ pub struct TailAt {
     pub remote: u32,
     pub last_ack: Option<u32>,
     pub seconds: Option<u32>,
-    pub refresher: Refresher,
+    pub refresher: Option<Refresher>,
     pub routes: usize,
     pub route_count: usize,
     pub end: usize,
 }
 
+// Kept (5): a place is a number that `RecordAt` holds, and each field is read from where the one before it ends.
 pub fn read_ids(bytes: &[u8], at: usize, map: usize) -> Option<IdsAt>
     requires { at ≤ length bytes.now }
     ensures { result ≡ ids_from at ((ids_field map).read (drop at bytes.now)) }
 {
-    let call_id = read_id(bytes, at, bit(map, 1))?;
-    let local_tag = read_id(bytes, call_id.start + call_id.length, bit(map, 2))?;
-    let remote_tag = read_id(bytes, local_tag.start + local_tag.length, bit(map, 4))?;
+    let call_id = read_part(bytes, at, bit(map, 1))?;
+    let local_tag = read_part(bytes, call_id.start + call_id.length, bit(map, 2))?;
+    let remote_tag = read_part(bytes, local_tag.start + local_tag.length, bit(map, 4))?;
     Some(IdsAt {
         call_id,
         local_tag,
@@ -57,6 +58,20 @@ pub fn read_ids(bytes: &[u8], at: usize, map: usize) -> Option<IdsAt>
     })
 }
 
+// An identifier part by its bit.
+// Kept (5): a place is a number that `RecordAt` holds, and each field is read from where the one before it ends.
+fn read_part(bytes: &[u8], at: usize, stands: bool) -> Option<Span>
+    requires { at ≤ length bytes.now }
+    ensures { result ≡ id_from at ((id_text stands).read (drop at bytes.now)) }
+{
+    let absent = Span {
+        start: at,
+        length: 0,
+    };
+    where_stands(stands, absent, || read_id(bytes, at))
+}
+
+// Kept (5): a place is a number that `RecordAt` holds, and each field is read from where the one before it ends.
 pub fn read_uris(bytes: &[u8], at: usize) -> Option<UrisAt>
     requires { at ≤ length bytes.now }
     ensures { result ≡ uris_from at (uris_field.read (drop at bytes.now)) }
@@ -74,24 +89,31 @@ pub fn read_uris(bytes: &[u8], at: usize) -> Option<UrisAt>
     })
 }
 
+// Kept (5): a place is a number that `RecordAt` holds, and each field is read from where the one before it ends.
 pub fn read_tail(bytes: &[u8], at: usize, map: usize) -> Option<TailAt>
     requires { at ≤ length bytes.now }
     ensures { result ≡ tail_from at ((tail_field map).read (drop at bytes.now)) }
 {
-    let Some((local, b)) = read_number(bytes, at, bit(map, 128)) else {
+    let Some((local, b)) = where_stands(bit(map, 128), (0, at), || read_number(bytes, at)) else {
         return None;
     };
-    let Some((remote, c)) = read_number(bytes, b, bit(map, 256)) else {
+    let Some((remote, c)) = where_stands(bit(map, 256), (0, b), || read_number(bytes, b)) else {
         return None;
     };
-    let Some((last_ack, d)) = read_optional(bytes, c, bit(map, 512)) else {
+    let Some((last_ack, d)) = where_stands(bit(map, 512), (None, c), || read_optional(bytes, c))
+    else {
         return None;
     };
-    let Some((seconds, e)) = read_optional(bytes, d, bit(map, 1024)) else {
+    let Some((seconds, e)) = where_stands(bit(map, 1024), (None, d), || read_optional(bytes, d))
+    else {
         return None;
     };
-    let (refresher, routes) = read_refresher(bytes, e, bit(map, 2048))?;
-    let (route_count, end) = read_routes(bytes, routes, bit(map, 4096))?;
+    let (refresher, routes) = where_stands(bit(map, 2048), (None, e), || read_refresher(bytes, e))?;
+    let (route_count, end) = where_stands(
+        bit(map, 4096),
+        (0, routes),
+        || read_routes(bytes, routes),
+    )?;
     Some(TailAt {
         local,
         remote,

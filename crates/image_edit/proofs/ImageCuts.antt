@@ -15,6 +15,8 @@ use Rattle.image.proofs.AnswerLaws.{record_got}
 use Rattle.image_writer.specs.Parts.{ids_bytes}
 use Rattle.image_writer.proofs.FieldLaws.{ids_size_lem}
 use Rattle.image_edit.specs.Changes.{read_at, changed_by, changed}
+use Rattle.image_edit.specs.Stands.{StandsAt}
+use Rattle.image_edit.specs.declared.RecordPlace.{RecordPlace}
 use Rattle.image_edit.proofs.CutLaws.{splice_cut}
 
 -- ---- the record among the used bytes
@@ -46,6 +48,10 @@ pub held_used : (bytes : List ℕ) (used at : ℕ) {p : RecordAt} → ((i : ℕ)
 held_used bytes used at b h k e =
     let n : length (take used bytes) ≡ used = length-take-le used bytes h in
     held (take used bytes) at (bytes_take used bytes (bytes_all bytes b)) (omega arith) e
+
+-- the record that stands at a place of the code
+pub stands_held : (bytes : List ℕ) (p : RecordPlace) → ((i : ℕ) → get_or bytes i 0 < 256) → StandsAt bytes p → Held (take p.used bytes) p.at p.record
+stands_held bytes p b s = held_used bytes p.used p.at b s.0 s.1 s.2
 
 -- the change of the record is the change of its image
 pub changed_held : (f : Record → Record) (s : List ℕ) (at : ℕ) {p : RecordAt} (h : Held s at p) → changed f at s ≡ take at s ++ (image.write (f h.value) ++ h.rest)

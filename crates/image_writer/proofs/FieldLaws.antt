@@ -3,60 +3,25 @@ use Prim.Native.Nat.{ℕ, zero, suc, ◌+◌, ◌*◌, ◌≤◌, ◌<◌}
 use native.Mathlib.Nat.{zero-add}
 use native.Mathlib.Omega.{arith}
 use mathlib.Core.Path.{◌≡◌, refl, ap, subst, ◌∙◌}
-use mathlib.Core.Bool.{Bool, true, false}
 use mathlib.Core.List.{List, [], ◌∷◌, ◌++◌, append_assoc}
 use lib.ListN.{length, length-append}
 use lib.Dec.{ltb}
 use borrow.Author.Tests.{lt-ltb, le-ltb}
 use Rattle.std.specs.Prelude.{Err, None, Ok, Option, Some}
-use Rattle.codec.specs.Codec.{two, four, text}
+use Rattle.codec.specs.Codec.{two, text}
 use Rattle.codec.proofs.SizeLaws.{text_size}
-use Rattle.record.specs.Record.{Side, uac, uas, Numbers, Ids, Uris, bit_of, is_filled, is_given, ids_map, id_text, number, optional, refresher_field}
+use Rattle.record.specs.Record.{Side, uac, uas, Numbers, Ids, Uris, bit_of, is_filled, is_given, id_text, number, optional, refresher_field}
 use Rattle.edit.specs.Edit.{over}
 use Rattle.edit.proofs.EditLaws.{Wrote, wrote_then}
 use Rattle.limits.specs.declared.Refusal.TheVariants.{NoRoom}
 use Rattle.output.specs.Output.{fitted, leaves, written_from}
-use Rattle.image_writer.specs.Parts.{Front, ids_bytes, uris_bytes, numbers_bytes, numbers_map, map_of_front, state_byte_in, front_of, fitted_before}
-
--- ---- texts
-
-pub unfilled : (t : List ℕ) → length t ≡ 0 → is_filled t ≡ false
-unfilled [] e = refl
-unfilled (x ∷ t) e = absurd (omega arith)
-
-pub isfilled : (t : List ℕ) → (length t ≡ 0 → ⊥) → is_filled t ≡ true
-isfilled [] n = absurd (n refl)
-isfilled (x ∷ t) n = refl
-
-pub id_empty : (t : List ℕ) → length t ≡ 0 → (id_text (is_filled t)).write t ≡ []
-id_empty [] e = refl
-id_empty (x ∷ t) e = absurd (omega arith)
-
-pub id_filled : (t : List ℕ) → (length t ≡ 0 → ⊥) → (id_text (is_filled t)).write t ≡ text.write t
-id_filled [] n = absurd (n refl)
-id_filled (x ∷ t) n = refl
+use Rattle.image_writer.specs.Parts.{Front, ids_bytes, uris_bytes, numbers_bytes, map_of_front, state_byte_in, front_of, fitted_before}
 
 -- ---- numbers
-
-pub number_zero : (n : ℕ) → n ≡ 0 → (number (ltb 0 n)).write n ≡ []
-number_zero zero e = refl
-number_zero (suc n) e = absurd (omega arith)
-
-pub number_some : (n : ℕ) → (n ≡ 0 → ⊥) → (number (ltb 0 n)).write n ≡ four.write n
-number_some zero h = absurd (h refl)
-number_some (suc n) h = rw (lt-ltb 0 (suc n) (omega arith))
 
 pub number_size : (n : ℕ) → length ((number (ltb 0 n)).write n) ≡ 4 * bit_of (ltb 0 n)
 number_size zero = refl
 number_size (suc n) = rw (lt-ltb 0 (suc n) (omega arith))
-
-pub number_bit_zero : (n : ℕ) → n ≡ 0 → bit_of (ltb 0 n) ≡ 0
-number_bit_zero zero e = refl
-number_bit_zero (suc n) e = absurd (omega arith)
-
-pub number_bit_some : (n : ℕ) → (n ≡ 0 → ⊥) → bit_of (ltb 0 n) ≡ 1
-number_bit_some zero h = absurd (h refl)
-number_bit_some (suc n) h = rw (lt-ltb 0 (suc n) (omega arith))
 
 pub optional_size : (o : Option ℕ) → length ((optional (is_given o)).write o) ≡ 4 * bit_of (is_given o)
 optional_size None = refl
@@ -99,14 +64,6 @@ front_size f =
     let b = uris_bytes f.uris in
     let c = numbers_bytes f.numbers in
     omega (arith, length-append a ((state_byte_in f ∷ []) ++ (b ++ c)), length-append b c)
-
-bit_le : (b : Bool) → bit_of b ≤ 1
-bit_le true = omega arith
-bit_le false = omega arith
-
--- the map without routes is below bit 12
-pub map_small : (i : Ids) (x : Numbers) → ids_map i + 120 + numbers_map x ≤ 4095
-map_small i x = omega (arith, bit_le (is_filled i.first), bit_le (is_filled i.second.first), bit_le (is_filled i.second.second), bit_le (ltb 0 x.local), bit_le (ltb 0 x.remote), bit_le (is_given x.last_ack), bit_le (is_given x.seconds), bit_le (is_given x.refresher))
 
 -- ---- the sections and the front, written one after another
 

@@ -2,11 +2,29 @@
 -- numbers, and the routes as a section that is encoded already (no bytes where there are no routes). That these are the bytes of `image`
 -- (record/specs/Record.antt) is the law `image_parts`. The front of an image is all before the routes: the law `image_front`.
 use Rattle.limits.specs.declared.Refusal.{Refusal}
-use Rattle.std.specs.Prelude.{ℕ, ◌+◌, ◌*◌, Bool, List, ◌∷◌, [], ◌++◌, length, ltb, Ok, Result}
+use Rattle.std.specs.Prelude.{ℕ, ◌+◌, ◌*◌, ◌<◌, Bool, List, ◌∷◌, [], ◌++◌, length, ltb, Ok, Result}
 use Rattle.limits.specs.Outcome.{cause_if, refuse_by}
 use Rattle.limits.specs.declared.Refusal.TheVariants.{NoRoom}
-use Rattle.codec.specs.Codec.{two, text}
+use Rattle.codec.specs.Codec.{Pair, two, text}
+use Rattle.dialog_id.specs.declared.IdTexts.{IdTexts}
+use Rattle.image_writer.specs.declared.Front.{Front as CodeFront}
+use Rattle.image_writer.specs.declared.UriTexts.{UriTexts}
+use Rattle.record.specs.NumbersForm.{meaning}
 use Rattle.record.specs.Record.{Numbers, Ids, Uris, bit_of, is_filled, is_given, ids_map, id_text, number, optional, refresher_field, state_byte_number}
+
+-- ---- the texts as the writer is given them
+
+abbrev pub ids_given : IdTexts → Ids
+ids_given t = record { first = t.call_id.now; second = record { first = t.local_tag.now; second = t.remote_tag.now } }
+
+abbrev pub uris_given : UriTexts → Uris
+uris_given t = record { first = t.target.now; second = record { first = t.local_uri.now; second = t.remote_uri.now } }
+
+-- three texts whose lengths fit their two length bytes
+abbrev pub Short : Pair (List ℕ) (Pair (List ℕ) (List ℕ)) → Type 0
+Short t = (length t.first < 65536) × (length t.second.first < 65536) × (length t.second.second < 65536)
+
+-- ---- the parts
 
 -- the parts of a record that are given
 pub record Parts : Type 0 where
@@ -106,14 +124,14 @@ front_of f =
     two.write (map_of_front f)
     ++ (ids_bytes f.ids ++ ((state_byte_in f ∷ []) ++ (uris_bytes f.uris ++ numbers_bytes f.numbers)))
 
--- the front as the writer is given it: identifiers, URIs, whether routes follow
-abbrev pub front_from : Numbers → Bool → Bool → List ℕ → List ℕ → List ℕ → List ℕ → List ℕ → List ℕ → Bool → Front
-front_from x we_are_uac secure call_id local_tag remote_tag target local_uri remote_uri routed = record {
-  numbers = x;
-  we_are_uac = we_are_uac;
-  secure = secure;
-  ids = record { first = call_id; second = record { first = local_tag; second = remote_tag } };
-  uris = record { first = target; second = record { first = local_uri; second = remote_uri } };
+-- the front as the writer is given it, and whether routes follow
+abbrev pub front_from : CodeFront → Bool → Front
+front_from f routed = record {
+  numbers = meaning f.numbers;
+  we_are_uac = f.we_are_uac;
+  secure = f.secure;
+  ids = ids_given f.id;
+  uris = uris_given f.uris;
   routed = routed;
 }
 

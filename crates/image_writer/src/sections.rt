@@ -1,22 +1,25 @@
 // The sections of an image and their sizes, and the two fields that say what stands: the map and the state byte.
 ghost use Rattle.std.specs.Prelude.{◌≡◌, Bool, ◌+◌, ◌*◌, ◌≤◌, ◌<◌, length, ltb};
 ghost use Rattle.edit.specs.Edit.{put_at};
-ghost use Rattle.record.specs.NumbersForm.{meaning, state_in, number_in, side_in};
-ghost use Rattle.record.specs.Record.{bit_of, is_filled, is_given, id_text, ids_map, state_number, state_byte_number};
-ghost use Rattle.image_writer.specs.Parts.{ids_bytes, uris_bytes, numbers_bytes, numbers_map, map_with};
+ghost use Rattle.record.specs.NumbersForm.{meaning};
+ghost use Rattle.record.specs.Record.{bit_of, is_filled, is_given, id_text, state_byte_number};
+ghost use Rattle.image_writer.specs.Parts.{Short, ids_given, uris_given, ids_bytes, uris_bytes, numbers_bytes, numbers_map, map_with};
 
+use crate::UriTexts;
 use crate::fields::{write_id, write_number, write_optional, write_refresher};
 use codec::write_text;
-use record::{Numbers, Refresher, State};
+use dialog_id::IdTexts;
+use image::state_number;
+use record::Numbers;
 
 // ---- sizes
 
-pub fn ids_size(call_id: &[u8], local_tag: &[u8], remote_tag: &[u8]) -> usize
-    requires { (length call_id.now < 65536) × (length local_tag.now < 65536) × (length remote_tag.now < 65536) }
-    ensures value { result ≡ length (ids_bytes (record { first = call_id.now; second = record { first = local_tag.now; second = remote_tag.now } })) }
+pub fn ids_size(id: IdTexts<'_>) -> usize
+    requires { Short (ids_given id) }
+    ensures value { result ≡ length (ids_bytes (ids_given id.entry)) }
     ensures upper_bound { result ≤ 200000 }
 {
-    id_size(call_id) + id_size(local_tag) + id_size(remote_tag)
+    id_size(id.call_id) + id_size(id.local_tag) + id_size(id.remote_tag)
 }
 
 fn id_size(t: &[u8]) -> usize
@@ -24,18 +27,18 @@ fn id_size(t: &[u8]) -> usize
     ensures value { result ≡ length ((id_text (is_filled t.now)).write t.now) }
     ensures upper_bound { result < 65538 }
 {
-    if t.len() == 0 {
+    if t.is_empty() {
         return 0;
     }
     2 + t.len()
 }
 
-pub fn uris_size(target: &[u8], local_uri: &[u8], remote_uri: &[u8]) -> usize
-    requires { (length target.now < 65536) × (length local_uri.now < 65536) × (length remote_uri.now < 65536) }
-    ensures value { result ≡ length (uris_bytes (record { first = target.now; second = record { first = local_uri.now; second = remote_uri.now } })) }
+pub fn uris_size(uris: UriTexts<'_>) -> usize
+    requires { Short (uris_given uris) }
+    ensures value { result ≡ length (uris_bytes (uris_given uris.entry)) }
     ensures upper_bound { result ≤ 200000 }
 {
-    2 + target.len() + 2 + local_uri.len() + 2 + remote_uri.len()
+    2 + uris.target.len() + 2 + uris.local_uri.len() + 2 + uris.remote_uri.len()
 }
 
 pub fn numbers_size(x: Numbers) -> usize
@@ -49,50 +52,33 @@ pub fn numbers_size(x: Numbers) -> usize
         + number_bit(x.remote)
         + optional_bit(last_ack)
         + optional_bit(seconds)
-        + refresher_bit(refresher))
+        + optional_bit(refresher))
 }
 
 // ---- what stands
 
-// The bit map: bits 3 to 6 always stand.
-pub fn map_of(
-    x: Numbers,
-    call_id: &[u8],
-    local_tag: &[u8],
-    remote_tag: &[u8],
-    routes: &[u8],
-) -> usize
-    ensures value { result ≡ ids_map (record { first = call_id.now; second = record { first = local_tag.now; second = remote_tag.now } }) + 120 + (numbers_map (meaning x) + 4096 * bit_of (is_filled routes.now)) }
+// The bit map, with routes or without: bits 3 to 6 always stand.
+pub fn front_map(x: Numbers, id: IdTexts<'_>, routed: bool) -> usize
+    ensures value { result ≡ map_with (ids_given id.entry) (meaning x) routed }
     ensures upper_bound { result < 65536 }
 {
-    let ids = text_bit(call_id) + 2 * text_bit(local_tag) + 4 * text_bit(remote_tag);
+    let ids = text_bit(id.call_id) + 2 * text_bit(id.local_tag) + 4 * text_bit(id.remote_tag);
+    ids + 120 + (numbers_bits(x) + 4096 * usize::from(routed))
+}
+
+// The bits of the numbers.
+pub fn numbers_bits(x: Numbers) -> usize
+    ensures value { result ≡ numbers_map (meaning x) }
+    ensures upper_bound { result < 4096 }
+{
     let last_ack = x.last_ack;
     let seconds = x.seconds;
     let refresher = x.refresher;
-    let numbers = 128 * number_bit(x.local)
+    128 * number_bit(x.local)
         + 256 * number_bit(x.remote)
         + 512 * optional_bit(last_ack)
         + 1024 * optional_bit(seconds)
-        + 2048 * refresher_bit(refresher);
-    ids + 120 + (numbers + 4096 * text_bit(routes))
-}
-
-// The same, with routes or without.
-pub fn front_map(
-    x: Numbers,
-    call_id: &[u8],
-    local_tag: &[u8],
-    remote_tag: &[u8],
-    routed: bool,
-) -> usize
-    ensures value { result ≡ map_with (record { first = call_id.now; second = record { first = local_tag.now; second = remote_tag.now } }) (meaning x) routed }
-    ensures upper_bound { result < 65536 }
-{
-    let map = map_of(x, call_id, local_tag, remote_tag, b"");
-    if routed {
-        return map + 4096;
-    }
-    map
+        + 2048 * optional_bit(refresher)
 }
 
 // The state byte: the state, bit 2 we are uac, bit 3 secure.
@@ -100,102 +86,57 @@ pub fn state_byte(x: Numbers, we_are_uac: bool, secure: bool) -> u8
     ensures { result ≡ state_byte_number (record { state = (meaning x).state; we_are_uac = we_are_uac; secure = secure }) }
 {
     let state = x.state;
-    state_number(state) + 4 * flag(we_are_uac) + 8 * flag(secure)
+    state_number(state) + 4 * u8::from(we_are_uac) + 8 * u8::from(secure)
 }
 
-fn state_number(state: State) -> u8
-    ensures { (result ≡ state_number (state_in state)) × (result ≤ 3) }
-{
-    match state {
-        State::Early => 1,
-        State::Confirmed => 2,
-        State::Terminated => 3,
-    }
-}
-
-fn flag(b: bool) -> u8
-    ensures { (result ≡ bit_of b) × (result ≤ 1) }
-{
-    if b {
-        return 1;
-    }
-    0
-}
-
-// 1 where the text is not empty, the number is not 0, the number or the refresher is present.
+// 1 where the text is not empty, the number is not 0, the value is present.
 fn text_bit(t: &[u8]) -> usize
     ensures { (result ≡ bit_of (is_filled t.now)) × (result ≤ 1) }
 {
-    if t.len() == 0 {
-        return 0;
-    }
-    1
+    usize::from(!t.is_empty())
 }
 
 fn number_bit(n: u32) -> usize
     ensures { (result ≡ bit_of (ltb 0 n)) × (result ≤ 1) }
 {
-    if n == 0 {
-        return 0;
-    }
-    1
+    usize::from(n != 0)
 }
 
-fn optional_bit(n: Option<u32>) -> usize
-    ensures { (result ≡ bit_of (is_given (number_in n))) × (result ≤ 1) }
+fn optional_bit<T: Copy>(o: Option<T>) -> usize
+    ensures { (result ≡ bit_of (is_given o)) × (result ≤ 1) }
 {
-    match n {
-        Some(_) => 1,
-        None => 0,
-    }
-}
-
-fn refresher_bit(r: Refresher) -> usize
-    ensures { (result ≡ bit_of (is_given (side_in r))) × (result ≤ 1) }
-{
-    match r {
-        Refresher::Uac => 1,
-        Refresher::Uas => 1,
-        Refresher::Unspecified => 0,
-    }
+    usize::from(o.is_some())
 }
 
 // ---- the sections
 
-pub fn write_ids(
-    out: &mut [u8],
-    at: usize,
-    call_id: &[u8],
-    local_tag: &[u8],
-    remote_tag: &[u8],
-) -> usize
-    requires call_id_len_bound { (length call_id.now < 65536) × (length local_tag.now < 65536) × (length remote_tag.now < 65536) }
-    requires remote_tag_in_bounds { at + length (ids_bytes (record { first = call_id.now; second = record { first = local_tag.now; second = remote_tag.now } })) ≤ length out.old }
-    ensures value { result ≡ at + length (ids_bytes (record { first = call_id.now; second = record { first = local_tag.now; second = remote_tag.now } })) }
-    ensures out_after { out.new ≡ put_at at (ids_bytes (record { first = call_id.now; second = record { first = local_tag.now; second = remote_tag.now } })) out.old }
+// Kept (5): the place goes in as a number and comes back as the next one, which the caller writes at.
+// Kept (2): an empty identifier part has no bytes, an empty URI has its two length bytes: a common function would have to be told which it writes.
+pub fn write_ids(out: &mut [u8], at: usize, id: IdTexts<'_>) -> usize
+    requires id_short { Short (ids_given id) }
+    requires id_in_bounds { at + length (ids_bytes (ids_given id)) ≤ length out.old }
+    ensures value { result ≡ at + length (ids_bytes (ids_given id.entry)) }
+    ensures out_after { out.new ≡ put_at at (ids_bytes (ids_given id.entry)) out.old }
 {
-    let a = write_id(out, at, call_id);
-    let b = write_id(out, a, local_tag);
-    write_id(out, b, remote_tag)
+    let a = write_id(out, at, id.call_id);
+    let b = write_id(out, a, id.local_tag);
+    write_id(out, b, id.remote_tag)
 }
 
-pub fn write_uris(
-    out: &mut [u8],
-    at: usize,
-    target: &[u8],
-    local_uri: &[u8],
-    remote_uri: &[u8],
-) -> usize
-    requires target_len_bound { (length target.now < 65536) × (length local_uri.now < 65536) × (length remote_uri.now < 65536) }
-    requires remote_uri_in_bounds { at + length (uris_bytes (record { first = target.now; second = record { first = local_uri.now; second = remote_uri.now } })) ≤ length out.old }
-    ensures value { result ≡ at + length (uris_bytes (record { first = target.now; second = record { first = local_uri.now; second = remote_uri.now } })) }
-    ensures out_after { out.new ≡ put_at at (uris_bytes (record { first = target.now; second = record { first = local_uri.now; second = remote_uri.now } })) out.old }
+// Kept (5): the place goes in as a number and comes back as the next one, which the caller writes at.
+// Kept (2, 4): the texts are those of URIs, as said above; nothing is converted here.
+pub fn write_uris(out: &mut [u8], at: usize, uris: UriTexts<'_>) -> usize
+    requires uris_short { Short (uris_given uris) }
+    requires uris_in_bounds { at + length (uris_bytes (uris_given uris)) ≤ length out.old }
+    ensures value { result ≡ at + length (uris_bytes (uris_given uris.entry)) }
+    ensures out_after { out.new ≡ put_at at (uris_bytes (uris_given uris.entry)) out.old }
 {
-    let a = write_text(out, at, target);
-    let b = write_text(out, a, local_uri);
-    write_text(out, b, remote_uri)
+    let a = write_text(out, at, uris.target);
+    let b = write_text(out, a, uris.local_uri);
+    write_text(out, b, uris.remote_uri)
 }
 
+// Kept (5): the place goes in as a number and comes back as the next one, which the caller writes at.
 pub fn write_numbers(out: &mut [u8], at: usize, x: Numbers) -> usize
     requires { at + length (numbers_bytes (meaning x)) ≤ length out.old }
     ensures value { result ≡ at + length (numbers_bytes (meaning x)) }

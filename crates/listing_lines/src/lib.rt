@@ -44,6 +44,7 @@ pub fn write_words(out: &mut [u8], word: &[u8], n: u64) -> usize
 }
 
 // Position, state, side.
+// Kept (5): a place in lent output, as `edit::put` takes it; each answers the next place.
 fn write_head(out: &mut [u8], at: usize, position: usize, state: State, we_are_uac: bool) -> usize
     requires { at + 27 ≤ length out.old }
     ensures value { (result ≡ at + length (head_part position (state_in state) we_are_uac)) × (result ≤ at + 27) }
@@ -55,6 +56,7 @@ fn write_head(out: &mut [u8], at: usize, position: usize, state: State, we_are_u
 }
 
 // Local, remote, last ACK.
+// Kept (5): a place in lent output, as `edit::put` takes it; each answers the next place.
 fn write_sequence(
     out: &mut [u8],
     at: usize,
@@ -72,6 +74,7 @@ fn write_sequence(
 }
 
 // Seconds, refresh second, route count.
+// Kept (5): a place in lent output, as `edit::put` takes it; each answers the next place.
 fn write_interval(out: &mut [u8], at: usize, seconds: Option<u32>, routes: usize) -> usize
     requires { at + 63 ≤ length out.old }
     ensures value { (result ≡ at + length (interval_part (number_in seconds) routes)) × (result ≤ at + 63) }
@@ -84,18 +87,21 @@ fn write_interval(out: &mut [u8], at: usize, seconds: Option<u32>, routes: usize
 }
 
 // E, C, T.
+// Kept (5): a place in lent output, as `edit::put` takes it; each answers the next place.
 fn write_state(out: &mut [u8], at: usize, state: State) -> usize
     requires { at + 2 ≤ length out.old }
     ensures value { (result ≡ at + length (state_letter (state_in state) ++ (32 ∷ []))) × (result ≤ at + 2) }
     ensures out_after { out.new ≡ put_at at (state_letter (state_in state) ++ (32 ∷ [])) out.old }
 {
-    match state {
-        State::Early => write_text(out, at, b"E", b' '),
-        State::Confirmed => write_text(out, at, b"C", b' '),
-        State::Terminated => write_text(out, at, b"T", b' '),
-    }
+    let letter = match state {
+        State::Early => b"E",
+        State::Confirmed => b"C",
+        State::Terminated => b"T",
+    };
+    write_text(out, at, letter, b' ')
 }
 
+// Kept (5, 7): a place in lent output, as `edit::put` takes it; the side is told by a flag in the image too.
 fn write_side(out: &mut [u8], at: usize, we_are_uac: bool) -> usize
     requires { at + 4 ≤ length out.old }
     ensures value { (result ≡ at + length (side_text we_are_uac ++ (32 ∷ []))) × (result ≤ at + 4) }
@@ -108,6 +114,7 @@ fn write_side(out: &mut [u8], at: usize, we_are_uac: bool) -> usize
 }
 
 // A number, or `-` where it is absent.
+// Kept (4, 5): a place in lent output, as `edit::put` takes it; a number and the dash are written by two functions.
 fn write_optional(out: &mut [u8], at: usize, n: Option<u32>) -> usize
     requires { at + 21 ≤ length out.old }
     ensures value { (result ≡ at + length (or_dash (number_in n) ++ (32 ∷ []))) × (result ≤ at + 21) }
@@ -123,13 +130,11 @@ fn write_optional(out: &mut [u8], at: usize, n: Option<u32>) -> usize
 fn refresh_second(seconds: Option<u32>) -> Option<u32>
     ensures { number_in result ≡ refresh_second (number_in seconds) }
 {
-    match seconds {
-        Some(n) => Some(n / 2 + n % 4 / 3),
-        None => None,
-    }
+    seconds.map(|n| n / 2 + n % 4 / 3)
 }
 
 // A number in decimal, and the byte after it.
+// Kept (5): a place in lent output, as `edit::put` takes it; each answers the next place.
 pub fn write_number(out: &mut [u8], at: usize, n: u64, after: u8) -> usize
     requires { at + 21 ≤ length out.old }
     ensures value { (result ≡ at + length (decimal_of n ++ (after ∷ []))) × (result ≤ at + 21) }
@@ -141,6 +146,7 @@ pub fn write_number(out: &mut [u8], at: usize, n: u64, after: u8) -> usize
 }
 
 // A text, and the byte after it. The place after both.
+// Kept (5): a place in lent output, as `edit::put` takes it; each answers the next place.
 pub fn write_text(out: &mut [u8], at: usize, piece: &[u8], after: u8) -> usize
     requires { at + length piece.now + 1 ≤ length out.old }
     ensures value { result ≡ at + length piece.now + 1 }

@@ -18,6 +18,7 @@ use listing_lines::{write_line, write_words};
 const FIRST_POSITION: usize = 1;
 
 // The listing of a store's bytes, over the front of out: 1 over 65,536 bytes, 3, 18.
+// Kept (5): bytes that are read and bytes that are written are lent by different callers.
 pub fn list_store(bytes: &[u8], out: &mut [u8]) -> Result<usize, Refusal>
     ensures value { result ≡ written_from (listing rust_limits bytes.now (length out.old)) }
     ensures out_after { out.new ≡ leaves (listing rust_limits bytes.now (length out.old)) out.old }
@@ -59,6 +60,7 @@ fn lines_length(bytes: &[u8]) -> usize
     let mut at = 0;
     let mut position = FIRST_POSITION;
     let mut size = 0;
+    // Kept (3): the reading of a record gives its end; `Records` would read that end a second time.
     while at < bytes.len() {
         let Some(r) = image::read_record(bytes, at) else {
             return size;
@@ -72,6 +74,7 @@ fn lines_length(bytes: &[u8]) -> usize
 }
 
 // The lines over the front of out, which has room for them. Their length.
+// Kept (5): bytes that are read and bytes that are written are lent by different callers.
 fn write_lines(bytes: &[u8], out: &mut [u8]) -> usize
     requires bytes_value { (is_given (records_in (length bytes.now) bytes.now) ≡ true) × (length bytes.now ≤ 65536) }
     requires bytes_in_bounds { length (listed_lines bytes.now) ≤ length out.old }
@@ -82,6 +85,7 @@ fn write_lines(bytes: &[u8], out: &mut [u8]) -> usize
     let mut at = 0;
     let mut position = FIRST_POSITION;
     let mut end = 0;
+    // Kept (3): the reading of a record gives its end; `Records` would read that end a second time.
     while at < bytes.len() {
         let Some(r) = image::read_record(bytes, at) else {
             return end;

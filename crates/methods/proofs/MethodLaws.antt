@@ -4,9 +4,9 @@ use native.Mathlib.Numerals.{add-one}
 use native.Mathlib.Omega.{arith}
 use mathlib.Core.Path.{◌≡◌, refl}
 use mathlib.Core.Bool.{Bool, true, false, cond, not, ◌&&◌}
-use mathlib.Core.List.{List, [], ◌∷◌, ◌++◌, map}
-use lib.ListN.{length, get_or, take, drop, drop_of_length-le, replicate}
-use lib.Seq.{drop-cons, take-append_seam}
+use mathlib.Core.List.{List, [], ◌∷◌}
+use lib.ListN.{length, get_or, drop, drop_of_length-le}
+use lib.Seq.{drop-cons}
 use lib.Dec.{leb}
 use borrow.Author.Tests.{leb-true, le-leb, lt-ltb, le-ltb}
 use Rattle.std.specs.Prelude.{Err, None, Ok, Option, Some}
@@ -42,15 +42,24 @@ fourteen = refl
 
 -- ---- the table of names
 
--- a name as a row of nine bytes
-abbrev pub padded : List ℕ → List ℕ
-padded name = name ++ replicate (9 - length name) 32
-
--- each row, cut to its name's length, is the name
-pub row_name : (names : List (List ℕ)) (k : ℕ) → k < length names → take (get_or (map length names) k 0) (get_or (map padded names) k []) ≡ get_or names k []
-row_name [] k h = absurd (omega arith)
-row_name (name ∷ names) zero h = take-append_seam name (replicate (9 - length name) 32)
-row_name (name ∷ names) (suc k) h = row_name names k (omega arith)
+-- a number of the fourteen, one at a time
+pub one_of : {G : Type 0} (m : ℕ) → 1 ≤ m → m ≤ 14 → (m ≡ 1 → G) → (m ≡ 2 → G) → (m ≡ 3 → G) → (m ≡ 4 → G) → (m ≡ 5 → G) → (m ≡ 6 → G) → (m ≡ 7 → G) → (m ≡ 8 → G) → (m ≡ 9 → G) → (m ≡ 10 → G) → (m ≡ 11 → G) → (m ≡ 12 → G) → (m ≡ 13 → G) → (m ≡ 14 → G) → G
+one_of zero l h f1 f2 f3 f4 f5 f6 f7 f8 f9 f10 f11 f12 f13 f14 = absurd (omega arith)
+one_of (suc zero) l h f1 f2 f3 f4 f5 f6 f7 f8 f9 f10 f11 f12 f13 f14 = f1 refl
+one_of (suc (suc zero)) l h f1 f2 f3 f4 f5 f6 f7 f8 f9 f10 f11 f12 f13 f14 = f2 refl
+one_of (suc (suc (suc zero))) l h f1 f2 f3 f4 f5 f6 f7 f8 f9 f10 f11 f12 f13 f14 = f3 refl
+one_of (suc (suc (suc (suc zero)))) l h f1 f2 f3 f4 f5 f6 f7 f8 f9 f10 f11 f12 f13 f14 = f4 refl
+one_of (suc (suc (suc (suc (suc zero))))) l h f1 f2 f3 f4 f5 f6 f7 f8 f9 f10 f11 f12 f13 f14 = f5 refl
+one_of (suc (suc (suc (suc (suc (suc zero)))))) l h f1 f2 f3 f4 f5 f6 f7 f8 f9 f10 f11 f12 f13 f14 = f6 refl
+one_of (suc (suc (suc (suc (suc (suc (suc zero))))))) l h f1 f2 f3 f4 f5 f6 f7 f8 f9 f10 f11 f12 f13 f14 = f7 refl
+one_of (suc (suc (suc (suc (suc (suc (suc (suc zero)))))))) l h f1 f2 f3 f4 f5 f6 f7 f8 f9 f10 f11 f12 f13 f14 = f8 refl
+one_of (suc (suc (suc (suc (suc (suc (suc (suc (suc zero))))))))) l h f1 f2 f3 f4 f5 f6 f7 f8 f9 f10 f11 f12 f13 f14 = f9 refl
+one_of (suc (suc (suc (suc (suc (suc (suc (suc (suc (suc zero)))))))))) l h f1 f2 f3 f4 f5 f6 f7 f8 f9 f10 f11 f12 f13 f14 = f10 refl
+one_of (suc (suc (suc (suc (suc (suc (suc (suc (suc (suc (suc zero))))))))))) l h f1 f2 f3 f4 f5 f6 f7 f8 f9 f10 f11 f12 f13 f14 = f11 refl
+one_of (suc (suc (suc (suc (suc (suc (suc (suc (suc (suc (suc (suc zero)))))))))))) l h f1 f2 f3 f4 f5 f6 f7 f8 f9 f10 f11 f12 f13 f14 = f12 refl
+one_of (suc (suc (suc (suc (suc (suc (suc (suc (suc (suc (suc (suc (suc zero))))))))))))) l h f1 f2 f3 f4 f5 f6 f7 f8 f9 f10 f11 f12 f13 f14 = f13 refl
+one_of (suc (suc (suc (suc (suc (suc (suc (suc (suc (suc (suc (suc (suc (suc zero)))))))))))))) l h f1 f2 f3 f4 f5 f6 f7 f8 f9 f10 f11 f12 f13 f14 = f14 refl
+one_of (suc (suc (suc (suc (suc (suc (suc (suc (suc (suc (suc (suc (suc (suc (suc m))))))))))))))) l h f1 f2 f3 f4 f5 f6 f7 f8 f9 f10 f11 f12 f13 f14 = absurd (omega arith)
 
 -- ---- the numbers of methods
 

@@ -1,41 +1,32 @@
 // The methods that the Rust's `parse_method` knows, numbered in its order from 1.
 #![tactic(auto)]
 
-ghost use Rattle.std.specs.Prelude.{◌≡◌, ◌≤◌, length, take};
+ghost use Rattle.std.specs.Prelude.{◌≡◌, ◌≤◌, length};
 ghost use Rattle.limits.specs.Limits.{rust_limits};
 ghost use Rattle.output.specs.Output.{leaves, written_from};
 ghost use Rattle.methods.specs.Methods.{method_of, is_method, name_of, method_number, method_text, method_from, method_lookup};
 
 use limits::Refusal;
 
-// A method's name: the first `length` of the bytes.
-#[derive(Clone, Copy)]
-pub struct Name {
-    pub bytes: [u8; 9],
-    pub length: usize,
-}
-
 const COUNT: u8 = 14;
 
-// The names in the order of their numbers, filled up with spaces, and their lengths.
-const NAMES: [[u8; 9]; 14] = [
-    *b"INVITE   ",
-    *b"ACK      ",
-    *b"BYE      ",
-    *b"CANCEL   ",
-    *b"REGISTER ",
-    *b"OPTIONS  ",
-    *b"INFO     ",
-    *b"UPDATE   ",
-    *b"MESSAGE  ",
-    *b"PRACK    ",
-    *b"REFER    ",
-    *b"SUBSCRIBE",
-    *b"NOTIFY   ",
-    *b"PUBLISH  ",
+// The names in the order of their numbers.
+const NAMES: [&[u8]; 14] = [
+    b"INVITE",
+    b"ACK",
+    b"BYE",
+    b"CANCEL",
+    b"REGISTER",
+    b"OPTIONS",
+    b"INFO",
+    b"UPDATE",
+    b"MESSAGE",
+    b"PRACK",
+    b"REFER",
+    b"SUBSCRIBE",
+    b"NOTIFY",
+    b"PUBLISH",
 ];
-
-const LENGTHS: [usize; 14] = [6, 3, 3, 6, 8, 7, 4, 6, 7, 5, 5, 9, 6, 7];
 
 // The number of a method's text, letter case ignored, or nothing: 1.
 pub fn method_number(s: &[u8]) -> Result<Option<u8>, Refusal>
@@ -48,6 +39,7 @@ pub fn method_number(s: &[u8]) -> Result<Option<u8>, Refusal>
 }
 
 // The name of a method's number at the front of out: 28, 18.
+// Kept (1): a C caller gives a method by its number, and 28 answers any that is none.
 pub fn method_text(number: u8, out: &mut [u8]) -> Result<usize, Refusal>
     ensures value { result ≡ written_from (method_text number (length out.old)) }
     ensures out_after { out.new ≡ leaves (method_text number (length out.old)) out.old }
@@ -56,13 +48,11 @@ pub fn method_text(number: u8, out: &mut [u8]) -> Result<usize, Refusal>
         return Err(Refusal::InvalidMethod);
     }
     let name = name_of(number);
-    let bytes = name.bytes;
-    let n = name.length;
-    if out.len() < n {
+    if out.len() < name.len() {
         return Err(Refusal::NoRoom);
     }
-    edit::put(out, 0, &bytes[..n]);
-    Ok(n)
+    edit::put(out, 0, name);
+    Ok(name.len())
 }
 
 // The number of a method's text.
@@ -70,9 +60,7 @@ pub fn method_of(s: &[u8]) -> Option<u8>
     ensures { result ≡ method_from (method_of s.now) }
 {
     for number in 1..=COUNT {
-        let name = name_of(number);
-        let bytes = name.bytes;
-        if text::same_text(s, &bytes[..name.length]) {
+        if text::same_text(s, name_of(number)) {
             return Some(number);
         }
     }
@@ -80,6 +68,7 @@ pub fn method_of(s: &[u8]) -> Option<u8>
 }
 
 // Whether a number is a method's.
+// Kept (1): a C caller gives a method by its number, and 28 answers any that is none.
 pub fn is_method(number: u8) -> bool
     ensures { result ≡ is_method number }
 {
@@ -87,14 +76,10 @@ pub fn is_method(number: u8) -> bool
 }
 
 // The name of a method's number.
-pub fn name_of(number: u8) -> Name
+// Kept (1): the number of a method that was taken by its number.
+pub fn name_of(number: u8) -> &'static [u8]
     requires { (1 ≤ number) × (number ≤ 14) }
-    ensures bytes_value { take result.length result.bytes ≡ name_of number }
-    ensures length_value { result.length ≡ length (name_of number) }
+    ensures { result.now ≡ name_of number }
 {
-    let k = (number - 1) as usize;
-    Name {
-        bytes: NAMES[k],
-        length: LENGTHS[k],
-    }
+    NAMES[(number - 1) as usize]
 }

@@ -1,3 +1,4 @@
 pub mod LineLaws
 pub mod LookupLaws
 pub mod TableLaws
+pub mod NamedLaws

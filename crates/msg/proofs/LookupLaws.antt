@@ -6,21 +6,23 @@ use native.Mathlib.Omega.{arith}
 use mathlib.Core.Path.{◌≡◌, refl, sym, ap, subst, ◌∙◌}
 use mathlib.Core.Bool.{Bool, true, false, cond}
 use mathlib.Core.List.{List, [], ◌∷◌}
-use lib.ListN.{length, take, drop, drop_of_length-le, length-drop, length-take}
-use lib.Seq.{drop-cons, drop-drop}
-use lib.Dec.{ltb}
-use borrow.Author.Tests.{lt-ltb, le-ltb, ltb-true, ltb-false}
+use lib.ListN.{length, take, drop, drop_of_length-le, length-drop}
+use lib.Seq.{drop-cons, drop-drop, length-take-le}
+use lib.Dec.{eqb, ltb}
+use borrow.Author.Tests.{eq-eqb, ne_eqb, lt-ltb, le-ltb, ltb-true, ltb-false}
 use Rattle.std.specs.Prelude.{None, Ok, Option, Some}
-use Rattle.text.specs.Text.{trimmed_span, same, Piece}
+use Rattle.text.specs.Text.{same, Piece}
 use Rattle.limits.proofs.Laws.{some_pair}
 use Rattle.limits.specs.Limits.{LimitSet}
 use Rattle.limits.specs.declared.Refusal.TheVariants.{TextTooLong}
 use Rattle.text.specs.Answers.{too_long, span_of, lookup_of, next_of}
+use Rattle.text.specs.Spans.{part_in}
 use Rattle.text.specs.declared.Span.{Span}
 use Rattle.text.proofs.Runs.{drop_part}
 use Rattle.text.proofs.Trimming.{trimmed_at, trimmed_part}
-use Rattle.msg.specs.Block.{line_at, lines_after, HeaderLine, line_of, with_line, tail_of, lines_from, lines_since, first_named, value_of, text_of, part_of, part_place, stop_of, found_of, block_cause, lookup_cause}
-use Rattle.msg.proofs.LineLaws.{line_length}
+use Rattle.msg.specs.Block.{line_at, lines_after, HeaderLine, line_of, with_line, tail_of, lines_from, lines_since, first_named, named, value_of, text_of, stop_of, found_of, block_cause, lookup_cause}
+use Rattle.msg.specs.Lines.{line_read}
+use Rattle.msg.proofs.LineLaws.{line_length, line_fits}
 
 -- ---- nothing but lines
 
@@ -85,28 +87,82 @@ module _ (s : List ℕ) (at : ℕ) where
       let q : at + suc (n + m + 2) ≡ at + (n + m + 3) = omega arith in
       from_line at (drop at s) n m (rw drop_part at e) ∙ rw (drop-drop (suc (n + m + 2)) at s, q)
 
--- ---- the first line of a name
+-- the same as the code reads it, of the part from `at` on
+module _ (s : List ℕ) (at n m : ℕ) (e : line_at (take (length s - at) (drop at s)) ≡ Some (n, m)) where
+  name_fits : n ≤ length (drop at s)
+  name_fits = omega (arith, line_length (drop at s) n m (rw drop_part at e))
 
-module _ (s asked : List ℕ) (at : ℕ) where
-  pub first_done : lines_left s at ≡ [] → first_named asked (lines_left s at) ≡ None
+  value_fits : m ≤ length (drop (n + 1) (drop at s))
+  value_fits = omega (arith, line_length (drop at s) n m (rw drop_part at e), length-drop (n + 1) (drop at s))
+
+  pub read_name : length (take n (take (length s - at) (drop at s))) ≡ n
+  read_name = rw drop_part (length-take-le n (drop at s) name_fits)
+
+  pub read_value : length (take (n + 1 + m - (n + 1)) (drop (n + 1) (take (length s - at) (drop at s)))) ≡ m
+  read_value = rw (drop_part, add-sub_cancel_left) (length-take-le m (drop (n + 1) (drop at s)) value_fits)
+
+  pub left_read : lines_left s at ≡ line_read at (take n (take (length s - at) (drop at s))) (take (n + 1 + m - (n + 1)) (drop (n + 1) (take (length s - at) (drop at s)))) ∷ lines_left s (at + (n + m + 3))
+  left_read = left_line s at n m e ∙ rw (read_name, read_value, drop_part, add-sub_cancel_left)
+
+-- bytes that are no line, or none
+pub left_none : (s : List ℕ) (at : ℕ) → line_at (take (length s - at) (drop at s)) ≡ None → lines_left s at ≡ []
+left_none s at e = by (ltb at (length s)) refl
+  where
+    by : (u : Bool) → ltb at (length s) ≡ u → lines_left s at ≡ []
+    by true h = left_stop s at (ltb-true _ _ h) e
+    by false h = left_done s at (ltb-false _ _ h)
+
+-- where no line is left, the block is one exactly if no byte is left
+pub block_end : (s : List ℕ) (at : ℕ) → at ≤ length s → lines_left s at ≡ [] → lines_after 0 (drop at s) ≡ eqb at (length s)
+block_end s at h e = by (ltb at (length s)) refl (line_at (take (length s - at) (drop at s))) refl
+  where
+    by : (u : Bool) → ltb at (length s) ≡ u → (o : Option (ℕ × ℕ)) → line_at (take (length s - at) (drop at s)) ≡ o → lines_after 0 (drop at s) ≡ eqb at (length s)
+    by true k None q =
+        let l : at < length s = ltb-true _ _ k in
+        let d : at ≡ length s → ⊥ = (λ (x : at ≡ length s). omega arith) in
+        block_stop s at l q ∙ sym (ne_eqb at (length s) d)
+    by true k (Some (n, m)) q = absurd (let x : line_of at (drop at s) n m ∷ lines_left s (at + (n + m + 3)) ≡ [] = sym (left_line s at n m q) ∙ e in let z : ◌≡◌ {A = ℕ} 0 1 = cc in omega arith)
+    by false k o q =
+        let l : length s ≤ at = ltb-false _ _ k in
+        let d : at ≡ length s = omega arith in
+        block_done s at l ∙ sym (eq-eqb at (length s) d)
+
+-- the first of the lines left at a place: where the line after it starts, the others are left
+pub record Turn (s : List ℕ) (at : ℕ) (l : HeaderLine) (ls : List HeaderLine) : Type 0 where
+  pub n : ℕ
+  pub m : ℕ
+  pub read : line_at (take (length s - at) (drop at s)) ≡ Some (n, m)
+  pub is : l ≡ line_of at (drop at s) n m
+  pub next : l.next ≡ at + (n + m + 3)
+  pub others : ls ≡ lines_left s l.next
+  pub fits : at ≤ length s → l.next ≤ length s
+
+pub turned : (s : List ℕ) (at : ℕ) (l : HeaderLine) (ls : List HeaderLine) → lines_left s at ≡ l ∷ ls → Turn s at l ls
+turned s at l ls e = by (line_at (take (length s - at) (drop at s))) refl
+  where
+    by : (o : Option (ℕ × ℕ)) → line_at (take (length s - at) (drop at s)) ≡ o → Turn s at l ls
+    by None q = absurd (let x : [] ≡ l ∷ ls = sym (left_none s at q) ∙ e in let z : ◌≡◌ {A = ℕ} 0 1 = cc in omega arith)
+    by (Some (n, m)) q =
+        let x : line_of at (drop at s) n m ∷ lines_left s (at + (n + m + 3)) ≡ l ∷ ls = sym (left_line s at n m q) ∙ e in
+        let i : line_of at (drop at s) n m ≡ l = cc in
+        let k : at + (n + m + 3) ≡ l.next = ap (λ (f : HeaderLine). f.next) i in
+        let o : lines_left s (at + (n + m + 3)) ≡ ls = cc in
+        record { n = n; m = m; read = q; is = sym i; next = sym k; others = sym o ∙ ap (lines_left s) k; fits = λ h. subst (λ (x : ℕ). x ≤ length s) k (line_fits s at n m h q) }
+
+-- ---- the first line of a name, in lines of which the first is l
+
+module _ (asked : List ℕ) (l : HeaderLine) (ls ms : List HeaderLine) (e : ls ≡ l ∷ ms) where
+  pub first_miss : named asked l.name ≡ false → first_named asked ls ≡ first_named asked ms
   unfolding first_named
-  first_done e = rw e
+  first_miss d = rw (e, d)
 
-  pub first_next : (n m : ℕ) → line_at (take (length s - at) (drop at s)) ≡ Some (n, m) → same (take n (take (length s - at) (drop at s))) asked ≡ false
-      → first_named asked (lines_left s at) ≡ first_named asked (lines_left s (at + (n + m + 3)))
+  pub first_here : named asked l.name ≡ true → first_named asked ls ≡ Some l
   unfolding first_named
-  first_next n m e d = rw (left_line s at n m e, rw drop_part at d)
+  first_here d = rw (e, d)
 
-  -- the line's value is trimmed in the part after the name and the colon
-  pub first_hit : (n m : ℕ) (v : Span) → v ≡ trimmed_span (take (n + 1 + m - (n + 1)) (drop (n + 1) (take (length s - at) (drop at s))))
-      → line_at (take (length s - at) (drop at s)) ≡ Some (n, m) → same (take n (take (length s - at) (drop at s))) asked ≡ true
-      → Some (record { start = at + (n + 1) + v.start; length = v.length }, at + (n + m + 3)) ≡ found_of (first_named asked (lines_left s at))
-  unfolding first_named
-  first_hit n m v p e d = rw (p, left_line s at n m e, rw drop_part at d, drop_part s at, add-sub_cancel_left)
-
-  -- the value's part is no longer than the value
-  pub value_le : (n m : ℕ) → length (take (n + 1 + m - (n + 1)) (drop (n + 1) (take (length s - at) (drop at s)))) ≤ m
-  value_le n m = simp (length-take, add-sub_cancel_left) (omega arith)
+pub first_none : (asked : List ℕ) (ls : List HeaderLine) → ls ≡ [] → first_named asked ls ≡ None
+unfolding first_named
+first_none asked ls e = rw e
 
 -- ---- the lines from a place on
 
@@ -186,14 +242,8 @@ module _ (s : List ℕ) (o : Option HeaderLine) (v : Span) (next : ℕ) (r : Say
   pub said_fits : v.start + v.length ≤ length s
   said_fits = subst (λ (x : Span). x.start + x.length ≤ length s) r.span_is r.placed.fits
 
-  pub said_part : take (v.start + v.length - v.start) (drop v.start s) ≡ part_of (value_of o) s
-  said_part = rw (add-sub_cancel_left, r.is) (ap (λ (x : Span). take x.length (drop x.start s)) (sym r.span_is))
-
-  pub said_place : v.start ≡ part_place (value_of o)
-  said_place = rw r.is (ap (λ (x : Span). x.start) (sym r.span_is))
-
-  pub said_text : take (v.start + v.length - v.start) (drop v.start s) ≡ text_of o
-  said_text = said_part ∙ rw r.is r.placed.there
+  pub said_bytes : part_in s v ≡ text_of o
+  said_bytes = rw r.is (ap (λ (x : Span). part_in s x) (sym r.span_is) ∙ r.placed.there)
 
 pub found_at : (s asked : List ℕ) (at : ℕ) (v : Span) (next : ℕ) → at ≤ length s → found_of (first_named asked (lines_left s at)) ≡ Some (v, next) → Says s (first_named asked (lines_left s at)) v next
 found_at s asked at v next h e = says s (first_named asked (lines_left s at)) v next (λ f. first_placed asked s f (drop at s) 0 at h refl) e
@@ -217,13 +267,10 @@ module _ (L : LimitSet) (block asked : List ℕ) where
 pub no_line : (o : Option HeaderLine) → found_of o ≡ None → value_of o ≡ None
 no_line o e = ap value_of (found_none o e)
 
-pub no_stop : (o : Option HeaderLine) → found_of o ≡ None → stop_of o ≡ None
-no_stop o e = ap stop_of (found_none o e)
-
 pub line_value : (o : Option HeaderLine) (v : Span) (next : ℕ) → found_of o ≡ Some (v, next) → Ok (Some v) ≡ lookup_of (Ok (value_of o))
 line_value None v next e = absurd (let z : ◌≡◌ {A = ℕ} 0 1 = cc in omega arith)
 line_value (Some l) v next e = ap (λ x. Ok (Some x)) (sym (some_pair e).0)
 
-pub line_stop : (o : Option HeaderLine) (v : Span) (next : ℕ) → found_of o ≡ Some (v, next) → Ok (Some (v, next)) ≡ next_of (Ok (stop_of o))
-line_stop None v next e = absurd (let z : ◌≡◌ {A = ℕ} 0 1 = cc in omega arith)
-line_stop (Some l) v next e = ap Ok (sym e)
+pub stop_answer : (o : Option HeaderLine) → Ok (found_of o) ≡ next_of (Ok (stop_of o))
+stop_answer None = refl
+stop_answer (Some l) = refl

@@ -1,7 +1,6 @@
 -- The table of a block's first lines: a line has at most one of the names, and each turn of the reading keeps, for every name, the
 -- first line of it. One law over the name. Assumes nothing.
-use Prim.Native.Nat.{ℕ, zero, suc, ◌+◌, ◌-◌, ◌≤◌, ◌<◌}
-use native.Mathlib.Nat.{add-sub_cancel_left}
+use Prim.Native.Nat.{ℕ, zero, suc, ◌+◌, ◌≤◌, ◌<◌}
 use native.Mathlib.Omega.{arith}
 use mathlib.Core.Path.{◌≡◌, refl, sym, ap, subst, ◌∙◌}
 use mathlib.Core.Bool.{Bool, true, false, cond, not, ◌&&◌, false≢true}
@@ -12,15 +11,14 @@ use borrow.Author.Tests.{eq-eqb, ne_eqb, eqb-true}
 use Rattle.std.specs.Prelude.{Err, None, Ok, Option, Some}
 use Rattle.limits.specs.Outcome.{check_of}
 use Rattle.limits.specs.declared.Refusal.{Refusal}
-use Rattle.text.specs.Text.{alike, lower, same, trimmed_span}
+use Rattle.text.specs.Text.{alike, lower, same}
 use Rattle.text.specs.Answers.{span_of}
 use Rattle.text.specs.declared.Span.{Span}
 use Rattle.text.proofs.Alike.{alike_length}
-use Rattle.text.proofs.Runs.{drop_part}
-use Rattle.msg.specs.Block.{HeaderLine, named, first_named, found_of, line_at, line_of, lines_of, value_of, text_of, value_named}
-use Rattle.msg.specs.Table.{names, name_in, name_at, slot_in, slot_of, tabled, table_of, headers_of, looked_up, or_found, kept, noted, here_of, text_at, value_at, end_of}
+use Rattle.msg.specs.Block.{HeaderLine, named, first_named, found_of, lines_of, value_of, text_of, value_named}
+use Rattle.msg.specs.Table.{names, name_in, name_at, slot_in, slot_of, tabled, table_of, headers_of, looked_up, or_found, kept, noted, text_at, value_at, end_of}
 use Rattle.msg.specs.declared.table.HeaderTable.{HeaderTable}
-use Rattle.msg.proofs.LookupLaws.{lines_left, left_line, Says, found_at}
+use Rattle.msg.proofs.LookupLaws.{Says, found_at}
 
 -- ---- a line has at most one of the names
 
@@ -165,21 +163,10 @@ module _ (t : HeaderTable) where
   pub table_skip : (l : HeaderLine) (ls : List HeaderLine) → 8 ≤ slot_of l.name → table_after t (l ∷ ls) ≡ table_after t ls
   table_skip l ls q = tabled_same _ _ (λ k h. turn (name_at k) l ls (looked_up t k) ∙ ap (λ (u : Bool). or_found (kept u (looked_up t k) (found_of (Some l))) (found_of (first_named (name_at k) ls))) (sym (slot_is l.name k h) ∙ ne_eqb _ _ (λ (e : slot_of l.name ≡ k). omega arith)))
 
--- ---- the reading
-
--- the line that stands first, as the code makes it of the trimmed value
-pub line_here : (s : List ℕ) (at n m : ℕ) (v : Span) → v ≡ trimmed_span (take (n + 1 + m - (n + 1)) (drop (n + 1) s))
-    → Some (record { start = at + (n + 1) + v.start; length = v.length }, at + (n + m + 3)) ≡ here_of at s n m
-line_here s at n m v p = rw (p, add-sub_cancel_left)
-
-module _ (s : List ℕ) (at : ℕ) (t : HeaderTable) (n m : ℕ) (e : line_at (take (length s - at) (drop at s)) ≡ Some (n, m)) where
-  pub left_noted : (k : ℕ) (here : Option (Span × ℕ)) (u : HeaderTable) → k ≡ slot_of (take n (take (length s - at) (drop at s))) → here ≡ here_of at (take (length s - at) (drop at s)) n m → u ≡ noted k here t
-      → table_after t (lines_left s at) ≡ table_after u (lines_left s (at + (n + m + 3)))
-  left_noted k here u p q r = ap (table_after t) (left_line s at n m e) ∙ table_next t (line_of at (drop at s) n m) _ ∙ rw (r, rw drop_part at p, rw drop_part at q)
-
-  pub left_skipped : (k : ℕ) (u : HeaderTable) → k ≡ slot_of (take n (take (length s - at) (drop at s))) → 8 ≤ k → u ≡ t
-      → table_after t (lines_left s at) ≡ table_after u (lines_left s (at + (n + m + 3)))
-  left_skipped k u p h r = ap (table_after t) (left_line s at n m e) ∙ table_skip t (line_of at (drop at s) n m) _ (rw (sym (rw drop_part at p)) h) ∙ rw r
+  -- the same as the code makes it
+  pub table_noted : (l : HeaderLine) (ls : List HeaderLine) (k : ℕ) (here : Option (Span × ℕ)) (u : HeaderTable) → k ≡ slot_of l.name → here ≡ found_of (Some l) → u ≡ noted k here t
+      → table_after t (l ∷ ls) ≡ table_after u ls
+  table_noted l ls k here u p q r = table_next l ls ∙ rw (r, p, q)
 
 -- ---- a line that was looked up stands in the block
 
@@ -218,9 +205,6 @@ found_end name block f e = rw e (end_of_lem name block)
 module _ (f : Option (Span × ℕ)) (v : Span) (next : ℕ) (e : f ≡ Some (v, next)) where
   pub at_fits : (n : ℕ) → end_of f ≤ n → v.start + v.length ≤ n
   at_fits n h = subst (λ (x : Option (Span × ℕ)). end_of x ≤ n) e h
-
-  pub at_text : (s : List ℕ) → take (v.start + v.length - v.start) (drop v.start s) ≡ text_at f s
-  at_text s = rw (e, add-sub_cancel_left)
 
 -- ---- what a reading answers
 

@@ -1,3 +1,4 @@
 pub mod Block
+pub mod Lines
 pub mod Status
 pub mod Table

@@ -9,11 +9,14 @@ ghost use Rattle.text.specs.Answers.{lookup_of, next_of};
 ghost use Rattle.msg.specs.Block.{is_name, line_at, is_block, lines_from, lines_of, lines_since, named, first_named, found_of, part_of, part_place, pointer_at, value_named, block_cause, lookup, lookup_from};
 
 use limits::Refusal;
-use text::Span;
+use lines::Lines;
+use text::{ByteClass, Span, run_length};
 
+mod lines;
 mod status;
 mod table;
 
+pub use lines::Values;
 pub use status::{
     is_client_error, is_error, is_global_failure, is_informational, is_redirection,
     is_server_error, is_success,
@@ -21,6 +24,7 @@ pub use status::{
 pub use table::{HeaderTable, line_value, read_headers};
 
 // The check of a header block: 1, 2.
+// Kept (2): two tests, each with its cause; one function for this and the check of a value would take the second test and say no more.
 pub fn check_block(block: &[u8]) -> Result<(), Refusal>
     ensures { result ≡ check_of (block_cause rust_limits block.now) }
 {
@@ -34,6 +38,7 @@ pub fn check_block(block: &[u8]) -> Result<(), Refusal>
 }
 
 // The value of the first line of a name, letter case ignored: 1, 2.
+// Kept (5): the name is what is asked of the block; the two belong together nowhere else.
 pub fn header(block: &[u8], name: &[u8]) -> Result<Option<Span>, Refusal>
     ensures { result ≡ lookup_of (lookup rust_limits block.now name.now) }
 {
@@ -49,6 +54,7 @@ pub fn header(block: &[u8], name: &[u8]) -> Result<Option<Span>, Refusal>
 
 // The value of the first line of a name that starts at `from` or after it: 1, 2. All lines of a name are had by asking
 // from 0 on, and then from each answered next place on.
+// Kept (5): the name is what is asked of the block; the two belong together nowhere else.
 pub fn next_header(block: &[u8], name: &[u8], from: usize) -> Result<Option<(Span, usize)>, Refusal>
     ensures { result ≡ next_of (lookup_from rust_limits block.now name.now from) }
 {
@@ -57,14 +63,12 @@ pub fn next_header(block: &[u8], name: &[u8], from: usize) -> Result<Option<(Spa
     }
     check_block(block)?;
     let at = line_since(block, from);
-    let Some((v, next)) = find_from(block, at, name) else {
-        return Ok(None);
-    };
-    Ok(Some((v, next)))
+    Ok(find_from(block, at, name))
 }
 
 // The value of the first line of a name as a part of the block; the empty part at its front where there is no such line. The first promise is
 // where the part starts, the second its bytes, and so its length.
+// Kept (5): the name is what is asked of the block; the two belong together nowhere else.
 pub fn header_value<'a>(block: &'a [u8], name: &[u8]) -> &'a [u8]
     ensures ref_ptr_value { result.ref_ptr ≡ pointer_at block.entry.ref_ptr (part_place (value_named name.now block.now)) }
     ensures result_value { result.now ≡ part_of (value_named name.now block.now) block.now }
@@ -78,6 +82,7 @@ pub fn header_value<'a>(block: &'a [u8], name: &[u8]) -> &'a [u8]
 }
 
 // The first line of a name, in bytes that need not be a block: up to the first line that is none.
+// Kept (5): the name is what is asked of the block; the two belong together nowhere else.
 pub fn find(block: &[u8], name: &[u8]) -> Option<(Span, usize)>
     ensures { result ≡ found_of (first_named name.now (lines_of block.now)) }
 {
@@ -89,21 +94,10 @@ pub fn find_from(block: &[u8], from: usize, name: &[u8]) -> Option<(Span, usize)
     requires { from ≤ length block.now }
     ensures { result ≡ found_of (first_named name.now (lines_from 0 from (drop from block.now))) }
 {
-    let mut at = from;
-    while at < block.len() {
-        let rest = &block[at..];
-        let (n, m) = read_line(rest)?;
-        if is_named(&rest[..n], name) {
-            let v = text::trim_span(&rest[n + 1..n + 1 + m]);
-            return Some((
-                Span {
-                    start: at + (n + 1) + v.start,
-                    length: v.length,
-                },
-                at + (n + m + 3),
-            ));
+    for line in (Lines { block, at: from }) {
+        if is_named(line.name, name) {
+            return Some(line.found());
         }
-        at = at + (n + m + 3);
     }
     None
 }
@@ -121,14 +115,11 @@ fn line_since(block: &[u8], from: usize) -> usize
     ensures upper_bound { result ≤ length block.now }
 {
     let mut at = 0;
-    while at < from {
-        if at == block.len() {
+    for line in (Lines { block, at: 0 }) {
+        if from <= at {
             return at;
         }
-        let Some((n, m)) = read_line(&block[at..]) else {
-            return at;
-        };
-        at = at + (n + m + 3);
+        at = line.end();
     }
     at
 }
@@ -137,14 +128,11 @@ fn line_since(block: &[u8], from: usize) -> usize
 fn is_block(block: &[u8]) -> bool
     ensures { result ≡ is_block block.now }
 {
-    let mut at = 0;
-    while at < block.len() {
-        let Some((n, m)) = read_line(&block[at..]) else {
-            return false;
-        };
-        at = at + (n + m + 3);
+    let mut end = 0;
+    for line in (Lines { block, at: 0 }) {
+        end = line.end();
     }
-    true
+    end == block.len()
 }
 
 // The line at the front.
@@ -180,14 +168,20 @@ fn name_length(s: &[u8]) -> usize
     ensures value { result ≡ span is_name s.now }
     ensures upper_bound { result ≤ length s.now }
 {
-    let mut i = 0;
-    while i < s.len() {
-        if !is_name(s[i]) {
-            return i;
-        }
-        i += 1;
+    run_length(s, &NameByte {})
+}
+
+// The bytes that a name may have.
+#[derive(Clone, Copy)]
+struct NameByte {}
+
+impl ByteClass for NameByte {
+    ghost test = { λ _ b. is_name b };
+
+    // Kept (5): the parameters are the trait's.
+    fn has(&self, b: u8) -> bool {
+        is_name(b)
     }
-    i
 }
 
 // Whether a name may have this byte: a letter, a digit or `-`.

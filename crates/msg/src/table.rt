@@ -4,7 +4,8 @@ ghost use Rattle.limits.specs.Limits.{rust_limits};
 ghost use Rattle.msg.specs.Block.{lines_of, block_cause, named};
 ghost use Rattle.msg.specs.Table.{slot_of, kept, noted, table_of, headers_of, here_of, text_at, end_of};
 
-use super::{is_named, read_line};
+use crate::is_named;
+use crate::lines::Lines;
 use limits::Refusal;
 use text::Span;
 
@@ -29,22 +30,22 @@ pub fn read_headers(block: &[u8]) -> Result<HeaderTable, Refusal>
         return Err(Refusal::TextTooLong);
     }
     let mut t = empty_table();
-    let mut at = 0;
-    while at < block.len() {
-        let rest = &block[at..];
-        let Some((n, m)) = read_line(rest) else {
-            return Err(Refusal::Malformed);
-        };
-        let k = slot_of(&rest[..n]);
+    let mut end = 0;
+    for line in (Lines { block, at: 0 }) {
+        let k = slot_of(line.name);
         if k < 8 {
-            t = note(t, k, line_found(rest, at, n, m));
+            t = note(t, k, Some(line.found()));
         }
-        at = at + (n + m + 3);
+        end = line.end();
+    }
+    if end < block.len() {
+        return Err(Refusal::Malformed);
     }
     Ok(t)
 }
 
 // The value of a line that was looked up, as the block's own bytes, none where there is no line.
+// Kept (5): the line is one of many that a table holds of the same block; a struct of both would be made at each call and taken apart in it.
 pub fn line_value<'a>(block: &'a [u8], line: Option<(Span, usize)>) -> &'a [u8]
     requires { end_of line ≤ length block.now }
     ensures { result.now ≡ text_at line block.now }
@@ -52,9 +53,7 @@ pub fn line_value<'a>(block: &'a [u8], line: Option<(Span, usize)>) -> &'a [u8]
     let Some((v, _)) = line else {
         return &block[..0];
     };
-    let a = v.start;
-    let e = a + v.length;
-    &block[a..e]
+    v.text(block)
 }
 
 fn empty_table() -> HeaderTable
@@ -70,21 +69,6 @@ fn empty_table() -> HeaderTable
         rseq: None,
         record_route: None,
     }
-}
-
-// The line with a name of n bytes and a value of m that stands first, as a look-up answers it.
-fn line_found(rest: &[u8], at: usize, n: usize, m: usize) -> Option<(Span, usize)>
-    requires { (n + m + 3 ≤ length rest.now) × (at + length rest.now ≤ 8192) }
-    ensures { result ≡ here_of at rest.now n m }
-{
-    let v = text::trim_span(&rest[n + 1..n + 1 + m]);
-    Some((
-        Span {
-            start: at + (n + 1) + v.start,
-            length: v.length,
-        },
-        at + (n + m + 3),
-    ))
 }
 
 // The table with a line of the k-th name: the first line of a name stays.
@@ -170,6 +154,7 @@ fn slot_of_four(name: &[u8]) -> usize
 }
 
 // Of a name of seven bytes.
+// Kept (2): two names with their places; what has the same shape elsewhere asks for other texts and answers another thing.
 fn slot_of_seven(name: &[u8]) -> usize
     requires { length name.now ≡ 7 }
     ensures { result ≡ slot_of name.now }

@@ -7,12 +7,13 @@ use mathlib.Core.List.{List, [], ◌∷◌}
 use lib.ListN.{length, drop, length-drop, drop_of_length-le}
 use Rattle.std.specs.Prelude.{None, Option, Some}
 use Rattle.ordered_store.specs.Entries.{entry_before, entries_on, entries_in, ascending_from, only_ascending, decode_entries}
+use Rattle.ordered_store.specs.Layout.{Layout, places_read}
 use Rattle.ordered_store.specs.Order.{key_order, is_before}
 use Rattle.ordered_store.specs.Places.{count_of}
 use Rattle.ordered_store.proofs.BytesLaws.{entries_step, entries_ended}
-use Rattle.ordered_store.proofs.PlaceLaws.{Layout, Here, Got}
+use Rattle.ordered_store.proofs.PlaceLaws.{broken_says, Here, Got}
 
-module _ {A : Type 0} (F : Layout A) where
+module _ {A P : Type 0} (F : Layout A P) where
   -- what is asked, once n entries are counted and the last of them is v: whether the rest are entries in order after it
   abbrev onward : A → ℕ → Option (List A) → Option ℕ
   onward v n None = None
@@ -52,7 +53,7 @@ module _ {A : Type 0} (F : Layout A) where
     asked = count_of (decode_entries F.form F.key_of s)
 
     -- the state of the loop: the last entry read, at a place before
-    pub record Counting (last : F.Places) (n : ℕ) : Type 0 where
+    pub record Counting (last : P) (n : ℕ) : Type 0 where
       pub at : ℕ
       pub value : A
       pub is : Here F s at last value
@@ -68,11 +69,11 @@ module _ {A : Type 0} (F : Layout A) where
       unfolding decode_entries
       opened = ap (only_ascending F.key_of) (entries_step F.form (length s) s h (omega arith))
 
-      pub first_broken : F.answer_of 0 (F.form.read (drop 0 s)) ≡ F.broken → None ≡ asked
+      pub first_broken : places_read F 0 (F.form.read (drop 0 s)) ≡ None → None ≡ asked
       first_broken e =
-          sym (ap count_of opened ∙ ap (λ o. count_of (only_ascending F.key_of (entries_on o (λ u. entries_in F.form (length s - 1) u)))) (F.broken_says 0 (F.form.read (drop 0 s)) e))
+          sym (ap count_of opened ∙ ap (λ o. count_of (only_ascending F.key_of (entries_on o (λ u. entries_in F.form (length s - 1) u)))) (broken_says F 0 (F.form.read (drop 0 s)) e))
 
-      pub start : {p : F.Places} → Got F s 0 p → Counting p 1
+      pub start : {p : P} → Got F s 0 p → Counting p 1
       start {p} g = record {
         at = 0;
         value = g.value;
@@ -86,7 +87,7 @@ module _ {A : Type 0} (F : Layout A) where
 
     -- ---- a turn
 
-    module _ (last : F.Places) (n : ℕ) (g : Counting last n) where
+    module _ (last : P) (n : ℕ) (g : Counting last n) where
       -- the bytes are passed: all are counted
       pub all_counted : length s ≤ F.end_of last → Some n ≡ asked
       unfolding ascending_from
@@ -99,11 +100,11 @@ module _ {A : Type 0} (F : Layout A) where
             g.same
             ∙ ap (onward g.value n) (entries_step F.form g.fuel (drop (F.end_of last) s) (omega (arith, length-drop (F.end_of last) s)) (omega (arith, length-drop (F.end_of last) s, g.enough)))
 
-        pub next_broken : F.answer_of (F.end_of last) (F.form.read (drop (F.end_of last) s)) ≡ F.broken → None ≡ asked
+        pub next_broken : places_read F (F.end_of last) (F.form.read (drop (F.end_of last) s)) ≡ None → None ≡ asked
         next_broken e =
-            sym (next_is ∙ ap (λ o. onward g.value n (entries_on o (λ u. entries_in F.form (g.fuel - 1) u))) (F.broken_says (F.end_of last) (F.form.read (drop (F.end_of last) s)) e))
+            sym (next_is ∙ ap (λ o. onward g.value n (entries_on o (λ u. entries_in F.form (g.fuel - 1) u))) (broken_says F (F.end_of last) (F.form.read (drop (F.end_of last) s)) e))
 
-        module _ {p : F.Places} (q : Got F s (F.end_of last) p) where
+        module _ {p : P} (q : Got F s (F.end_of last) p) where
           read_is : asked ≡ onward g.value n (entry_before q.value (entries_in F.form (g.fuel - 1) (drop (F.end_of p) s)))
           read_is = next_is ∙ ap (λ o. onward g.value n (entries_on o (λ u. entries_in F.form (g.fuel - 1) u))) q.reads
 

@@ -161,23 +161,6 @@ key_transitive (s ∷ k) (t ∷ l) (u ∷ m) d e =
     (λ p. ap (λ z. order s z) (sym (order_equal t u p)))
     (key_transitive k l m) d e
 
--- ---- a key's first text
-
-module _ (s t : List ℕ) (k l : List (List ℕ)) where
-  -- where the first texts differ, they decide
-  pub first_before : order s t ≡ Less → key_order (s ∷ k) (t ∷ l) ≡ Less
-  unfolding key_order
-  first_before e = ap (λ o. or_next o (key_order k l)) e
-
-  pub first_after : order s t ≡ Greater → key_order (s ∷ k) (t ∷ l) ≡ Greater
-  unfolding key_order
-  first_after e = ap (λ o. or_next o (key_order k l)) e
-
-  -- where they are the same, the others decide
-  pub first_same : order s t ≡ Equal → key_order (s ∷ k) (t ∷ l) ≡ key_order k l
-  unfolding key_order
-  first_same e = ap (λ o. or_next o (key_order k l)) e
-
 -- a key of one text
 pub one_text : (s t : List ℕ) → key_order (s ∷ []) (t ∷ []) ≡ order s t
 unfolding key_order

@@ -35,9 +35,6 @@ module _ {A : Type 0} (form : Codec A) (key_of : A → Key) where
   module _ (k : Key) (bytes : List ℕ) (used : ℕ) where
     -- ---- the answer
 
-    pub over_lent : length bytes < used → None ≡ slot_used form key_of k bytes used
-    over_lent h = rw (lt-ltb (length bytes) used h)
-
     pub in_used : used ≤ length bytes → slot_read form key_of k (decode_entries form key_of (take used bytes)) ≡ slot_used form key_of k bytes used
     in_used h = rw (le-ltb (length bytes) used h)
 

@@ -1,6 +1,7 @@
 pub mod Answers
 pub mod Entries
 pub mod History
+pub mod Layout
 pub mod Order
 pub mod Places
 pub mod Run

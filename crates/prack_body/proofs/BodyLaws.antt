@@ -5,7 +5,7 @@ use mathlib.Core.Path.{◌≡◌, refl, sym, ap, ap₂, subst, ◌∙◌}
 use mathlib.Core.Bool.{Bool, true, false, cond}
 use mathlib.Core.List.{List, [], ◌∷◌, ◌++◌, append_assoc}
 use lib.ListN.{length, take, drop, get_or, set, length-drop, length-append, take-append-drop}
-use lib.Seq.{drop-drop, get_or-drop, take_at, drop_at, take_all}
+use lib.Seq.{drop-drop, get_or-drop, take_at, drop_at, take_all, length-take-le}
 use lib.Dec.{leb}
 use borrow.Author.Tests.{leb-true, leb-false}
 use Rattle.std.specs.Prelude.{None, Option, Some}
@@ -129,6 +129,18 @@ module _ {bytes : List ℕ} {n : ℕ} {t : Tracked} (h : Holds bytes n t) where
 -- an array of a body and other bytes holds what the body says
 pub hold : {bytes : List ℕ} {n : ℕ} {t : Tracked} (rest : List ℕ) → TrackedFormed rust_limits t → bytes ≡ body_of t ++ rest → n ≡ length (body_of t) → Holds bytes n t
 hold {bytes} {n} {t} rest f e l = record { formed = f; long = l; are = ap (take n) e ∙ take_at (body_of t) rest n (sym l) }
+
+-- the body alone, without the bytes behind it
+pub alone : {bytes : List ℕ} {n : ℕ} {t : Tracked} → Holds bytes n t → Holds (take n bytes) (length (take n bytes)) t
+alone {bytes} {n} h = record { formed = h.formed; long = ap length h.are; are = take_all (length (take n bytes)) (take n bytes) (omega arith) ∙ h.are }
+
+-- a body that is all of an array
+pub all_of : {bytes : List ℕ} {n : ℕ} {t : Tracked} → Holds bytes n t → length bytes ≡ n → bytes ≡ body_of t
+all_of {bytes} {n} h e = sym (take_all n bytes (omega (arith, e))) ∙ h.are
+
+-- a body that was changed on its own, put back in front of the others
+pub put_back : {held mid : List ℕ} {n : ℕ} {t u : Tracked} (rest : List ℕ) → Holds mid n u → Holds held (length (take n mid)) t → length held ≡ length (take n mid) → take n (held ++ rest) ≡ body_of t
+put_back {held} {mid} {n} rest h g e = take_at held rest n (e ∙ length-take-le n mid (holds_within h)) ∙ all_of g e
 
 -- another time
 pub retimed : {bytes : List ℕ} {n : ℕ} {t : Tracked} (time : ℕ) → time < 18446744073709551616 → Holds bytes n t → Holds (put_at 0 (eight.write time) bytes) n (record { id = t.id; cleaned_at = time; list = t.list })

@@ -6,15 +6,15 @@ use mathlib.Core.Bool.{Bool, true, false, true≢false}
 use mathlib.Core.List.{List, ◌∷◌, ◌++◌}
 use lib.ListN.{length, drop, get_or, length-drop, length-append}
 use lib.Dec.{leb, eqb}
-use borrow.Author.Tests.{le-leb, lt-leb, leb-true}
+use borrow.Author.Tests.{le-leb, leb-true}
 use Rattle.std.specs.Prelude.{None, Option, Some}
 use Rattle.limits.specs.Limits.{rust_limits}
 use Rattle.text.specs.declared.Span.{Span}
-use Rattle.codec.specs.Codec.{Reading, text, in_front, passing, renamed, read_all, write_all, eight}
+use Rattle.codec.specs.Codec.{Reading, in_front, passing, renamed, read_all, write_all, eight}
 use Rattle.codec.proofs.CodecLaws.{Bytes, counted_exact}
 use Rattle.methods.specs.Methods.{is_method}
 use Rattle.codec.proofs.AnswerLaws.{TextGot}
-use Rattle.codec.proofs.ReadLaws.{byte_at, byte_none, two_at, four_at_lem, eight_none}
+use Rattle.codec.proofs.ReadLaws.{byte_at, two_at, four_at_lem, eight_none}
 use Rattle.prack_body.specs.Lists.{Pending}
 use Rattle.prack_body.specs.Layout.{is_bit, pending_form, is_short, list_form, tracked_form}
 use Rattle.prack_body.specs.Places.{is_read, list_places, list_from, tracked_from}
@@ -89,6 +89,10 @@ module _ (s : List ℕ) (i count at : ℕ) where
       let k : count - i ≡ 0 = omega arith in
       rw k
 
+-- the next entry begins where one ends
+pub next_place : (s : List ℕ) (first i count : ℕ) → is_read (read_all pending_form (count - (i + 1)) (drop (first + i * 20 + 20) s)) ≡ is_read (read_all pending_form (count - (i + 1)) (drop (first + (i + 1) * 20) s))
+next_place s first i count = let k : first + i * 20 + 20 ≡ first + (i + 1) * 20 = omega arith in rw k
+
 -- so many entries as were asked for, and their bytes
 pub entries_read : (n : ℕ) (s : List ℕ) (x : Reading (List Pending)) → n < 256 → Bytes s → read_all pending_form n s ≡ Some x → (length x.value ≡ n) × (n * 20 ≤ length s)
 entries_read n s x l h e =
@@ -101,24 +105,8 @@ entries_read n s x l h e =
 -- ---- a list
 
 module _ (s : List ℕ) (at : ℕ) where
-  -- no byte
-  pub list_none : length s ≡ at → None ≡ list_from at ((list_form rust_limits).read (drop at s))
-  list_none e = rw (byte_none s at e)
-
   module _ (h : at < length s) where
-    -- 0: no list
-    pub list_absent : get_or s at 0 ≡ 0 → Some (record { has_list = false; count = 0; first = at + 1; end = at + 1 }) ≡ list_from at ((list_form rust_limits).read (drop at s))
-    list_absent e = rw (byte_at s at h, e)
-
-    -- neither 0 nor 1
-    pub list_other : (get_or s at 0 ≡ 0 → ⊥) → (get_or s at 0 ≡ 1 → ⊥) → None ≡ list_from at ((list_form rust_limits).read (drop at s))
-    list_other y z = rw (byte_at s at h, lt-leb (get_or s at 0) 1 (omega arith))
-
     module _ (one : get_or s at 0 ≡ 1) where
-      -- no count byte
-      pub list_short : length s - at < 2 → None ≡ list_from at ((list_form rust_limits).read (drop at s))
-      list_short l = rw (byte_at s at h, one, byte_none s (at + 1) (omega arith))
-
       module _ (l : at + 2 ≤ length s) {count : ℕ} (c : count ≡ get_or s (at + 1) 0) (small : count < 256) (b : Bytes (drop (at + 2) s)) where
         abbrev entries : Option (Reading (List Pending))
         entries = read_all pending_form count (drop (at + 2) s)
@@ -147,15 +135,11 @@ module _ (s : List ℕ) (at : ℕ) where
         pub list_cut : length s - at - 2 < count * 20 → None ≡ list_from at ((list_form rust_limits).read (drop at s))
         list_cut m = unless (λ x e t. omega (arith, (entries_read count (drop (at + 2) s) x small b e).1, length-drop (at + 2) s))
 
-        -- an entry that is none
-        pub list_unfit : is_read entries ≡ false → None ≡ list_from at ((list_form rust_limits).read (drop at s))
-        list_unfit u = unless (λ x e t. true≢false (ap is_read (sym e) ∙ u))
-
         -- a list
-        pub list_whole : count ≤ 10 → is_read entries ≡ true → Some (record { has_list = true; count = count; first = at + 2; end = at + 2 + count * 20 }) ≡ list_from at ((list_form rust_limits).read (drop at s))
+        pub list_whole : count ≤ 10 → is_read entries ≡ true → Some (record { entries = Some (record { count = count; first = at + 2 }); end = at + 2 + count * 20 }) ≡ list_from at ((list_form rust_limits).read (drop at s))
         list_whole m u = by entries refl ∙ sym reads
           where
-            by : (o : Option (Reading (List Pending))) → entries ≡ o → Some (record { has_list = true; count = count; first = at + 2; end = at + 2 + count * 20 }) ≡ list_from at (renamed Some (passing (is_short rust_limits) o))
+            by : (o : Option (Reading (List Pending))) → entries ≡ o → Some (record { entries = Some (record { count = count; first = at + 2 }); end = at + 2 + count * 20 }) ≡ list_from at (renamed Some (passing (is_short rust_limits) o))
             by None e = absurd (true≢false (sym u ∙ ap is_read e))
             by (Some x) e =
                 let k : length x.value ≡ count = (entries_read count (drop (at + 2) s) x small b e).0 in
@@ -186,10 +170,6 @@ list_not s at e = by ((list_form rust_limits).read (drop at s)) e
     by (Some x) q = absurd (let z : ◌≡◌ {A = ℕ} 0 1 = cc in omega arith)
 
 module _ (s : List ℕ) (at : ℕ) where
-  -- a text that can't be read
-  pub held_text : text.read (drop at s) ≡ None → None ≡ tracked_from at ((tracked_form rust_limits).read (drop at s))
-  held_text e = rw e
-
   module _ {i : Span} (g : TextGot s at i) where
     abbrev time_at : ℕ
     time_at = i.start + i.length
@@ -205,9 +185,9 @@ module _ (s : List ℕ) (at : ℕ) where
 
       -- all of it
       pub held_whole : {p : ListAt} → Some p ≡ list_from (time_at + 8) ((list_form rust_limits).read (drop (time_at + 8) s))
-          → Some (record { id = i; cleaned_at = time; has_list = p.has_list; count = p.count; first = p.first; end = p.end }) ≡ tracked_from at ((tracked_form rust_limits).read (drop at s))
+          → Some (record { id = i; cleaned_at = time; entries = p.entries; end = p.end }) ≡ tracked_from at ((tracked_form rust_limits).read (drop at s))
       held_whole {p} q =
           let l = list_got s (time_at + 8) p q in
           let k : p ≡ list_places (at + 2 + length g.value + 8) l.reading.value = l.placed ∙ ap (λ (x : Span). list_places (x.start + x.length + 8) l.reading.value) g.placed in
           rw (g.got.reads, f, l.reads)
-          (ap₂ (λ (x : Span) (y : ListAt). Some (record { id = x; cleaned_at = time; has_list = y.has_list; count = y.count; first = y.first; end = y.end })) g.placed k)
+          (ap₂ (λ (x : Span) (y : ListAt). Some (record { id = x; cleaned_at = time; entries = y.entries; end = y.end })) g.placed k)

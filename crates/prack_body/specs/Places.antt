@@ -1,5 +1,5 @@
 -- Steps of the code: where the parts lie of what is held for one identifier text, read at a place of lent bytes. What the parts are is `tracked_form.read`
--- alone (specs/Layout.antt); here are only their places. Where no list stands, its entries would begin past the byte that says so.
+-- alone (specs/Layout.antt); here are only their places.
 use Rattle.std.specs.Prelude.{ℕ, ◌+◌, ◌*◌, Bool, true, false, List, length, None, Option, Some}
 use Rattle.codec.specs.Codec.{Reading}
 use Rattle.prack_body.specs.Lists.{Pending, Tracked}
@@ -13,8 +13,8 @@ is_read (Some x) = true
 
 -- the list whose first byte lies at the place
 abbrev pub list_places : ℕ → Option (List Pending) → ListAt
-list_places at None = record { has_list = false; count = 0; first = at + 1; end = at + 1 }
-list_places at (Some ps) = record { has_list = true; count = length ps; first = at + 2; end = at + 2 + length ps * 20 }
+list_places at None = record { entries = None; end = at + 1 }
+list_places at (Some ps) = record { entries = Some (record { count = length ps; first = at + 2 }); end = at + 2 + length ps * 20 }
 
 abbrev pub list_from : ℕ → Option (Reading (Option (List Pending))) → Option ListAt
 list_from at None = None
@@ -27,9 +27,7 @@ tracked_places at t =
     record {
       id = record { start = at + 2; length = length t.id };
       cleaned_at = t.cleaned_at;
-      has_list = l.has_list;
-      count = l.count;
-      first = l.first;
+      entries = l.entries;
       end = l.end;
     }
 

@@ -40,12 +40,17 @@ pub const BODY_ROOM: usize = ENTRIES_AT + Limits::MAX_PENDING_PRACK_PER_DIALOG *
 // The bytes of a list before its entries.
 const LIST_HEAD: usize = ENTRIES_AT - LIST_AT;
 
-// Where a list lies: how many entries it has, where they begin and where they end.
+// Where the entries of a list lie: how many there are, and where the first begins.
 #[derive(Clone, Copy)]
-pub struct ListAt {
-    pub has_list: bool,
+pub struct EntriesAt {
     pub count: usize,
     pub first: usize,
+}
+
+// Where a list lies: its entries, if one stands, and where it ends.
+#[derive(Clone, Copy)]
+pub struct ListAt {
+    pub entries: Option<EntriesAt>,
     pub end: usize,
 }
 
@@ -54,13 +59,12 @@ pub struct ListAt {
 pub struct TrackedAt {
     pub id: Span,
     pub cleaned_at: u64,
-    pub has_list: bool,
-    pub count: usize,
-    pub first: usize,
+    pub entries: Option<EntriesAt>,
     pub end: usize,
 }
 
 // What is held, whose text begins with its length bytes at a place.
+// Kept (5): the places that are answered are those of all the bytes.
 pub fn read_tracked(bytes: &[u8], at: usize) -> Option<TrackedAt>
     requires { at ≤ length bytes.now }
     ensures { result ≡ tracked_from at ((tracked_form rust_limits).read (drop at bytes.now)) }
@@ -75,14 +79,13 @@ pub fn read_tracked(bytes: &[u8], at: usize) -> Option<TrackedAt>
     Some(TrackedAt {
         id,
         cleaned_at,
-        has_list: l.has_list,
-        count: l.count,
-        first: l.first,
+        entries: l.entries,
         end: l.end,
     })
 }
 
 // A byte that says whether a list stands, then its count byte and its entries.
+// Kept (5): the places that are answered are those of all the bytes.
 fn read_list(bytes: &[u8], at: usize) -> Option<ListAt>
     requires { at ≤ length bytes.now }
     ensures { result ≡ list_from at ((list_form rust_limits).read (drop at bytes.now)) }
@@ -93,9 +96,7 @@ fn read_list(bytes: &[u8], at: usize) -> Option<ListAt>
     let stands = bytes[at];
     if stands == 0 {
         return Some(ListAt {
-            has_list: false,
-            count: 0,
-            first: at + 1,
+            entries: None,
             end: at + 1,
         });
     }
@@ -112,14 +113,13 @@ fn read_list(bytes: &[u8], at: usize) -> Option<ListAt>
     if bytes.len() - at - LIST_HEAD < count * ENTRY_SIZE {
         return None;
     }
-    if !are_entries(bytes, at + LIST_HEAD, count) {
+    let first = at + LIST_HEAD;
+    if !are_entries(bytes, first, count) {
         return None;
     }
     Some(ListAt {
-        has_list: true,
-        count,
-        first: at + LIST_HEAD,
-        end: at + LIST_HEAD + count * ENTRY_SIZE,
+        entries: Some(EntriesAt { count, first }),
+        end: first + count * ENTRY_SIZE,
     })
 }
 
@@ -128,17 +128,14 @@ fn are_entries(bytes: &[u8], first: usize, count: usize) -> bool
     requires { (count ≤ rust_limits.pending) × (first + count * 20 ≤ length bytes.now) }
     ensures { result ≡ is_read (read_all pending_form count (drop first bytes.now)) }
 {
-    let mut at = first;
-    let mut read = 0;
-    while read < count {
+    for read in 0..count {
+        let at = first + read * ENTRY_SIZE;
         if !methods::is_method(bytes[at + METHOD_AT]) {
             return false;
         }
         if 1 < bytes[at + ACKNOWLEDGED_AT] {
             return false;
         }
-        at += ENTRY_SIZE;
-        read += 1;
     }
     true
 }

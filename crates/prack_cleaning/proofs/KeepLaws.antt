@@ -11,16 +11,13 @@ use Rattle.std.specs.Prelude.{None, Option, Some}
 use Rattle.limits.specs.Limits.{rust_limits}
 use Rattle.edit.specs.Edit.{put_at}
 use Rattle.codec.specs.Codec.{write_all, eight}
-use Rattle.prack_body.specs.Lists.{Pending, Tracked, staying, cleaned, cleaned_list, without_pracked, with_list}
+use Rattle.prack_body.specs.Lists.{Pending, Tracked, stays, staying, cleaned, cleaned_list, is_other, without_pracked, with_list}
 use Rattle.prack_body.specs.Layout.{pending_form, PendingFormed, AllFormed, TrackedFormed}
 use Rattle.prack_body.specs.Body.{body_of, Holds, Kept}
-use Rattle.prack_staying.specs.Test.{test_of}
 use Rattle.prack_cleaning.specs.KeptList.{kept_list}
-use Rattle.prack_staying.specs.declared.Test.{Test}
-use Rattle.prack_staying.specs.declared.Test.TheVariants as tests
 use Rattle.prack_body.proofs.LayoutLaws.{entries_size}
 use Rattle.prack_body.proofs.BytesLaws.{take_put, drop_put, more_bytes}
-use Rattle.prack_body.proofs.BodyLaws.{whole, count_is, none_size, list_size, list_few, list_good, entries_lie, hold, staying_formed, staying_short}
+use Rattle.prack_body.proofs.BodyLaws.{whole, count_is, none_size, list_few, list_good, entries_lie, hold, staying_formed, staying_short}
 
 -- ---- the loop
 
@@ -109,47 +106,39 @@ module _ (test : Pending → Bool) (s₀ rest : List ℕ) (ps : List Pending) wh
 
 -- ---- what is held, with fewer entries
 
-keeps_formed : (which : Test) (t : Tracked) (ps : List Pending) → TrackedFormed rust_limits t → AllFormed ps → length ps ≤ 10 → TrackedFormed rust_limits (with_list (Some (staying (test_of which) ps)) t)
-keeps_formed which t ps f g l = record {
+keeps_formed : (test : Pending → Bool) (t : Tracked) (ps : List Pending) → TrackedFormed rust_limits t → AllFormed ps → length ps ≤ 10 → TrackedFormed rust_limits (with_list (Some (staying test ps)) t)
+keeps_formed test t ps f g l = record {
   id_short = f.id_short;
   time_fits = f.time_fits;
-  list_formed = (staying_formed (test_of which) ps g, le-leb (length (staying (test_of which) ps)) 10 (omega (arith, staying_short (test_of which) ps)));
+  list_formed = (staying_formed test ps g, le-leb (length (staying test ps)) 10 (omega (arith, staying_short test ps)));
 }
 
-module _ {s : List ℕ} {n : ℕ} {t : Tracked} (h : Holds s n t) (which : Test) where
-  -- without a list nothing changes
-  pub kept_none : n < 10 → Holds s n (with_list (kept_list which t.list) t)
-  kept_none l = by t.list refl
-    where
-      by : (o : Option (List Pending)) → t.list ≡ o → Holds s n (with_list (kept_list which t.list) t)
-      by None e = subst (λ (x : Option (List Pending)). Holds s n (with_list (kept_list which x) t)) (sym e) (subst (λ (x : Option (List Pending)). Holds s n (with_list x t)) e h)
-      by (Some ps) e = absurd (omega (arith, list_size h ps e))
-
+module _ {s : List ℕ} {n : ℕ} {t : Tracked} (h : Holds s n t) (test : Pending → Bool) where
   -- the entries that stay, and their count
-  pub kept_list_lem : 10 ≤ n → {k : ℕ} {o : List ℕ} → ((ps : List Pending) (rest : List ℕ) → AllFormed ps → (n - 10) / 20 ≡ length ps → drop 10 s ≡ write_all pending_form ps ++ rest → Kept s (staying (test_of which) ps) o k)
-      → Holds (set o 9 k) (10 + k * 20) (with_list (kept_list which t.list) t)
+  pub kept_list_lem : 10 ≤ n → {k : ℕ} {o : List ℕ} → ((ps : List Pending) (rest : List ℕ) → AllFormed ps → (n - 10) / 20 ≡ length ps → drop 10 s ≡ write_all pending_form ps ++ rest → Kept s (staying test ps) o k)
+      → Holds (set o 9 k) (10 + k * 20) (with_list (kept_list test t.list) t)
   kept_list_lem l {k} {o} f = by t.list refl
     where
-      by : (x : Option (List Pending)) → t.list ≡ x → Holds (set o 9 k) (10 + k * 20) (with_list (kept_list which t.list) t)
+      by : (x : Option (List Pending)) → t.list ≡ x → Holds (set o 9 k) (10 + k * 20) (with_list (kept_list test t.list) t)
       by None e = absurd (omega (arith, none_size h e))
       by (Some ps) e =
           let g = f ps (drop n s) (list_good h ps e) (count_is h ps e) (entries_lie h ps e) in
           let w = whole h (Some ps) e in
-          let kps = staying (test_of which) ps in
+          let kps = staying test ps in
           let a : o ≡ (take 10 s ++ write_all pending_form kps) ++ drop (10 + k * 20) o = sym (take-append-drop (10 + k * 20) o) ∙ ap (λ (z : List ℕ). z ++ drop (10 + k * 20) o) g.are in
           let b : o ≡ eight.write t.cleaned_at ++ (1 ∷ length ps ∷ (write_all pending_form kps ++ drop (10 + k * 20) o)) = a ∙ ap (λ (z : List ℕ). (take 10 z ++ write_all pending_form kps) ++ drop (10 + k * 20) o) w in
           let d : set o 9 k ≡ body_of (with_list (Some kps) t) ++ drop (10 + k * 20) o = ap (λ (z : List ℕ). set z 9 k) b ∙ ap (λ (z : ℕ). eight.write t.cleaned_at ++ (1 ∷ z ∷ (write_all pending_form kps ++ drop (10 + k * 20) o))) g.counts in
-          subst (λ (x : Option (List Pending)). Holds (set o 9 k) (10 + k * 20) (with_list (kept_list which x) t)) (sym e)
-          (hold (drop (10 + k * 20) o) (keeps_formed which t ps h.formed (list_good h ps e) (list_few h ps e)) d (omega (arith, g.counts, entries_size kps)))
+          subst (λ (x : Option (List Pending)). Holds (set o 9 k) (10 + k * 20) (with_list (kept_list test x) t)) (sym e)
+          (hold (drop (10 + k * 20) o) (keeps_formed test t ps h.formed (list_good h ps e) (list_few h ps e)) d (omega (arith, g.counts, entries_size kps)))
 
 -- ---- cleaning
 
-young_list : (time : ℕ) (o : Option (List Pending)) → kept_list (tests.Young time) o ≡ cleaned_list rust_limits time o
+young_list : (time : ℕ) (o : Option (List Pending)) → kept_list (stays rust_limits time) o ≡ cleaned_list rust_limits time o
 young_list time None = refl
 young_list time (Some ps) = refl
 
 -- the test of `remove_pracked`
-pub other_list : (r : ℕ) (o : Option (List Pending)) → kept_list (tests.Other r) o ≡ without_pracked r o
+pub other_list : (r : ℕ) (o : Option (List Pending)) → kept_list (is_other r) o ≡ without_pracked r o
 other_list r None = refl
 other_list r (Some ps) = refl
 
@@ -160,6 +149,6 @@ module _ (time : ℕ) (t : Tracked) where
   not_due h = rw (lt-leb 300000000000 (time - t.cleaned_at) h)
 
   -- 300 s or more after the last cleanup
-  pub due : 300000000000 ≤ time - t.cleaned_at → cleaned rust_limits time t.id (Some t) ≡ record { id = t.id; cleaned_at = time; list = kept_list (tests.Young time) t.list }
+  pub due : 300000000000 ≤ time - t.cleaned_at → cleaned rust_limits time t.id (Some t) ≡ record { id = t.id; cleaned_at = time; list = kept_list (stays rust_limits time) t.list }
   unfolding cleaned
   due h = rw (le-leb 300000000000 (time - t.cleaned_at) h, young_list time t.list)

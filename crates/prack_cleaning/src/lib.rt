@@ -7,16 +7,16 @@ ghost use Rattle.codec.specs.Codec.{write_all};
 ghost use Rattle.prack_body.specs.Lists.{Pending, Tracked, staying, cleaned, with_list, without_pracked};
 ghost use Rattle.prack_body.specs.Layout.{pending_form, AllFormed};
 ghost use Rattle.prack_body.specs.Body.{body_room, Holds, Kept};
-ghost use Rattle.prack_staying.specs.Test.{test_of};
 ghost use Rattle.prack_cleaning.specs.KeptList.{kept_list};
 
 use codec::{read_eight, write_eight};
-use edit::move_left;
+use edit::shift;
 use limits::Limits;
 use prack_body::{COUNT_AT, ENTRIES_AT, ENTRY_SIZE};
-use prack_staying::{Test, elapsed, passes};
+use prack_staying::{Other, Staying, Young, elapsed};
 
 // The cleanup of a call at a time, where it is due: the time stored, and the entries that stay. The new length.
+// Kept (5, 6): there is no heap, so a body may become longer or shorter in a fixed array of which the first n bytes are it.
 pub fn clean(body: &mut [u8], n: usize, time: u64) -> usize
     requires { (9 ≤ n) × ((n ≤ body_room) × (body_room ≤ length body.old)) }
     ensures { (t : Tracked) → Holds body.old n t → Holds body.new result (cleaned rust_limits time t.id (Some t)) }
@@ -26,21 +26,23 @@ pub fn clean(body: &mut [u8], n: usize, time: u64) -> usize
         return n;
     }
     write_eight(body, 0, time);
-    keep_list(body, n, Test::Young(time))
+    keep_list(body, n, Young { time })
 }
 
 // All but the acknowledged entries of an RSeq. The new length.
+// Kept (5, 6): there is no heap, so a body may become longer or shorter in a fixed array of which the first n bytes are it.
 pub fn prune(body: &mut [u8], n: usize, rseq: u32) -> usize
     requires { (9 ≤ n) × ((n ≤ body_room) × (body_room ≤ length body.old)) }
     ensures { (t : Tracked) → Holds body.old n t → Holds body.new result (with_list (without_pracked rseq t.list) t) }
 {
-    keep_list(body, n, Test::Other(rseq))
+    keep_list(body, n, Other { rseq })
 }
 
 // The entries that stay. The new length.
-fn keep_list(body: &mut [u8], n: usize, which: Test) -> usize
+// Kept (5, 6): there is no heap, so a body may become longer or shorter in a fixed array of which the first n bytes are it.
+fn keep_list<S: Staying>(body: &mut [u8], n: usize, which: S) -> usize
     requires { (9 ≤ n) × ((n ≤ body_room) × (body_room ≤ length body.old)) }
-    ensures { (t : Tracked) → Holds body.old n t → Holds body.new result (with_list (kept_list which t.list) t) }
+    ensures { (t : Tracked) → Holds body.old n t → Holds body.new result (with_list (kept_list (S.test which) t.list) t) }
 {
     if n < ENTRIES_AT {
         return n;
@@ -51,20 +53,18 @@ fn keep_list(body: &mut [u8], n: usize, which: Test) -> usize
 }
 
 // The entries that stay, moved together behind the count byte. How many.
-fn keep(body: &mut [u8], count: usize, which: Test) -> usize
+fn keep<S: Staying>(body: &mut [u8], count: usize, which: S) -> usize
     requires { (count ≤ rust_limits.pending) × (10 + count * 20 ≤ length body.old) }
     ensures upper_bound { result ≤ count }
-    ensures kept { (ps : List Pending) (rest : List ℕ) → AllFormed ps → count ≡ length ps → drop 10 body.old ≡ write_all pending_form ps ++ rest → Kept body.old (staying (test_of which) ps) body.new result }
+    ensures kept { (ps : List Pending) (rest : List ℕ) → AllFormed ps → count ≡ length ps → drop 10 body.old ≡ write_all pending_form ps ++ rest → Kept body.old (staying (S.test which) ps) body.new result }
 {
-    let mut i = 0;
     let mut kept = 0;
-    while i < count {
+    for i in 0..count {
         let at = ENTRIES_AT + i * ENTRY_SIZE;
-        if passes(body, at, which) {
-            move_left(body, at, ENTRIES_AT + kept * ENTRY_SIZE, ENTRY_SIZE);
+        if which.stays(body, at) {
+            shift(body, at, ENTRIES_AT + kept * ENTRY_SIZE, ENTRY_SIZE);
             kept += 1;
         }
-        i += 1;
     }
     kept
 }

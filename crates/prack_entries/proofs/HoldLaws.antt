@@ -4,7 +4,7 @@ use native.Mathlib.Omega.{arith}
 use mathlib.Core.Path.{◌≡◌, sym, ap, ap₂, subst, ◌∙◌}
 use mathlib.Core.List.{List, ◌++◌, append_assoc}
 use lib.ListN.{length, take, length-append}
-use Rattle.std.specs.Prelude.{None, Option, Result, Some}
+use Rattle.std.specs.Prelude.{Err, None, Ok, Option, Result, Some}
 use Rattle.limits.specs.Limits.{rust_limits}
 use Rattle.limits.specs.declared.Refusal.{Refusal}
 use Rattle.edit.specs.Edit.{spliced}
@@ -18,15 +18,13 @@ use Rattle.prack_body.specs.declared.TrackedAt.{TrackedAt}
 use Rattle.prack_body.proofs.BodyLaws.{places_end}
 use Rattle.prack_entries.specs.Entries.{key_of_text, key_of, encode_tracked, clean_for}
 use Rattle.prack_entries.specs.Places.{Sought}
-use Rattle.prack_entries.specs.declared.finding.Slot.{Slot as SlotAt}
-use Rattle.prack_entries.specs.declared.finding.Slot.TheVariants as slots
 use Rattle.prack_entries.proofs.PlaceLaws.{form, size}
 use Rattle.prack_entries.proofs.SlotLaws.{was, well, HeldAt, held_there, same_text, found, free_there, lacking}
 use Rattle.prack_entries.proofs.WriteLaws.{Answered}
 
 -- what was sought, by another name of the slot
-abbrev pub renamed : {id bytes : List ℕ} {used : ℕ} {x y : SlotAt} → Sought id bytes used x → x ≡ y → Sought id bytes used y
-renamed s e = record { is = sym e ∙ s.is; within = s.within; list = s.list; are = s.are }
+abbrev pub renamed : {id bytes : List ℕ} {used : ℕ} {x y : Result TrackedAt ℕ} → Sought id bytes used x → x ≡ y → Sought id bytes used y
+renamed s e = record { is = ap Ok (sym e) ∙ s.is; within = s.within; list = s.list; are = s.are }
 
 -- ---- the bytes of the store with it set
 
@@ -37,7 +35,7 @@ new_body f x k old new =
     together new ∙ instead (f ++ x) old k new
     ∙ ap₂ (λ (i : ℕ) (l : List ℕ). spliced i (length old) new l) (length-append f x) (sym (together old))
 
-module _ (id bytes : List ℕ) (used : ℕ) (p : TrackedAt) (b : Bytes bytes) (s : Sought id bytes used (slots.Held p)) (h : HeldAt id p s.list) (t : Tracked) (e : t.id ≡ id) where
+module _ (id bytes : List ℕ) (used : ℕ) (p : TrackedAt) (b : Bytes bytes) (s : Sought id bytes used (Ok p)) (h : HeldAt id p s.list) (t : Tracked) (e : t.id ≡ id) where
   set_there : encode_tracked rust_limits (set_entry key_of t s.list) ≡ spliced (p.id.start + p.id.length) (p.end - (p.id.start + p.id.length)) (body_of t) (take used bytes)
   set_there =
       let w : Tracked = h.t in
@@ -56,44 +54,44 @@ module _ (id bytes : List ℕ) (used : ℕ) (p : TrackedAt) (b : Bytes bytes) (s
       ∙ ap (λ (n : ℕ). spliced (p.id.start + p.id.length) n (body_of t) (take used bytes)) long
 
 -- a text that is held: its body in place of the old one
-pub set_held : (id bytes : List ℕ) (used : ℕ) (p : TrackedAt) → Bytes bytes → (s : Sought id bytes used (slots.Held p)) (t : Tracked) → t.id ≡ id
+pub set_held : (id bytes : List ℕ) (used : ℕ) (p : TrackedAt) → Bytes bytes → (s : Sought id bytes used (Ok p)) (t : Tracked) → t.id ≡ id
     → encode_tracked rust_limits (set_entry key_of t s.list) ≡ spliced (p.id.start + p.id.length) (p.end - (p.id.start + p.id.length)) (body_of t) (take used bytes)
 set_held id bytes used p b s t e = set_there id bytes used p b s (held_there id bytes used p s) t e
 
 -- a text that isn't: text and body at its place
-pub set_free : (id bytes : List ℕ) (used at : ℕ) → Bytes bytes → (s : Sought id bytes used (slots.Free at)) (t : Tracked) → t.id ≡ id
+pub set_free : (id bytes : List ℕ) (used at : ℕ) → Bytes bytes → (s : Sought id bytes used (Err at)) (t : Tracked) → t.id ≡ id
     → encode_tracked rust_limits (set_entry key_of t s.list) ≡ spliced at 0 (text.write id ++ body_of t) (take used bytes)
 set_free id bytes used at b s t e =
     free_set form key_of (key_of_text id) s.list at (free_there id bytes used at s) (well bytes used b s.list s.are).1 t (ap key_of_text e)
     ∙ ap₂ (λ (i l : List ℕ). spliced at 0 (text.write i ++ body_of t) l) e (was bytes used b s.within s.list s.are).0
 
 -- what the function promises
-abbrev pub Set : (id bytes body : List ℕ) (used : ℕ) (slot : SlotAt) (r : Result ℕ Refusal) (after : List ℕ) → Type 0
+abbrev pub Set : (id bytes body : List ℕ) (used : ℕ) (slot : Result TrackedAt ℕ) (r : Result ℕ Refusal) (after : List ℕ) → Type 0
 Set id bytes body used slot r after =
     (s : Sought id bytes used slot) (t : Tracked) → t.id ≡ id → body ≡ body_of t → Answered bytes (encode_tracked rust_limits (set_entry key_of t s.list)) r after
 
-module _ (id bytes body : List ℕ) (used : ℕ) (b : Bytes bytes) {slot : SlotAt} {r : Result ℕ Refusal} {after : List ℕ} where
-  pub by_held : {p : TrackedAt} → slot ≡ slots.Held p → Answered bytes (spliced (p.id.start + p.id.length) (p.end - (p.id.start + p.id.length)) body (take used bytes)) r after → Set id bytes body used slot r after
+module _ (id bytes body : List ℕ) (used : ℕ) (b : Bytes bytes) {slot : Result TrackedAt ℕ} {r : Result ℕ Refusal} {after : List ℕ} where
+  pub by_held : {p : TrackedAt} → slot ≡ Ok p → Answered bytes (spliced (p.id.start + p.id.length) (p.end - (p.id.start + p.id.length)) body (take used bytes)) r after → Set id bytes body used slot r after
   by_held {p} e a s t q w =
       subst (λ (l : List ℕ). Answered bytes l r after)
       (ap (λ (l : List ℕ). spliced (p.id.start + p.id.length) (p.end - (p.id.start + p.id.length)) l (take used bytes)) w ∙ sym (set_held id bytes used p b (renamed s e) t q)) a
 
-  pub by_free : {at : ℕ} → slot ≡ slots.Free at → Answered bytes (spliced at 0 (text.write id ++ body) (take used bytes)) r after → Set id bytes body used slot r after
+  pub by_free : {at : ℕ} → slot ≡ Err at → Answered bytes (spliced at 0 (text.write id ++ body) (take used bytes)) r after → Set id bytes body used slot r after
   by_free {at} e a s t q w =
       subst (λ (l : List ℕ). Answered bytes l r after)
       (ap (λ (l : List ℕ). spliced at 0 (text.write id ++ l) (take used bytes)) w ∙ sym (set_free id bytes used at b (renamed s e) t q)) a
 
 -- ---- a clean copy
 
-module _ (bytes : List ℕ) (used time : ℕ) (b : Bytes bytes) {slot : SlotAt} where
+module _ (bytes : List ℕ) (used time : ℕ) (b : Bytes bytes) {slot : Result TrackedAt ℕ} where
   -- a text that is held: what was loaded, cleaned
-  pub copied : {p : TrackedAt} → slot ≡ slots.Held p → {n r : ℕ} {mid after : List ℕ} → ((t : Tracked) → Stands (take used bytes) p t → Holds mid n t)
+  pub copied : {p : TrackedAt} → slot ≡ Ok p → {n r : ℕ} {mid after : List ℕ} → ((t : Tracked) → Stands (take used bytes) p t → Holds mid n t)
       → ((t : Tracked) → Holds mid n t → Holds after r (cleaned rust_limits time t.id (Some t))) → (id : List ℕ) (s : Sought id bytes used slot) → Holds after r (clean_for rust_limits time id s.list)
   copied {p} e {n} {r} {mid} {after} load clean id s =
       let f = found id bytes used p b (renamed s e) in
       subst (Holds after r) (ap₂ (cleaned rust_limits time) f.same (sym f.is)) (clean f.t (load f.t f.stands))
 
   -- a text that isn't: a time without a list
-  pub begun : {at : ℕ} → slot ≡ slots.Free at → {r : ℕ} {after : List ℕ} → ((id : List ℕ) → length id < 65536 → Holds after r (cleaned rust_limits time id None))
+  pub begun : {at : ℕ} → slot ≡ Err at → {r : ℕ} {after : List ℕ} → ((id : List ℕ) → length id < 65536 → Holds after r (cleaned rust_limits time id None))
       → (id : List ℕ) (s : Sought id bytes used slot) → length id < 65536 → Holds after r (clean_for rust_limits time id s.list)
   begun {at} e {r} {after} begin id s l = subst (λ (o : Option Tracked). Holds after r (cleaned rust_limits time id o)) (sym (lacking id bytes used at b (renamed s e)).0) (begin id l)

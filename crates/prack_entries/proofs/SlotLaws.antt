@@ -6,8 +6,10 @@ use mathlib.Core.Bool.{true}
 use mathlib.Core.List.{List, [], ◌++◌}
 use lib.ListN.{length, take, drop}
 use lib.Seq.{length-take-le, drop-append_seam}
-use Rattle.std.specs.Prelude.{None, Option, Some}
+use Rattle.std.specs.Prelude.{Err, None, Ok, Option, Result, Some}
 use Rattle.limits.specs.Limits.{rust_limits}
+use Rattle.limits.specs.declared.Refusal.{Refusal}
+use Rattle.limits.specs.declared.Refusal.TheVariants.{BadStore}
 use Rattle.edit.specs.Edit.{spliced}
 use Rattle.codec.proofs.CodecLaws.{Bytes, bytes_take, GoodAll}
 use Rattle.ordered_store.specs.Entries.{ascending, without_entry}
@@ -23,32 +25,24 @@ use Rattle.prack_body.specs.declared.TrackedAt.{TrackedAt}
 use Rattle.prack_body.proofs.BodyLaws.{places_end, stands_inside, loaded, holds_size}
 use Rattle.prack_entries.specs.Entries.{key_of_text, key_of, decode_tracked, encode_tracked, held_for}
 use Rattle.prack_entries.specs.Places.{slot_of, slot_for, Sought}
-use Rattle.prack_entries.specs.declared.finding.Slot.{Slot as SlotAt}
-use Rattle.prack_entries.specs.declared.finding.Slot.TheVariants as slots
 use Rattle.prack_entries.proofs.PlaceLaws.{form, exact}
 
 -- ---- the answer
 
--- any answer but Broken says that the bytes were read as a store
-pub sought : (id bytes : List ℕ) (used : ℕ) (slot : SlotAt) → slot ≡ slot_for id bytes used → (slot ≡ slots.Broken → ⊥) → Sought id bytes used slot
-sought id bytes used slot e f = by (slot_used form key_of (key_of_text id) bytes used) (says form key_of (key_of_text id) bytes used) e
+-- a slot says that the bytes were read as a store
+pub sought : (id bytes : List ℕ) (used : ℕ) (slot : Result TrackedAt ℕ) → slot_for id bytes used ≡ Ok slot → Sought id bytes used slot
+sought id bytes used slot e = by (slot_used form key_of (key_of_text id) bytes used) (says form key_of (key_of_text id) bytes used) e
   where
-    by : (o : Option (Slot Tracked)) → Says form key_of (key_of_text id) bytes used o → slot ≡ slot_of o → Sought id bytes used slot
-    by None w q = absurd (f q)
-    by (Some x) w q = record { is = e; within = w.within; list = w.list; are = w.are }
+    by : (o : Option (Slot Tracked)) → Says form key_of (key_of_text id) bytes used o → slot_of o ≡ Ok slot → Sought id bytes used slot
+    by None w q = absurd (let z : ◌≡◌ {A = ℕ} 0 1 = cc in omega arith)
+    by (Some x) w q = record { is = sym e; within = w.within; list = w.list; are = w.are }
 
-pub held_sought : (id bytes : List ℕ) (used : ℕ) (p : TrackedAt) → slot_for id bytes used ≡ slots.Held p → Sought id bytes used (slots.Held p)
-held_sought id bytes used p e = sought id bytes used (slots.Held p) (sym e) (λ q. let z : ◌≡◌ {A = ℕ} 0 1 = cc in omega arith)
-
-pub free_sought : (id bytes : List ℕ) (used at : ℕ) → slot_for id bytes used ≡ slots.Free at → Sought id bytes used (slots.Free at)
-free_sought id bytes used at e = sought id bytes used (slots.Free at) (sym e) (λ q. let z : ◌≡◌ {A = ℕ} 0 1 = cc in omega arith)
-
--- Broken says that they aren't a store
-pub unreadable : (id bytes : List ℕ) (used : ℕ) → slot_for id bytes used ≡ slots.Broken → Unreadable form key_of (key_of_text id) bytes used
-unreadable id bytes used e = by (slot_used form key_of (key_of_text id) bytes used) (says form key_of (key_of_text id) bytes used) e
+-- 3: they aren't a store
+pub unreadable : (id bytes : List ℕ) (used : ℕ) {cause : Refusal} → slot_for id bytes used ≡ Err cause → (cause ≡ BadStore) × Unreadable form key_of (key_of_text id) bytes used
+unreadable id bytes used {cause} e = by (slot_used form key_of (key_of_text id) bytes used) (says form key_of (key_of_text id) bytes used) e
   where
-    by : (o : Option (Slot Tracked)) → Says form key_of (key_of_text id) bytes used o → slot_of o ≡ slots.Broken → Unreadable form key_of (key_of_text id) bytes used
-    by None w q = w
+    by : (o : Option (Slot Tracked)) → Says form key_of (key_of_text id) bytes used o → slot_of o ≡ Err cause → (cause ≡ BadStore) × Unreadable form key_of (key_of_text id) bytes used
+    by None w q = (cc, w)
     by (Some (held place t)) w q = absurd (let z : ◌≡◌ {A = ℕ} 0 1 = cc in omega arith)
     by (Some (free place)) w q = absurd (let z : ◌≡◌ {A = ℕ} 0 1 = cc in omega arith)
 
@@ -68,16 +62,9 @@ well bytes used b ts r =
     (d.1, d.2)
 
 -- the slot is the one among what is held
-settled : (id bytes : List ℕ) (used : ℕ) (slot : SlotAt) (s : Sought id bytes used slot) → slot ≡ slot_of (Some (slot_in form key_of (key_of_text id) 0 s.list))
+settled : (id bytes : List ℕ) (used : ℕ) (slot : Result TrackedAt ℕ) (s : Sought id bytes used slot) → Ok slot ≡ slot_of (Some (slot_in form key_of (key_of_text id) 0 s.list))
 settled id bytes used slot s =
     s.is ∙ ap slot_of (sym (in_used form key_of (key_of_text id) bytes used s.within) ∙ ap (slot_read form key_of (key_of_text id)) s.are)
-
-pub broken_not : (id bytes : List ℕ) (used : ℕ) → Sought id bytes used slots.Broken → ⊥
-broken_not id bytes used s = by (slot_in form key_of (key_of_text id) 0 s.list) (settled id bytes used slots.Broken s)
-  where
-    by : (x : Slot Tracked) → slots.Broken ≡ slot_of (Some x) → ⊥
-    by (held place t) q = let z : ◌≡◌ {A = ℕ} 0 1 = cc in omega arith
-    by (free place) q = let z : ◌≡◌ {A = ℕ} 0 1 = cc in omega arith
 
 -- ---- a text that is held
 
@@ -88,10 +75,10 @@ pub record HeldAt (id : List ℕ) (p : TrackedAt) (ts : List Tracked) : Type 0 w
   pub stands : Held form key_of (key_of_text id) 0 at t ts
   pub placed : p ≡ tracked_places at t
 
-pub held_there : (id bytes : List ℕ) (used : ℕ) (p : TrackedAt) (s : Sought id bytes used (slots.Held p)) → HeldAt id p s.list
-held_there id bytes used p s = by (slot_in form key_of (key_of_text id) 0 s.list) refl (settled id bytes used (slots.Held p) s)
+pub held_there : (id bytes : List ℕ) (used : ℕ) (p : TrackedAt) (s : Sought id bytes used (Ok p)) → HeldAt id p s.list
+held_there id bytes used p s = by (slot_in form key_of (key_of_text id) 0 s.list) refl (settled id bytes used (Ok p) s)
   where
-    by : (x : Slot Tracked) → slot_in form key_of (key_of_text id) 0 s.list ≡ x → slots.Held p ≡ slot_of (Some x) → HeldAt id p s.list
+    by : (x : Slot Tracked) → slot_in form key_of (key_of_text id) 0 s.list ≡ x → Ok (Ok p) ≡ slot_of (Some x) → HeldAt id p s.list
     by (held place t) e q = record { at = place; t = t; stands = held_at form key_of (key_of_text id) s.list e; placed = (cc) }
     by (free place) e q = absurd (let z : ◌≡◌ {A = ℕ} 0 1 = cc in omega arith)
 
@@ -112,7 +99,7 @@ pub record Found (id bytes : List ℕ) (used : ℕ) (p : TrackedAt) (ts : List T
   pub end_within : p.end ≤ used
   pub without : encode_tracked rust_limits (without_entry key_of (key_of_text id) ts) ≡ spliced (p.id.start - 2) (p.end - (p.id.start - 2)) [] (take used bytes)
 
-module _ (id bytes : List ℕ) (used : ℕ) (p : TrackedAt) (b : Bytes bytes) (s : Sought id bytes used (slots.Held p)) (h : HeldAt id p s.list) where
+module _ (id bytes : List ℕ) (used : ℕ) (p : TrackedAt) (b : Bytes bytes) (s : Sought id bytes used (Ok p)) (h : HeldAt id p s.list) where
   among : Held form key_of (key_of_text id) 0 h.at h.t s.list
   among = h.stands
 
@@ -157,21 +144,21 @@ module _ (id bytes : List ℕ) (used : ℕ) (p : TrackedAt) (b : Bytes bytes) (s
             ∙ ap₂ (λ (n m : ℕ). spliced n m [] (take used bytes)) place long;
       }
 
-pub found : (id bytes : List ℕ) (used : ℕ) (p : TrackedAt) → Bytes bytes → (s : Sought id bytes used (slots.Held p)) → Found id bytes used p s.list
+pub found : (id bytes : List ℕ) (used : ℕ) (p : TrackedAt) → Bytes bytes → (s : Sought id bytes used (Ok p)) → Found id bytes used p s.list
 found id bytes used p b s = by_slot id bytes used p b s (held_there id bytes used p s)
 
 -- ---- a text that isn't
 
 -- its place among what is held
-pub free_there : (id bytes : List ℕ) (used at : ℕ) (s : Sought id bytes used (slots.Free at)) → Free form key_of (key_of_text id) 0 at s.list
-free_there id bytes used at s = by (slot_in form key_of (key_of_text id) 0 s.list) refl (settled id bytes used (slots.Free at) s)
+pub free_there : (id bytes : List ℕ) (used at : ℕ) (s : Sought id bytes used (Err at)) → Free form key_of (key_of_text id) 0 at s.list
+free_there id bytes used at s = by (slot_in form key_of (key_of_text id) 0 s.list) refl (settled id bytes used (Err at) s)
   where
-    by : (x : Slot Tracked) → slot_in form key_of (key_of_text id) 0 s.list ≡ x → slots.Free at ≡ slot_of (Some x) → Free form key_of (key_of_text id) 0 at s.list
+    by : (x : Slot Tracked) → slot_in form key_of (key_of_text id) 0 s.list ≡ x → Ok (Err at) ≡ slot_of (Some x) → Free form key_of (key_of_text id) 0 at s.list
     by (held place t) e q = absurd (let z : ◌≡◌ {A = ℕ} 0 1 = cc in omega arith)
     by (free place) e q = free_at form key_of (key_of_text id) s.list (e ∙ ap free (let z : place ≡ at = cc in z))
 
 -- nothing is held for it, and its place lies in the used bytes
-pub lacking : (id bytes : List ℕ) (used at : ℕ) → Bytes bytes → (s : Sought id bytes used (slots.Free at))
+pub lacking : (id bytes : List ℕ) (used at : ℕ) → Bytes bytes → (s : Sought id bytes used (Err at))
     → (held_for id s.list ≡ None) × ((without_entry key_of (key_of_text id) s.list ≡ s.list) × (at ≤ used))
 lacking id bytes used at b s =
     let f = free_there id bytes used at s in

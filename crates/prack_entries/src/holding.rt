@@ -10,30 +10,37 @@ ghost use Rattle.prack_body.specs.Body.{body_room, body_of, Holds};
 ghost use Rattle.prack_entries.specs.Entries.{key_of, encode_tracked, clean_for};
 ghost use Rattle.prack_entries.specs.Places.{Sought};
 
-use crate::finding::Slot;
 use codec::LENGTH_SIZE;
 use limits::Refusal;
+use prack_body::TrackedAt;
 
 // What is held after the cleanup of a call at a time, without the text, in a small array. Its length.
-pub fn clean_copy(slot: Slot, bytes: &[u8], used: usize, time: u64, body: &mut [u8]) -> usize
+// Kept (5, 6): a C caller lends bytes and says how many are used.
+pub fn clean_copy(
+    slot: Result<TrackedAt, usize>,
+    bytes: &[u8],
+    used: usize,
+    time: u64,
+    body: &mut [u8],
+) -> usize
     requires { (body_room ≤ length body.old) × ((id : List ℕ) × Sought id bytes.now used slot) }
     ensures lower_bound { (9 ≤ result) × (result ≤ body_room) }
     ensures by_index { (id : List ℕ) (s : Sought id bytes.now used slot) → length id < 65536 → Holds body.new result (clean_for rust_limits time id s.list) }
 {
     match slot {
-        Slot::Held(t) => {
+        Ok(t) => {
             let n = prack_body::load(&bytes[..used], t, body);
             prack_cleaning::clean(body, n, time)
         }
-        Slot::Free(_) => prack_body::begin(body, time),
-        Slot::Broken => prack_body::begin(body, time),
+        Err(_) => prack_body::begin(body, time),
     }
 }
 
 // What is held for a text from now on, in the place of what was, or at its own: 18. The new used length.
+// Kept (5, 6): a C caller lends bytes and says how many are used.
 pub fn set(
     id: &[u8],
-    slot: Slot,
+    slot: Result<TrackedAt, usize>,
     body: &[u8],
     bytes: &mut [u8],
     used: usize,
@@ -43,7 +50,7 @@ pub fn set(
     ensures bytes_after { (s : Sought id.now bytes.old used slot) (t : Tracked) → t.id ≡ id.now → body.now ≡ body_of t → bytes.new ≡ leaves (fitted (length bytes.old) (encode_tracked rust_limits (set_entry key_of t s.list))) bytes.old }
 {
     match slot {
-        Slot::Held(t) => {
+        Ok(t) => {
             let from = t.id.start + t.id.length;
             let old = t.end - from;
             if bytes.len() - (used - old) < body.len() {
@@ -51,12 +58,12 @@ pub fn set(
             }
             Ok(edit::replace(bytes, used, from, old, body))
         }
-        Slot::Free(at) => insert(id, body, bytes, used, at),
-        Slot::Broken => Err(Refusal::BadStore),
+        Err(at) => insert(id, body, bytes, used, at),
     }
 }
 
 // A text with its length bytes and what is held for it, put in at a place of the used bytes: 18. The new used length.
+// Kept (5, 6): a C caller lends bytes and says how many are used.
 fn insert(
     id: &[u8],
     body: &[u8],

@@ -4,5 +4,5 @@
 mod finding;
 mod holding;
 
-pub use finding::{Slot, find};
+pub use finding::find;
 pub use holding::{clean_copy, set};

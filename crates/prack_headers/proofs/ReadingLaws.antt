@@ -2,12 +2,12 @@
 use Prim.Native.Nat.{ℕ}
 use native.Mathlib.Omega.{arith}
 use mathlib.Core.Path.{◌≡◌, refl, sym, ap, subst, ◌∙◌}
-use mathlib.Core.Bool.{Bool, true}
+use mathlib.Core.Bool.{Bool, true, false}
 use mathlib.Core.List.{List}
 use lib.ListN.{length, take, drop}
-use Rattle.std.specs.Prelude.{Err, None, Ok, Option, Result, Some}
+use Rattle.std.specs.Prelude.{is_some, ok_or, Err, None, Ok, Option, Result, Some}
 use Rattle.limits.specs.Limits.{LimitSet}
-use Rattle.limits.specs.Outcome.{check_of}
+use Rattle.limits.specs.Outcome.{check_of, or_refuse}
 use Rattle.limits.proofs.Laws.{passed, stopped}
 use Rattle.limits.specs.declared.Refusal.{Refusal}
 use Rattle.limits.specs.declared.Refusal.TheVariants.{MissingHeader}
@@ -18,8 +18,9 @@ use Rattle.msg.specs.Table.{text_at}
 use Rattle.msg.proofs.LookupLaws.{Says, found_at}
 use Rattle.msg.proofs.TableLaws.{text_at_lem}
 use Rattle.text.specs.Number.{number_from, read_number}
+use Rattle.methods.specs.Methods.{method_from}
 use Rattle.words.specs.Words.{word_at}
-use Rattle.prack_headers.specs.Sequence.{cseq_name, cseq_number, value_text, read_in, stands, is_reliable, reliable_provisional}
+use Rattle.prack_headers.specs.Sequence.{cseq_name, cseq_number, value_text, read_in, stands, is_reliable, reliable_provisional, number_answer, method_answer, reliable_answer}
 
 -- the value's bytes in the block are its text
 pub value_text_lem : (name block : List ℕ) → part_of (value_named name block) block ≡ value_text name block
@@ -42,13 +43,18 @@ module _ {A : Type 0} (L : LimitSet) (block : List ℕ) (o : Option A) {r : Resu
   unfolding read_in
   stopped_read e = rw (stopped (block_cause L block) (sym h ∙ e))
 
-  pub missing_read : r ≡ Ok tt → o ≡ None → read_in L block o ≡ Err MissingHeader
+  pub clear_read : r ≡ Ok tt → read_in L block o ≡ or_refuse MissingHeader o
   unfolding read_in
-  missing_read e q = rw (passed (block_cause L block) (sym h ∙ e), q)
+  clear_read e = rw (passed (block_cause L block) (sym h ∙ e))
 
-  pub done_read : {a : A} → r ≡ Ok tt → o ≡ Some a → read_in L block o ≡ Ok a
-  unfolding read_in
-  done_read e q = rw (passed (block_cause L block) (sym h ∙ e), q)
+-- what is answered of a number that was read, or that nothing was
+pub number_required : (o : Option ℕ) → ok_or (number_from o) MissingHeader ≡ number_answer (or_refuse MissingHeader o)
+number_required None = refl
+number_required (Some n) = refl
+
+pub method_required : (o : Option ℕ) → ok_or (method_from o) MissingHeader ≡ method_answer (or_refuse MissingHeader o)
+method_required None = refl
+method_required (Some n) = refl
 
 module _ (L : LimitSet) (status : ℕ) (block : List ℕ) {r : Result (Unit {0}) Refusal} (h : r ≡ check_of (block_cause L block)) where
   pub stopped_test : {cause : Refusal} → r ≡ Err cause → reliable_provisional L status block ≡ Err cause
@@ -59,7 +65,11 @@ module _ (L : LimitSet) (status : ℕ) (block : List ℕ) {r : Result (Unit {0})
   unfolding reliable_provisional
   done_test t e q = rw (passed (block_cause L block) (sym h ∙ e), q)
 
--- what the answer of a look-up says of a line
-pub found_line : (o : Option HeaderLine) {v : Span} {next : ℕ} → found_of o ≡ Some (v, next) → stands o ≡ true
-found_line None e = absurd (let z : ◌≡◌ {A = ℕ} 0 1 = cc in omega arith)
-found_line (Some l) e = refl
+-- whether a look-up found a line
+pub line_stands : (o : Option HeaderLine) → stands o ≡ is_some (found_of o)
+line_stands None = refl
+line_stands (Some l) = refl
+
+pub reliable_same : (t : Bool) → Ok t ≡ reliable_answer (Ok t)
+reliable_same true = refl
+reliable_same false = refl

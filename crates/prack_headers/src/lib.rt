@@ -17,10 +17,7 @@ pub fn extract_rseq(block: &[u8]) -> Result<u32, Refusal>
     ensures { result ≡ number_answer (extract_rseq rust_limits block.now) }
 {
     msg::check_block(block)?;
-    let Some(n) = rseq(block) else {
-        return Err(Refusal::MissingHeader);
-    };
-    Ok(n)
+    rseq(block).ok_or(Refusal::MissingHeader)
 }
 
 // The number of a block's CSeq: 1, 2, 4. It is lib.rs's `parse_cseq_number` too.
@@ -28,10 +25,7 @@ pub fn extract_cseq_number(block: &[u8]) -> Result<u32, Refusal>
     ensures { result ≡ number_answer (extract_cseq_number rust_limits block.now) }
 {
     msg::check_block(block)?;
-    let Some(n) = cseq_number(block) else {
-        return Err(Refusal::MissingHeader);
-    };
-    Ok(n)
+    cseq_number(block).ok_or(Refusal::MissingHeader)
 }
 
 // The method of a block's CSeq, whatever its number: 1, 2, 4.
@@ -39,13 +33,11 @@ pub fn extract_cseq_method(block: &[u8]) -> Result<u8, Refusal>
     ensures { result ≡ method_answer (extract_cseq_method rust_limits block.now) }
 {
     msg::check_block(block)?;
-    let Some(n) = cseq_method(block) else {
-        return Err(Refusal::MissingHeader);
-    };
-    Ok(n)
+    cseq_method(block).ok_or(Refusal::MissingHeader)
 }
 
 // Whether a response is to be acknowledged by PRACK: 101 to 199, with an RSeq line: 1, 2.
+// Kept (5): a C caller gives a response by its status and its block.
 pub fn is_reliable_provisional(status: u16, block: &[u8]) -> Result<bool, Refusal>
     ensures { result ≡ reliable_answer (reliable_provisional rust_limits status block.now) }
 {
@@ -56,10 +48,7 @@ pub fn is_reliable_provisional(status: u16, block: &[u8]) -> Result<bool, Refusa
     if 200 <= status {
         return Ok(false);
     }
-    let Some((_, _)) = msg::find(block, b"RSeq") else {
-        return Ok(false);
-    };
-    Ok(true)
+    Ok(msg::find(block, b"RSeq").is_some())
 }
 
 // The value of RSeq as a number.
@@ -78,6 +67,7 @@ pub fn cseq_number(block: &[u8]) -> Option<u32>
 }
 
 // The first word of a CSeq line that was looked up, as a number.
+// Kept (5): the line is one of many that a table holds of the same block; a struct of both would be made at each call and taken apart in it.
 pub fn cseq_at(block: &[u8], line: Option<(Span, usize)>) -> Option<u32>
     requires { end_of line ≤ length block.now }
     ensures { result ≡ number_from (read_number 32 (word_at 0 (text_at line block.now))) }

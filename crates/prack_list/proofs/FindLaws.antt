@@ -8,14 +8,15 @@ use lib.ListN.{length, take, drop, get_or, set, length-drop, length-append}
 use lib.Seq.{drop-drop, drop-length, set_at}
 use lib.Dec.{eqb}
 use borrow.Author.Tests.{eq-eqb, ne_eqb, le-leb}
-use Rattle.std.specs.Prelude.{None, Option, Some}
+use Rattle.std.specs.Prelude.{Err, None, Ok, Option, Result, Some}
+use Rattle.limits.specs.declared.Refusal.{Refusal}
+use Rattle.limits.specs.declared.Refusal.TheVariants.{UnknownRSeq}
 use Rattle.codec.specs.Codec.{write_all, four, eight}
 use Rattle.prack_body.specs.Lists.{Pending, Tracked, first_of_rseq, marked, acknowledge, with_list}
 use Rattle.prack_body.specs.Layout.{to_bit, pending_form, PendingFormed, AllFormed}
 use Rattle.prack_body.specs.Body.{body_of, Holds}
 use Rattle.prack_list.specs.Steps.{place_from, position_at, position_in}
-use Rattle.prack_list.specs.declared.finding.Position.{Position}
-use Rattle.prack_list.specs.declared.finding.Position.TheVariants as P
+use Rattle.prack_list.specs.declared.finding.PendingAt.{PendingAt}
 use Rattle.prack_body.proofs.LayoutLaws.{entries_size}
 use Rattle.prack_body.proofs.BodyLaws.{flag_at, method_at, rseq_at, cseq_at, whole, entries_lie, count_is, none_size, list_size, list_few, list_good, hold, formed_from}
 
@@ -64,12 +65,12 @@ next_in {s} {n} h ps e i l = next s i ps (drop n s) (list_good h ps e) (entries_
 -- ---- the search
 
 -- what the entries from a number on make of the search
-abbrev pub From : ℕ → ℕ → List Pending → Position
+abbrev pub From : ℕ → ℕ → List Pending → Result PendingAt Refusal
 From r i ps = position_at (place_from (10 + i * 20) r (drop i ps)) (first_of_rseq r (drop i ps))
 
 module _ (r : ℕ) {s : List ℕ} {ps : List Pending} {i : ℕ} (x : Next s ps i) where
   -- the first of those left has the RSeq
-  pub found : x.entry.rseq ≡ r → From r i ps ≡ P.At (10 + i * 20) x.entry.cseq x.entry.method x.entry.acknowledged
+  pub found : x.entry.rseq ≡ r → From r i ps ≡ Ok (record { place = 10 + i * 20; cseq = x.entry.cseq; method = x.entry.method; acknowledged = x.entry.acknowledged })
   unfolding place_from first_of_rseq
   found e = rw (x.left, eq-eqb x.entry.rseq r e)
 
@@ -91,7 +92,7 @@ module _ (r : ℕ) {s : List ℕ} {ps : List Pending} {i : ℕ} (x : Next s ps i
 
   -- found, by what is read
   pub find_found : v ≡ r → {w : ℕ} {others : List ℕ} → four.read (drop (10 + i * 20 + 4) s) ≡ Some (record { value = w; rest = others })
-      → P.At (10 + i * 20) w (get_or s (10 + i * 20 + 8) 0) (eqb (get_or s (10 + i * 20 + 11) 0) 1) ≡ From r i ps
+      → Ok (record { place = 10 + i * 20; cseq = w; method = get_or s (10 + i * 20 + 8) 0; acknowledged = eqb (get_or s (10 + i * 20 + 11) 0) 1 }) ≡ From r i ps
   find_found q {w} f =
       let c : w ≡ x.entry.cseq = cseq_at s (10 + i * 20) x.entry x.more x.lies x.formed f in
       let m : get_or s (10 + i * 20 + 8) 0 ≡ x.entry.method = method_at s (10 + i * 20) x.entry x.more x.lies in
@@ -103,21 +104,13 @@ module _ (r : ℕ) {s : List ℕ} {ps : List Pending} {i : ℕ} (x : Next s ps i
   find_further q = further r x (λ z. q (same_rseq ∙ z))
 
 -- none is left
-pub nowhere : (r i : ℕ) (ps : List Pending) → i ≡ length ps → From r i ps ≡ P.Unknown
+pub nowhere : (r i : ℕ) (ps : List Pending) → i ≡ length ps → From r i ps ≡ Err UnknownRSeq
 unfolding first_of_rseq
 nowhere r i ps e = rw (e, drop-length ps)
 
 module _ {s : List ℕ} {n : ℕ} {t : Tracked} (h : Holds s n t) (r : ℕ) where
-  -- without a list
-  pub find_none : n < 10 → P.NoList ≡ position_in r t.list
-  find_none l = by t.list refl
-    where
-      by : (o : Option (List Pending)) → t.list ≡ o → P.NoList ≡ position_in r t.list
-      by None e = ap (position_in r) (sym e)
-      by (Some ps) e = absurd (omega (arith, list_size h ps e))
-
   -- where a list stands
-  pub find_in : 10 ≤ n → {p : Position} → ((ps : List Pending) → t.list ≡ Some ps → p ≡ position_in r (Some ps)) → p ≡ position_in r t.list
+  pub find_in : 10 ≤ n → {p : Result PendingAt Refusal} → ((ps : List Pending) → t.list ≡ Some ps → p ≡ position_in r (Some ps)) → p ≡ position_in r t.list
   find_in l {p} f = by t.list refl
     where
       by : (o : Option (List Pending)) → t.list ≡ o → p ≡ position_in r t.list
@@ -140,43 +133,25 @@ pub record FoundIn (r : ℕ) (o : Option (List Pending)) (place cseq method : �
   pub same_method : method ≡ entry.method
   pub same_flag : acknowledged ≡ entry.acknowledged
 
-not_at : {k c m : ℕ} {b : Bool} → P.At k c m b ≡ P.NoList → ⊥
-not_at e = let z : ◌≡◌ {A = ℕ} 0 1 = cc in omega arith
-
-not_found : {k c m : ℕ} {b : Bool} → P.At k c m b ≡ P.Unknown → ⊥
-not_found e = let z : ◌≡◌ {A = ℕ} 0 1 = cc in omega arith
-
-not_both : P.NoList ≡ P.Unknown → ⊥
-not_both e = let z : ◌≡◌ {A = ℕ} 0 1 = cc in omega arith
-
 -- an entry
-pub position_found : (r : ℕ) (o : Option (List Pending)) {k c m : ℕ} {b : Bool} → P.At k c m b ≡ position_in r o → FoundIn r o k c m b
-position_found r None e = absurd (not_at e)
-position_found r (Some ps) {k} {c} {m} {b} e = by (first_of_rseq r ps) refl
+pub position_found : (r : ℕ) (o : Option (List Pending)) {e : PendingAt} → Ok e ≡ position_in r o → FoundIn r o e.place e.cseq e.method e.acknowledged
+position_found r None e = absurd (let z : ◌≡◌ {A = ℕ} 0 1 = cc in omega arith)
+position_found r (Some ps) {e} q = by (first_of_rseq r ps) refl q
   where
-    by : (f : Option Pending) → first_of_rseq r ps ≡ f → FoundIn r (Some ps) k c m b
-    by None q = absurd (not_found (e ∙ ap (position_at (place_from 10 r ps)) q))
-    by (Some p) q =
-        let z : P.At k c m b ≡ P.At (place_from 10 r ps) p.cseq p.method p.acknowledged = e ∙ ap (position_at (place_from 10 r ps)) q in
-        record { list = ps; entry = p; stands = refl; first = q; at = (cc); same_cseq = (cc); same_method = (cc); same_flag = (cc) }
-
--- no list
-pub position_no_list : (r : ℕ) (o : Option (List Pending)) → P.NoList ≡ position_in r o → o ≡ None
-position_no_list r None e = refl
-position_no_list r (Some ps) e = by (first_of_rseq r ps) e
-  where
-    by : (f : Option Pending) → P.NoList ≡ position_at (place_from 10 r ps) f → Some ps ≡ None
-    by None q = absurd (not_both q)
-    by (Some p) q = absurd (not_at (sym q))
-
--- a list without the RSeq
-pub position_unknown : (r : ℕ) (o : Option (List Pending)) → P.Unknown ≡ position_in r o → (ps : List Pending) × ((o ≡ Some ps) × (first_of_rseq r ps ≡ None))
-position_unknown r None e = absurd (not_both (sym e))
-position_unknown r (Some ps) e = (ps, (refl, by (first_of_rseq r ps) e))
-  where
-    by : (f : Option Pending) → P.Unknown ≡ position_at (place_from 10 r ps) f → f ≡ None
-    by None q = refl
-    by (Some p) q = absurd (not_found (sym q))
+    by : (f : Option Pending) → first_of_rseq r ps ≡ f → Ok e ≡ position_at (place_from 10 r ps) f → FoundIn r (Some ps) e.place e.cseq e.method e.acknowledged
+    by None f q = absurd (let z : ◌≡◌ {A = ℕ} 0 1 = cc in omega arith)
+    by (Some p) f q =
+        let z : e ≡ record { place = place_from 10 r ps; cseq = p.cseq; method = p.method; acknowledged = p.acknowledged } = cc in
+        record {
+          list = ps;
+          entry = p;
+          stands = refl;
+          first = f;
+          at = ap (λ (x : PendingAt). x.place) z;
+          same_cseq = ap (λ (x : PendingAt). x.cseq) z;
+          same_method = ap (λ (x : PendingAt). x.method) z;
+          same_flag = ap (λ (x : PendingAt). x.acknowledged) z;
+        }
 
 -- the place of the first entry of an RSeq lies among the entries
 place_among : (r : ℕ) (ps : List Pending) (at : ℕ) (p : Pending) → first_of_rseq r ps ≡ Some p → place_from at r ps + 20 ≤ at + length ps * 20

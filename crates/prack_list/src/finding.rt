@@ -5,39 +5,39 @@ ghost use Rattle.prack_body.specs.Body.{Holds};
 ghost use Rattle.prack_list.specs.Steps.{place_from, position_in};
 
 use codec::read_four;
+use limits::Refusal;
 use prack_body::{ACKNOWLEDGED_AT, CSEQ_AT, ENTRIES_AT, ENTRY_SIZE, METHOD_AT};
 
-// The first entry of an RSeq: its place in the body, its CSeq, its method and whether it is acknowledged.
+// An entry: its place in the body, its CSeq, its method and whether it is acknowledged.
+// Kept (1): a C caller gives and gets a method by its number.
 #[derive(Clone, Copy)]
-pub enum Position {
-    At(usize, u32, u8, bool),
-    NoList,
-    Unknown,
+pub struct PendingAt {
+    pub place: usize,
+    pub cseq: u32,
+    pub method: u8,
+    pub acknowledged: bool,
 }
 
-// The first entry of an RSeq.
-pub fn first_of(body: &[u8], n: usize, rseq: u32) -> Position
-    requires { n ≤ length body.now }
-    ensures { (t : Tracked) → Holds body.now n t → result ≡ position_in rseq t.list }
+// The first entry of an RSeq: 20 where no list stands, 21 where none is of the RSeq.
+pub fn first_of(body: &[u8], rseq: u32) -> Result<PendingAt, Refusal>
+    ensures { (t : Tracked) → Holds body.now (length body.now) t → result ≡ position_in rseq t.list }
 {
-    if n < ENTRIES_AT {
-        return Position::NoList;
+    if body.len() < ENTRIES_AT {
+        return Err(Refusal::NoPendingList);
     }
-    let count = (n - ENTRIES_AT) / ENTRY_SIZE;
-    let mut i: usize = 0;
-    while i < count {
+    let count = (body.len() - ENTRIES_AT) / ENTRY_SIZE;
+    for i in 0..count {
         let at = ENTRIES_AT + i * ENTRY_SIZE;
         if read_four(body, at) == rseq {
-            return Position::At(
-                at,
-                read_four(body, at + CSEQ_AT),
-                body[at + METHOD_AT],
-                body[at + ACKNOWLEDGED_AT] == 1,
-            );
+            return Ok(PendingAt {
+                place: at,
+                cseq: read_four(body, at + CSEQ_AT),
+                method: body[at + METHOD_AT],
+                acknowledged: body[at + ACKNOWLEDGED_AT] == 1,
+            });
         }
-        i += 1;
     }
-    Position::Unknown
+    Err(Refusal::UnknownRSeq)
 }
 
 // The entry at a place acknowledged.

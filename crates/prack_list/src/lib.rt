@@ -5,6 +5,6 @@ mod finding;
 mod open;
 mod pushing;
 
-pub use finding::{Position, first_of, mark};
+pub use finding::{PendingAt, first_of, mark};
 pub use open::{open_bytes, open_size};
-pub use pushing::push;
+pub use pushing::{Provisional, push};

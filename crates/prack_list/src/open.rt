@@ -15,40 +15,37 @@ const FIRST_ACKNOWLEDGED_AT: usize = ENTRIES_AT + ACKNOWLEDGED_AT;
 const OPEN_SIZE: usize = 6;
 
 // How many bytes they take.
-pub fn open_size(body: &[u8], n: usize) -> usize
-    requires { (n ≤ body_room) × (n ≤ length body.now) }
-    ensures { (t : Tracked) → Holds body.now n t → result ≡ length (open_bytes (open_in t.list)) }
+pub fn open_size(body: &[u8]) -> usize
+    requires { length body.now ≤ body_room }
+    ensures { (t : Tracked) → Holds body.now (length body.now) t → result ≡ length (open_bytes (open_in t.list)) }
 {
-    let count = count_in(n);
-    let mut i = 0;
+    let count = count_in(body.len());
     let mut size = 0;
-    while i < count {
+    for i in 0..count {
         if body[FIRST_ACKNOWLEDGED_AT + i * ENTRY_SIZE] == 0 {
             size += OPEN_SIZE;
         }
-        i += 1;
     }
     size
 }
 
 // They themselves, for which there is room. How many bytes.
-pub fn open_bytes(body: &[u8], n: usize, out: &mut [u8]) -> usize
-    requires { (n ≤ length body.now) × ((t : Tracked) × (Holds body.now n t × (length (open_bytes (open_in t.list)) ≤ length out.old))) }
-    ensures { (t : Tracked) → Holds body.now n t → (result ≡ length (open_bytes (open_in t.list))) × (out.new ≡ over (open_bytes (open_in t.list)) out.old) }
+pub fn open_bytes(body: &[u8], out: &mut [u8]) -> usize
+    requires { (t : Tracked) × (Holds body.now (length body.now) t × (length (open_bytes (open_in t.list)) ≤ length out.old)) }
+    ensures { (t : Tracked) → Holds body.now (length body.now) t → (result ≡ length (open_bytes (open_in t.list))) × (out.new ≡ over (open_bytes (open_in t.list)) out.old) }
 {
-    let count = count_in(n);
-    let mut i = 0;
+    let count = count_in(body.len());
     let mut to = 0;
-    while i < count {
+    for i in 0..count {
         if body[FIRST_ACKNOWLEDGED_AT + i * ENTRY_SIZE] == 0 {
             to = put_open(body, ENTRIES_AT + i * ENTRY_SIZE, out, to);
         }
-        i += 1;
     }
     to
 }
 
 // The RSeq and the code of the entry at a place. The place after them.
+// Kept (5): read and written at places of bytes, as codec reads and writes each number.
 fn put_open(body: &[u8], at: usize, out: &mut [u8], to: usize) -> usize
     requires { (at + 20 ≤ length body.now) × (to + 6 ≤ length out.old) }
     ensures value { result ≡ to + 6 }
@@ -74,8 +71,5 @@ fn put_open(body: &[u8], at: usize, out: &mut [u8], to: usize) -> usize
 fn count_in(n: usize) -> usize
     ensures { result ≡ (n - 10) / 20 }
 {
-    if n < ENTRIES_AT {
-        return 0;
-    }
-    (n - ENTRIES_AT) / ENTRY_SIZE
+    n.saturating_sub(ENTRIES_AT) / ENTRY_SIZE
 }

@@ -3,13 +3,13 @@ ghost use Rattle.std.specs.Prelude.{◌≡◌, true, ◌+◌, ◌≤◌, length}
 ghost use Rattle.limits.specs.Limits.{rust_limits};
 ghost use Rattle.edit.specs.Edit.{put_at};
 ghost use Rattle.methods.specs.Methods.{is_method};
-ghost use Rattle.prack_body.specs.Lists.{Tracked, entries_of, pending_of, registered};
+ghost use Rattle.prack_body.specs.Lists.{Tracked, entries_of, registered};
 ghost use Rattle.prack_body.specs.Layout.{pending_form};
 ghost use Rattle.prack_body.specs.Body.{body_room, Holds, Kept};
-ghost use Rattle.prack_list.specs.Steps.{last_of};
+ghost use Rattle.prack_list.specs.Steps.{last_of, pending_in};
 
 use codec::{write_eight, write_four, write_two};
-use edit::{move_left, put};
+use edit::{put, shift};
 use limits::Limits;
 use prack_body::{BODY_ROOM, COUNT_AT, ENTRIES_AT, ENTRY_SIZE, LIST_AT};
 
@@ -18,35 +18,32 @@ const SECOND_AT: usize = ENTRIES_AT + ENTRY_SIZE;
 
 const OTHERS_SIZE: usize = BODY_ROOM - SECOND_AT;
 
+// A reliable provisional response as it is registered, and when.
+// Kept (1): a C caller gives and gets a method by its number.
+#[derive(Clone, Copy)]
+pub struct Provisional {
+    pub rseq: u32,
+    pub cseq: u32,
+    pub method: u8,
+    pub code: u16,
+    pub time: u64,
+}
+
 // One response more: a list of one where none stood, without the first entry where ten are held. The new length.
-pub fn push(
-    body: &mut [u8],
-    n: usize,
-    rseq: u32,
-    cseq: u32,
-    method: u8,
-    code: u16,
-    time: u64,
-) -> usize
-    requires { (is_method method ≡ true) × ((n ≤ body_room) × (body_room ≤ length body.old)) }
-    ensures { (t : Tracked) → Holds body.old n t → Holds body.new result (registered rust_limits (pending_of rseq cseq method code time) t) }
+// Kept (5, 6): there is no heap, so a body may become longer in a fixed array of which the first n bytes are it.
+pub fn push(body: &mut [u8], n: usize, response: Provisional) -> usize
+    requires { (is_method response.method ≡ true) × ((n ≤ body_room) × (body_room ≤ length body.old)) }
+    ensures { (t : Tracked) → Holds body.old n t → Holds body.new result (registered rust_limits (pending_in response) t) }
 {
     let count = make_room(body, n);
-    let end = write_entry(
-        body,
-        ENTRIES_AT + count * ENTRY_SIZE,
-        rseq,
-        cseq,
-        method,
-        code,
-        time,
-    );
+    let end = write_entry(body, ENTRIES_AT + count * ENTRY_SIZE, response);
     body[LIST_AT] = 1;
     body[COUNT_AT] = (count + 1) as u8;
     end
 }
 
 // Room for one entry more behind the others: where ten are held, the first goes. How many are left.
+// Kept (5, 6): as `push`.
 fn make_room(body: &mut [u8], n: usize) -> usize
     requires { (n ≤ body_room) × (body_room ≤ length body.old) }
     ensures upper_bound { result ≤ 9 }
@@ -59,28 +56,21 @@ fn make_room(body: &mut [u8], n: usize) -> usize
     if count < Limits::MAX_PENDING_PRACK_PER_DIALOG {
         return count;
     }
-    move_left(body, SECOND_AT, ENTRIES_AT, OTHERS_SIZE);
+    shift(body, SECOND_AT, ENTRIES_AT, OTHERS_SIZE);
     Limits::MAX_PENDING_PRACK_PER_DIALOG - 1
 }
 
 // An entry, not acknowledged. The place after it.
-fn write_entry(
-    out: &mut [u8],
-    at: usize,
-    rseq: u32,
-    cseq: u32,
-    method: u8,
-    code: u16,
-    time: u64,
-) -> usize
+// Kept (5): written at a place of bytes, as each number of it is by codec.
+fn write_entry(out: &mut [u8], at: usize, response: Provisional) -> usize
     requires { at + 20 ≤ length out.old }
     ensures value { result ≡ at + 20 }
-    ensures out_after { out.new ≡ put_at at (pending_form.write (pending_of rseq cseq method code time)) out.old }
+    ensures out_after { out.new ≡ put_at at (pending_form.write (pending_in response)) out.old }
 {
-    let a = write_four(out, at, rseq);
-    let b = write_four(out, a, cseq);
-    put(out, b, &[method]);
-    let d = write_two(out, b + 1, code as usize);
+    let a = write_four(out, at, response.rseq);
+    let b = write_four(out, a, response.cseq);
+    put(out, b, &[response.method]);
+    let d = write_two(out, b + 1, response.code as usize);
     put(out, d, &[0]);
-    write_eight(out, d + 1, time)
+    write_eight(out, d + 1, response.time)
 }

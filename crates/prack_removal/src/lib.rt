@@ -8,9 +8,10 @@ ghost use Rattle.prack_validator.specs.Validator.{remove_dialog, remove_pracked,
 
 use codec::LENGTH_SIZE;
 use limits::Refusal;
-use prack_entries::{Slot, find, set};
+use prack_entries::{find, set};
 
 // PrackValidator::remove_dialog: 1, 3. Nothing held: nothing changes. The new used length.
+// Kept (5, 6): a C caller lends bytes and says how many are used.
 pub fn remove_dialog(id: &[u8], bytes: &mut [u8], used: usize) -> Result<usize, Refusal>
     ensures value { result ≡ written_in (ran rust_limits (remove_dialog id.now) bytes.old used) }
     ensures bytes_after { bytes.new ≡ (ran rust_limits (remove_dialog id.now) bytes.old used).bytes }
@@ -19,17 +20,17 @@ pub fn remove_dialog(id: &[u8], bytes: &mut [u8], used: usize) -> Result<usize, 
     if text::too_long(id) {
         return Err(Refusal::TextTooLong);
     }
-    match find(id, bytes, used) {
-        Slot::Held(t) => {
+    match find(id, bytes, used)? {
+        Ok(t) => {
             let at = t.id.start - LENGTH_SIZE;
             Ok(edit::replace(bytes, used, at, t.end - at, b""))
         }
-        Slot::Free(_) => Ok(used),
-        Slot::Broken => Err(Refusal::BadStore),
+        Err(_) => Ok(used),
     }
 }
 
 // PrackValidator::remove_pracked: 1, 3. The acknowledged entries of an RSeq go; an emptied list stands. The new used length.
+// Kept (5, 6): a C caller lends bytes and says how many are used.
 pub fn remove_pracked(id: &[u8], rseq: u32, bytes: &mut [u8], used: usize) -> Result<usize, Refusal>
     ensures value { result ≡ written_in (ran rust_limits (remove_pracked id.now rseq) bytes.old used) }
     ensures bytes_after { bytes.new ≡ (ran rust_limits (remove_pracked id.now rseq) bytes.old used).bytes }
@@ -38,15 +39,14 @@ pub fn remove_pracked(id: &[u8], rseq: u32, bytes: &mut [u8], used: usize) -> Re
     if text::too_long(id) {
         return Err(Refusal::TextTooLong);
     }
-    let slot = find(id, bytes, used);
+    let slot = find(id, bytes, used)?;
     match slot {
-        Slot::Held(t) => {
+        Ok(t) => {
             let mut body = [0u8; prack_body::BODY_ROOM];
             let n = prack_body::load(&bytes[..used], t, &mut body);
             let m = prack_cleaning::prune(&mut body, n, rseq);
             set(id, slot, &body[..m], bytes, used)
         }
-        Slot::Free(_) => Ok(used),
-        Slot::Broken => Err(Refusal::BadStore),
+        Err(_) => Ok(used),
     }
 }

@@ -15,9 +15,8 @@ use Rattle.ordered_store.specs.Run.{Left}
 use Rattle.ordered_store.proofs.RunLaws.{kept_with}
 use Rattle.prack_validator.specs.Validator.{Value, flag, written, rack_value}
 use Rattle.prack_verdict.specs.Verdict.{verdict_of}
-use Rattle.prack_validator.specs.Answers.{validated_by, validated_in, pracked_of, listed_in, used_listed, output_after, validated_of}
+use Rattle.prack_validator.specs.Answers.{validated_by, validated_in, pracked_of, listed_in, used_listed, output_after, validated_or}
 use Rattle.prack_validator.specs.declared.Validated.{Validated}
-use Rattle.prack_validator.specs.declared.Validated.TheVariants as validated
 use Rattle.prack_validator.proofs.OperationLaws.{leaving, left_by}
 
 -- ---- what the contracts say of an answer r, the lent bytes afterwards, and a lent output afterwards
@@ -25,8 +24,8 @@ use Rattle.prack_validator.proofs.OperationLaws.{leaving, left_by}
 abbrev pub DoneWritten : ℕ → Left Value → Result ℕ Refusal → List ℕ → Type 0
 DoneWritten used l r after = (r ≡ written_in l) × ((after ≡ l.bytes) × (used_written r used ≡ l.used))
 
-abbrev pub DoneValidated : Left Value → Validated → List ℕ → Type 0
-DoneValidated l r after = (r ≡ validated_in l) × (after ≡ l.bytes)
+abbrev pub DoneValidated : ℕ → Left Value → Result Validated Refusal → List ℕ → Type 0
+DoneValidated used l r after = (validated_or r used ≡ validated_in l) × (after ≡ l.bytes)
 
 abbrev pub DonePracked : List ℕ → ℕ → Left Value → Result Bool Refusal → Type 0
 DonePracked bytes used l r = (r ≡ pracked_of l.answer) × ((bytes ≡ l.bytes) × (used ≡ l.used))
@@ -41,8 +40,8 @@ module _ (bytes : List ℕ) (used : ℕ) {l : Left Value} where
     pub written_kept : DoneWritten used l (Err cause) bytes
     written_kept = subst (λ (m : Left Value). DoneWritten used m (Err cause) bytes) (sym e) (refl, (refl, refl))
 
-    pub validated_kept : DoneValidated l (validated.Refused cause used) bytes
-    validated_kept = subst (λ (m : Left Value). DoneValidated m (validated.Refused cause used) bytes) (sym e) (refl, refl)
+    pub validated_kept : DoneValidated used l (Err cause) bytes
+    validated_kept = subst (λ (m : Left Value). DoneValidated used m (Err cause) bytes) (sym e) (refl, refl)
 
     pub pracked_kept : DonePracked bytes used l (Err cause)
     pracked_kept = subst (λ (m : Left Value). DonePracked bytes used m (Err cause)) (sym e) (refl, (refl, refl))
@@ -65,10 +64,12 @@ module _ (bytes : List ℕ) (used : ℕ) {l : Left Value} where
   listed_taken out {after} {out_after} {x} {n} {k} e w = subst (λ (m : Left Value). DoneListed used out m (Ok (k, n)) after out_after) (sym e) (ap (λ (i : ℕ). Ok (i, n)) w.0, (refl, (refl, w.1)))
 
   -- a verdict, which may be a refusal beside a change
-  pub validated_taken : (o : Result RAck Refusal) {r : Validated} {v : Result RAck Refusal} {after : List ℕ} {n : ℕ} → l ≡ leaving after n (rack_value o) → r ≡ validated_of v n → v ≡ verdict_of o → DoneValidated l r after
-  validated_taken o {r} {v} {after} {n} e q w = subst (λ (m : Left Value). DoneValidated m r after) (sym e) (q ∙ ap (λ (x : Result RAck Refusal). validated_of x n) w ∙ same o, refl)
+  pub validated_taken : (o : Result RAck Refusal) {v : Result RAck Refusal} {after : List ℕ} {n : ℕ} → l ≡ leaving after n (rack_value o) → v ≡ verdict_of o
+      → DoneValidated used l (Ok (record { verdict = v; used = n })) after
+  validated_taken o {v} {after} {n} e w =
+      subst (λ (m : Left Value). DoneValidated used m (Ok (record { verdict = v; used = n })) after) (sym e) (ap (λ (x : Result RAck Refusal). record { verdict = x; used = n }) w ∙ same o, refl)
     where
-      same : (o : Result RAck Refusal) → validated_of (verdict_of o) n ≡ validated_by (rack_value o) n
+      same : (o : Result RAck Refusal) → record { verdict = verdict_of o; used = n } ≡ validated_by (rack_value o) n
       same (Err cause) = refl
       same (Ok k) = refl
 

@@ -1,7 +1,7 @@
 -- What each call leaves, by the slot of its text: the ways out that all calls share, and what each call decides over the entries. Assumes nothing.
 use Prim.Native.Nat.{ℕ, ◌+◌, ◌-◌, ◌≤◌, ◌<◌}
 use native.Mathlib.Omega.{arith}
-use mathlib.Core.Path.{◌≡◌, refl, sym, ap, ap₂, ◌∙◌}
+use mathlib.Core.Path.{◌≡◌, refl, sym, ap, ap₂, subst, ◌∙◌}
 use mathlib.Core.Logic.{⊎_elim}
 use mathlib.Core.Bool.{Bool, true, false, cond, not}
 use mathlib.Core.List.{List, [], ◌++◌}
@@ -13,7 +13,7 @@ use Rattle.std.specs.Prelude.{Err, None, Ok, Option, Result, Some}
 use Rattle.limits.specs.Limits.{rust_limits}
 use Rattle.limits.specs.Outcome.{cause_if, or_else, refuse_by}
 use Rattle.limits.specs.declared.Refusal.{Refusal}
-use Rattle.limits.specs.declared.Refusal.TheVariants.{BadStore, NoRoom, TextTooLong, InvalidMethod}
+use Rattle.limits.specs.declared.Refusal.TheVariants.{NoRoom, TextTooLong, InvalidMethod}
 use Rattle.text.specs.Answers.{too_long, length_cause}
 use Rattle.msg.specs.Block.{block_cause}
 use Rattle.methods.specs.Methods.{is_method, method_cause}
@@ -26,16 +26,14 @@ use Rattle.ordered_store.proofs.RunLaws.{kept_with, way_arguments, way_over, way
 use Rattle.prack_body.specs.Lists.{Pending, Tracked, cleaned, cleaned_list, is_due, entries_of, first_of_rseq, is_acknowledged, pending_of, registered, open_in}
 use Rattle.prack_body.specs.Layout.{tracked_form, open_bytes}
 use Rattle.prack_body.specs.Body.{Holds}
-use Rattle.prack_list.specs.Steps.{position_in}
+use Rattle.prack_list.specs.Steps.{place_from, position_at, position_in}
 use Rattle.prack_body.specs.declared.TrackedAt.{TrackedAt}
-use Rattle.prack_list.specs.declared.finding.Position.TheVariants as position
+use Rattle.prack_list.specs.declared.finding.PendingAt.{PendingAt}
 use Rattle.prack_body.proofs.BodyLaws.{loaded}
-use Rattle.prack_list.proofs.FindLaws.{position_found, position_no_list, position_unknown}
+use Rattle.prack_list.proofs.FindLaws.{position_found}
 use Rattle.prack_entries.specs.Entries.{key_of_text, key_of, encode_tracked, held_for, clean_for}
 use Rattle.prack_entries.specs.Places.{slot_for, Sought}
-use Rattle.prack_entries.specs.declared.finding.Slot.{Slot as SlotAt}
-use Rattle.prack_entries.specs.declared.finding.Slot.TheVariants as slots
-use Rattle.prack_entries.proofs.SlotLaws.{unreadable, was, broken_not, Found, found, lacking}
+use Rattle.prack_entries.proofs.SlotLaws.{unreadable, was, Found, found, lacking}
 use Rattle.prack_validator.specs.Validator.{Action, register, validate, is_pracked, get_pending, remove_dialog, remove_pracked, Value, no_value, flag, written, action_cause, list_of, marked_for, judged_for, rack_value, deciding, pruned, judge, ran}
 
 -- ---- the arguments
@@ -109,12 +107,14 @@ module _ (bytes : List ℕ) (used : ℕ) (a : Action) where
 
   module _ (clear : action_cause rust_limits a ≡ None) where
     -- 3
-    pub by_store : (id : List ℕ) → slot_for id bytes used ≡ slots.Broken → left ≡ kept_with bytes used BadStore
-    by_store id e =
+    pub by_store : (id : List ℕ) {cause : Refusal} → slot_for id bytes used ≡ Err cause → left ≡ kept_with bytes used cause
+    by_store id {cause} e =
+        let u = unreadable id bytes used e in
         ⊎_elim (λ h. way_over (tracked_form rust_limits) key_of (action_cause rust_limits a) (judge rust_limits a) bytes used clear h)
-        (λ h. way_unread (tracked_form rust_limits) key_of (action_cause rust_limits a) (judge rust_limits a) bytes used clear h.0 h.1) (unreadable id bytes used e)
+        (λ h. way_unread (tracked_form rust_limits) key_of (action_cause rust_limits a) (judge rust_limits a) bytes used clear h.0 h.1) u.1
+        ∙ ap (kept_with bytes used) (sym u.0)
 
-    module _ {id : List ℕ} {slot : SlotAt} (s : Sought id bytes used slot) where
+    module _ {id : List ℕ} {slot : Result TrackedAt ℕ} (s : Sought id bytes used slot) where
       -- the call's own cause over what is held
       pub by_cause : {cause : Refusal} → judge rust_limits a s.list ≡ Err cause → left ≡ kept_with bytes used cause
       by_cause {cause} j = way_judged (tracked_form rust_limits) key_of (action_cause rust_limits a) (judge rust_limits a) bytes used clear s.within s.list s.are cause j
@@ -182,15 +182,18 @@ module _ (id : List ℕ) (ts : List Tracked) where
 -- ---- the first entry of an RSeq, by its position
 
 module _ (r : ℕ) (o : Option (List Pending)) where
-  pub at_flag : {k c m : ℕ} {b : Bool} → position.At k c m b ≡ position_in r o → is_acknowledged (first_of_rseq r (entries_of o)) ≡ b
+  pub at_flag : {e : PendingAt} → Ok e ≡ position_in r o → is_acknowledged (first_of_rseq r (entries_of o)) ≡ e.acknowledged
   at_flag e = let w = position_found r o e in ap (λ (x : Option (List Pending)). is_acknowledged (first_of_rseq r (entries_of x))) w.stands ∙ ap is_acknowledged w.first ∙ sym w.same_flag
 
-  pub no_list_flag : position.NoList ≡ position_in r o → is_acknowledged (first_of_rseq r (entries_of o)) ≡ false
-  unfolding first_of_rseq
-  no_list_flag e = ap (λ (x : Option (List Pending)). is_acknowledged (first_of_rseq r (entries_of x))) (position_no_list r o e)
-
-  pub unknown_flag : position.Unknown ≡ position_in r o → is_acknowledged (first_of_rseq r (entries_of o)) ≡ false
-  unknown_flag e = let w = position_unknown r o e in ap (λ (x : Option (List Pending)). is_acknowledged (first_of_rseq r (entries_of x))) w.1.0 ∙ ap is_acknowledged w.1.1
+-- none, with or without a list
+pub no_flag : (r : ℕ) (o : Option (List Pending)) {cause : Refusal} → Err cause ≡ position_in r o → is_acknowledged (first_of_rseq r (entries_of o)) ≡ false
+unfolding first_of_rseq
+no_flag r None e = refl
+no_flag r (Some ps) {cause} e = by (first_of_rseq r ps) e
+  where
+    by : (f : Option Pending) → Err cause ≡ position_at (place_from 10 r ps) f → is_acknowledged f ≡ false
+    by None q = refl
+    by (Some p) q = absurd (let z : ◌≡◌ {A = ℕ} 0 1 = cc in omega arith)
 
 -- ---- the text of what is held
 
@@ -203,16 +206,15 @@ cleaned_id time id (Some t) f = by (is_due rust_limits time t)
     by true = f t refl
     by false = f t refl
 
-held_id : {id bytes : List ℕ} {used : ℕ} → Bytes bytes → (slot : SlotAt) (s : Sought id bytes used slot) (t : Tracked) → held_for id s.list ≡ Some t → t.id ≡ id
-held_id {id} {bytes} {used} b (slots.Held p) s t e = let w = found id bytes used p b s in let q : w.t ≡ t = same_held w.is e in ap (λ (x : Tracked). x.id) (sym q) ∙ w.same
+held_id : {id bytes : List ℕ} {used : ℕ} → Bytes bytes → (slot : Result TrackedAt ℕ) (s : Sought id bytes used slot) (t : Tracked) → held_for id s.list ≡ Some t → t.id ≡ id
+held_id {id} {bytes} {used} b (Ok p) s t e = let w = found id bytes used p b s in let q : w.t ≡ t = same_held w.is e in ap (λ (x : Tracked). x.id) (sym q) ∙ w.same
   where
     same_held : {x y : Tracked} → held_for id s.list ≡ Some x → held_for id s.list ≡ Some y → x ≡ y
     same_held f g = let z = sym f ∙ g in cc
-held_id {id} {bytes} {used} b (slots.Free at) s t e = absurd (let z = sym (lacking id bytes used at b s).0 ∙ e in let y : ◌≡◌ {A = ℕ} 0 1 = cc in omega arith)
-held_id {id} {bytes} {used} b slots.Broken s t e = absurd (broken_not id bytes used s)
+held_id {id} {bytes} {used} b (Err at) s t e = absurd (let z = sym (lacking id bytes used at b s).0 ∙ e in let y : ◌≡◌ {A = ℕ} 0 1 = cc in omega arith)
 
 -- the text of what is held after a cleanup is the one that was asked for
-pub clean_id : {id bytes : List ℕ} {used : ℕ} {slot : SlotAt} → Bytes bytes → (s : Sought id bytes used slot) (time : ℕ) → (clean_for rust_limits time id s.list).id ≡ id
+pub clean_id : {id bytes : List ℕ} {used : ℕ} {slot : Result TrackedAt ℕ} → Bytes bytes → (s : Sought id bytes used slot) (time : ℕ) → (clean_for rust_limits time id s.list).id ≡ id
 clean_id {id} {bytes} {used} {slot} b s time = cleaned_id time id (held_for id s.list) (held_id b slot s)
 
 -- ---- a dialog removed
@@ -247,3 +249,11 @@ body_there {id} {bytes} {used} {p} b h w =
     let e : take n (drop from bytes) ≡ x = part_used bytes used from n h (omega (arith, w.text_inside, w.end_within)) in
     let g : Holds (put_at 0 x []) n w.t = loaded (take used bytes) (bytes_take used bytes b) w.stands [] refl in
     record { formed = g.formed; long = g.long; are = ap (take n) e ∙ take_all n x (omega (arith, l)) ∙ sym (take_at x (drop (0 + length x) []) n l) ∙ g.are }
+
+pub body_alone : {id bytes : List ℕ} {used : ℕ} {p : TrackedAt} {ts : List Tracked} → Bytes bytes → used ≤ length bytes → (w : Found id bytes used p ts)
+    → Holds (take (p.end - (p.id.start + p.id.length)) (drop (p.id.start + p.id.length) bytes)) (length (take (p.end - (p.id.start + p.id.length)) (drop (p.id.start + p.id.length) bytes))) w.t
+body_alone {id} {bytes} {used} {p} b h w =
+    let n : ℕ = p.end - (p.id.start + p.id.length) in
+    let s : List ℕ = drop (p.id.start + p.id.length) bytes in
+    let l : length (take n s) ≡ n = length-take-le n s (omega (arith, length-drop (p.id.start + p.id.length) bytes, w.text_inside, w.end_within, h)) in
+    subst (λ (k : ℕ). Holds (take n s) k w.t) (sym l) (body_there b h w)

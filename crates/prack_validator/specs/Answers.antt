@@ -7,7 +7,6 @@ use Rattle.rack.specs.declared.RAck.{RAck}
 use Rattle.ordered_store.specs.Run.{Left}
 use Rattle.prack_validator.specs.Validator.{Value, no_value, rack, flag, written}
 use Rattle.prack_validator.specs.declared.Validated.{Validated}
-use Rattle.prack_validator.specs.declared.Validated.TheVariants as validated
 
 -- ---- values: each keeps what it was except where its answer is given
 
@@ -49,8 +48,8 @@ abbrev pub no_rack : RAck
 no_rack = record { rseq = 0; cseq = 0; method = 0 }
 
 abbrev pub validated_by : Result Value Refusal → ℕ → Validated
-validated_by (Err cause) used = validated.Refused cause used
-validated_by (Ok v) used = validated.Is (rack_after (Ok v) no_rack) used
+validated_by (Err cause) used = record { verdict = Err cause; used = used }
+validated_by (Ok v) used = record { verdict = Ok (rack_after (Ok v) no_rack); used = used }
 
 abbrev pub validated_in : Left Value → Validated
 validated_in l = validated_by l.answer l.used
@@ -74,7 +73,7 @@ used_listed (Ok (n, after)) used = after
 
 -- ---- steps of the code
 
--- a verdict on a PRACK, beside the new used length
-abbrev pub validated_of : Result RAck Refusal → ℕ → Validated
-validated_of (Err cause) used = validated.Refused cause used
-validated_of (Ok k) used = validated.Is k used
+-- a verdict on a PRACK, or a refusal that keeps all
+abbrev pub validated_or : Result Validated Refusal → ℕ → Validated
+validated_or (Err cause) used = record { verdict = Err cause; used = used }
+validated_or (Ok v) used = v

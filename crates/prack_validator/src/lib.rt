@@ -6,77 +6,90 @@ ghost use Rattle.std.specs.Prelude.{◌≡◌, length};
 ghost use Rattle.limits.specs.Limits.{rust_limits};
 ghost use Rattle.ordered_store.specs.Answers.{written_in, used_written};
 ghost use Rattle.prack_validator.specs.Validator.{register, validate, is_pracked, get_pending, ran};
-ghost use Rattle.prack_validator.specs.Answers.{validated_in, pracked_of, listed_in, used_listed, output_after, validated_of};
+ghost use Rattle.prack_validator.specs.Answers.{validated_in, validated_or, pracked_of, listed_in, used_listed, output_after};
 
 use limits::Refusal;
-use prack_entries::{Slot, clean_copy, find, set};
-use prack_list::Position;
+use prack_entries::{clean_copy, find, set};
+use prack_list::Provisional;
 use prack_verdict::hold_against;
 use rack::RAck;
 
 // The RAck that was accepted, or the cause; and the new used length, since a refused PRACK keeps the cleaned list.
 #[derive(Clone, Copy)]
-pub enum Validated {
-    Is(RAck, usize),
-    Refused(Refusal, usize),
+pub struct Validated {
+    pub verdict: Result<RAck, Refusal>,
+    pub used: usize,
 }
 
 // PrackValidator::register_reliable_provisional: 1, 28, 3, 18. Cleaned first; the eleventh drops the first. The new used length.
+// Kept (5, 6): a C caller lends bytes and says how many are used.
 pub fn register(
     id: &[u8],
-    rseq: u32,
-    cseq: u32,
-    method: u8,
-    code: u16,
-    time: u64,
+    response: Provisional,
     bytes: &mut [u8],
     used: usize,
 ) -> Result<usize, Refusal>
-    ensures value { result ≡ written_in (ran rust_limits (register id.now rseq cseq method code time) bytes.old used) }
-    ensures bytes_after { bytes.new ≡ (ran rust_limits (register id.now rseq cseq method code time) bytes.old used).bytes }
-    ensures used_value { used_written result used ≡ (ran rust_limits (register id.now rseq cseq method code time) bytes.old used).used }
+    ensures value { result ≡ written_in (ran rust_limits (register id.now response.rseq response.cseq response.method response.code response.time) bytes.old used) }
+    ensures bytes_after { bytes.new ≡ (ran rust_limits (register id.now response.rseq response.cseq response.method response.code response.time) bytes.old used).bytes }
+    ensures used_value { used_written result used ≡ (ran rust_limits (register id.now response.rseq response.cseq response.method response.code response.time) bytes.old used).used }
 {
     if text::too_long(id) {
         return Err(Refusal::TextTooLong);
     }
-    if !methods::is_method(method) {
+    if !methods::is_method(response.method) {
         return Err(Refusal::InvalidMethod);
     }
-    let slot = find(id, bytes, used);
-    if let Slot::Broken = slot {
-        return Err(Refusal::BadStore);
-    }
+    let slot = find(id, bytes, used)?;
     let mut body = [0u8; prack_body::BODY_ROOM];
-    let n = clean_copy(slot, bytes, used, time, &mut body);
-    let m = prack_list::push(&mut body, n, rseq, cseq, method, code, time);
+    let n = clean_copy(slot, bytes, used, response.time, &mut body);
+    let m = prack_list::push(&mut body, n, response);
     set(id, slot, &body[..m], bytes, used)
 }
 
 // PrackValidator::validate_prack: 1, 2, 3, 18, 19 to 24. Cleaned first; the response that is acknowledged is marked.
+// Kept (5, 6): a C caller lends bytes and says how many are used.
 pub fn validate(id: &[u8], block: &[u8], time: u64, bytes: &mut [u8], used: usize) -> Validated
     ensures value { result ≡ validated_in (ran rust_limits (validate id.now block.now time) bytes.old used) }
     ensures bytes_after { bytes.new ≡ (ran rust_limits (validate id.now block.now time) bytes.old used).bytes }
 {
-    if text::too_long(id) {
-        return Validated::Refused(Refusal::TextTooLong, used);
-    }
-    if let Err(x) = msg::check_block(block) {
-        return Validated::Refused(x, used);
-    }
-    let slot = find(id, bytes, used);
-    if let Slot::Broken = slot {
-        return Validated::Refused(Refusal::BadStore, used);
-    }
-    let mut body = [0u8; prack_body::BODY_ROOM];
-    let n = clean_copy(slot, bytes, used, time, &mut body);
-    let verdict = hold_against(block, &mut body, n);
-    match set(id, slot, &body[..n], bytes, used) {
-        Ok(after) => judged(verdict, after),
-        Err(x) => Validated::Refused(x, used),
+    match judged(id, block, time, bytes, used) {
+        Ok(v) => v,
+        Err(cause) => Validated {
+            verdict: Err(cause),
+            used,
+        },
     }
 }
 
+// The verdict on a PRACK, or a refusal that keeps all: 1, 2, 3, 18.
+// Kept (5, 6): a C caller lends bytes and says how many are used.
+fn judged(
+    id: &[u8],
+    block: &[u8],
+    time: u64,
+    bytes: &mut [u8],
+    used: usize,
+) -> Result<Validated, Refusal>
+    ensures value { validated_or result used ≡ validated_in (ran rust_limits (validate id.now block.now time) bytes.old used) }
+    ensures bytes_after { bytes.new ≡ (ran rust_limits (validate id.now block.now time) bytes.old used).bytes }
+{
+    if text::too_long(id) {
+        return Err(Refusal::TextTooLong);
+    }
+    msg::check_block(block)?;
+    let slot = find(id, bytes, used)?;
+    let mut body = [0u8; prack_body::BODY_ROOM];
+    let n = clean_copy(slot, bytes, used, time, &mut body);
+    let verdict = hold_against(block, &mut body[..n]);
+    let kept = set(id, slot, &body[..n], bytes, used)?;
+    Ok(Validated {
+        verdict,
+        used: kept,
+    })
+}
+
 // PrackValidator::is_pracked: 1, 3. False where nothing is held for the text.
+// Kept (5, 6): a C caller lends bytes and says how many are used.
 pub fn is_pracked(id: &[u8], rseq: u32, bytes: &[u8], used: usize) -> Result<bool, Refusal>
     ensures value { result ≡ pracked_of (ran rust_limits (is_pracked id.now rseq) bytes.now used).answer }
     ensures bytes_value { bytes.now ≡ (ran rust_limits (is_pracked id.now rseq) bytes.now used).bytes }
@@ -85,23 +98,22 @@ pub fn is_pracked(id: &[u8], rseq: u32, bytes: &[u8], used: usize) -> Result<boo
     if text::too_long(id) {
         return Err(Refusal::TextTooLong);
     }
-    match find(id, bytes, used) {
-        Slot::Held(t) => {
+    match find(id, bytes, used)? {
+        Ok(t) => {
             let from = t.id.start + t.id.length;
             let to = t.end;
-            match prack_list::first_of(&bytes[from..to], to - from, rseq) {
-                Position::At(_, _, _, acknowledged) => Ok(acknowledged),
-                Position::NoList => Ok(false),
-                Position::Unknown => Ok(false),
+            match prack_list::first_of(&bytes[from..to], rseq) {
+                Ok(e) => Ok(e.acknowledged),
+                Err(_) => Ok(false),
             }
         }
-        Slot::Free(_) => Ok(false),
-        Slot::Broken => Err(Refusal::BadStore),
+        Err(_) => Ok(false),
     }
 }
 
 // PrackValidator::get_pending: 1, 3, 18. Cleaned first; RSeq in four bytes and code in two, in list order, at the front of the output.
 // How many bytes of it were written, and the new used length.
+// Kept (5, 6): a C caller lends bytes and says how many are used.
 pub fn get_pending(
     id: &[u8],
     time: u64,
@@ -117,25 +129,13 @@ pub fn get_pending(
     if text::too_long(id) {
         return Err(Refusal::TextTooLong);
     }
-    let slot = find(id, bytes, used);
-    if let Slot::Broken = slot {
-        return Err(Refusal::BadStore);
-    }
-    let mut body = [0u8; prack_body::BODY_ROOM];
-    let n = clean_copy(slot, bytes, used, time, &mut body);
-    if out.len() < prack_list::open_size(&body, n) {
+    let slot = find(id, bytes, used)?;
+    let mut room = [0u8; prack_body::BODY_ROOM];
+    let n = clean_copy(slot, bytes, used, time, &mut room);
+    let body = &room[..n];
+    if out.len() < prack_list::open_size(body) {
         return Err(Refusal::NoRoom);
     }
-    let after = set(id, slot, &body[..n], bytes, used)?;
-    Ok((prack_list::open_bytes(&body, n, out), after))
-}
-
-// A verdict beside the new used length.
-fn judged(verdict: Result<RAck, Refusal>, used: usize) -> Validated
-    ensures { result ≡ validated_of verdict used }
-{
-    match verdict {
-        Ok(k) => Validated::Is(k, used),
-        Err(cause) => Validated::Refused(cause, used),
-    }
+    let after = set(id, slot, body, bytes, used)?;
+    Ok((prack_list::open_bytes(body, out), after))
 }

@@ -1,19 +1,21 @@
 -- A PRACK held against a list, as the first entry of its RSeq decides it: the causes in their order, and the body that is left. Assumes nothing.
 use Prim.Native.Nat.{ℕ}
+use native.Mathlib.Omega.{arith}
 use mathlib.Core.Path.{◌≡◌, sym, ap, subst, ◌∙◌}
 use mathlib.Core.Bool.{Bool, true, false, not}
 use mathlib.Core.List.{List}
 use lib.Dec.{eqb}
 use borrow.Author.Tests.{eq-eqb, ne_eqb}
 use Rattle.std.specs.Prelude.{Err, None, Ok, Option, Result, Some}
-use Rattle.limits.specs.Outcome.{refuse_if}
+use Rattle.limits.specs.Outcome.{refuse_if, and_then, or_refuse}
 use Rattle.limits.specs.declared.Refusal.{Refusal}
 use Rattle.limits.specs.declared.Refusal.TheVariants.{InvalidRAck, NoPendingList, UnknownRSeq, RAckCSeqMismatch, RAckMethodMismatch, DuplicatePrack}
 use Rattle.rack.specs.declared.RAck.{RAck}
 use Rattle.prack_body.specs.Lists.{Pending, Tracked, first_of_rseq, marked, with_list}
 use Rattle.prack_body.specs.Body.{Holds}
+use Rattle.prack_list.specs.Steps.{place_from, position_at, position_in}
 use Rattle.prack_list.proofs.FindLaws.{FoundIn}
-use Rattle.prack_verdict.specs.Verdict.{judged, marked_by, verdict_of}
+use Rattle.prack_verdict.specs.Verdict.{matched, judged, marked_by, verdict_of}
 
 -- ---- the causes
 
@@ -23,15 +25,18 @@ unfolding judged
 no_rack_lem o list e = rw e
 
 module _ (o : Option RAck) (list : Option (List Pending)) (k : RAck) (e : o ≡ Some k) where
-  -- 20
-  pub no_list : list ≡ None → judged o list ≡ Err NoPendingList
+  -- 20, 21
+  pub no_entry : {cause : Refusal} → position_in k.rseq list ≡ Err cause → judged o list ≡ Err cause
   unfolding judged
-  no_list l = rw (e, l)
+  no_entry {cause} q = ap (λ (x : Option RAck). and_then (or_refuse InvalidRAck x) (λ j. and_then (or_refuse NoPendingList list) (λ ps. and_then (or_refuse UnknownRSeq (first_of_rseq j.rseq ps)) (λ p. matched j p)))) e ∙ by list q
+    where
+      some : (at : ℕ) (f : Option Pending) → position_at at f ≡ Err cause → and_then (or_refuse UnknownRSeq f) (λ p. matched k p) ≡ Err cause
+      some at None q = cc
+      some at (Some p) q = absurd (let z : ◌≡◌ {A = ℕ} 0 1 = cc in omega arith)
 
-  -- 21
-  pub no_entry : (ps : List Pending) → list ≡ Some ps → first_of_rseq k.rseq ps ≡ None → judged o list ≡ Err UnknownRSeq
-  unfolding judged
-  no_entry ps l f = rw (e, l, f)
+      by : (l : Option (List Pending)) → position_in k.rseq l ≡ Err cause → and_then (or_refuse NoPendingList l) (λ ps. and_then (or_refuse UnknownRSeq (first_of_rseq k.rseq ps)) (λ p. matched k p)) ≡ Err cause
+      by None q = cc
+      by (Some ps) q = some (place_from 10 k.rseq ps) (first_of_rseq k.rseq ps) q
 
   module _ {place c m : ℕ} {a : Bool} (w : FoundIn k.rseq list place c m a) where
     entry_decides : judged o list ≡ refuse_if (not (eqb c k.cseq)) RAckCSeqMismatch (refuse_if (not (eqb m k.method)) RAckMethodMismatch (refuse_if a DuplicatePrack (Ok k)))

@@ -12,6 +12,7 @@ use limits::Refusal;
 use methods::{is_method, method_of, name_of};
 use words::{after_word, word};
 
+// Kept (1): a C caller gives and gets a method by its number.
 #[derive(Clone, Copy)]
 pub struct RAck {
     pub rseq: u32,
@@ -20,6 +21,7 @@ pub struct RAck {
 }
 
 // RAck::parse: 1, 2, 19.
+// Kept (2): document 01 opens the reading of a RAck by `let .. else`; the readings of other values, of other types, differ in their refusal.
 pub fn parse_rack(value: &[u8]) -> Result<RAck, Refusal>
     ensures { result ≡ rack_answer (parse_rack rust_limits value.now) }
 {
@@ -31,6 +33,7 @@ pub fn parse_rack(value: &[u8]) -> Result<RAck, Refusal>
 }
 
 // RAck::format, at the front of out: 28, 18.
+// Kept (1): a C caller gives a method by its number, and 28 answers any that is none.
 pub fn format_rack(rseq: u32, cseq: u32, method: u8, out: &mut [u8]) -> Result<usize, Refusal>
     ensures value { result ≡ written_from (format_rack rseq cseq method (length out.old)) }
     ensures out_after { out.new ≡ leaves (format_rack rseq cseq method (length out.old)) out.old }
@@ -39,21 +42,20 @@ pub fn format_rack(rseq: u32, cseq: u32, method: u8, out: &mut [u8]) -> Result<u
         return Err(Refusal::InvalidMethod);
     }
     let name = name_of(method);
-    let bytes = name.bytes;
-    let n = name.length;
     let mut first = [0u8; 20];
     let k = io::decimal(rseq as u64, &mut first);
     let mut second = [0u8; 20];
     let m = io::decimal(cseq as u64, &mut second);
-    let length = k + m + n + 2;
+    let length = k + m + name.len() + 2;
     if out.len() < length {
         return Err(Refusal::NoRoom);
     }
-    write_spaced(&first[..k], &second[..m], &bytes[..n], out);
+    write_spaced(&first[..k], &second[..m], name, out);
     Ok(length)
 }
 
 // Three parts at the front of out, with a space between them.
+// Kept (5): the parts of one line that is written here alone; `a` and `b` travel together nowhere else.
 fn write_spaced(a: &[u8], b: &[u8], c: &[u8], out: &mut [u8])
     requires { length a.now + length b.now + length c.now + 2 ≤ length out.old }
     ensures { out.new ≡ over (spaced a.now b.now c.now) out.old }

@@ -6,8 +6,8 @@ use Rattle.record.specs.Record.{State, early, confirmed, terminated, Side, uac, 
 use Rattle.record.specs.Rules.{Kind, ack, other}
 use Rattle.record.specs.declared.numbers.State.{State as CodeState}
 use Rattle.record.specs.declared.numbers.State.TheVariants as state
-use Rattle.record.specs.declared.numbers.Refresher.{Refresher}
-use Rattle.record.specs.declared.numbers.Refresher.TheVariants as refresher
+use Rattle.headers.specs.declared.session_timer.Refresher.{Refresher}
+use Rattle.headers.specs.declared.session_timer.Refresher.TheVariants as refresher
 use Rattle.record.specs.declared.numbers.Numbers.{Numbers as CodeNumbers}
 use Rattle.record.specs.declared.numbers.Method.{Method}
 use Rattle.record.specs.declared.numbers.Method.TheVariants as method
@@ -21,10 +21,11 @@ abbrev pub number_in : Option ℕ → Option ℕ
 number_in (Some n) = Some n
 number_in None = None
 
-abbrev pub side_in : Refresher → Option Side
-side_in refresher.Uac = Some uac
-side_in refresher.Uas = Some uas
-side_in refresher.Unspecified = None
+-- who refreshes
+abbrev pub side_in : Option Refresher → Option Side
+side_in (Some refresher.Uac) = Some uac
+side_in (Some refresher.Uas) = Some uas
+side_in None = None
 
 -- what the code's numbers say
 abbrev pub meaning : CodeNumbers → Numbers
@@ -57,10 +58,10 @@ abbrev pub number_from : Option ℕ → Option ℕ
 number_from None = None
 number_from (Some n) = Some n
 
-abbrev pub side_from : Option Side → Refresher
-side_from None = refresher.Unspecified
-side_from (Some uac) = refresher.Uac
-side_from (Some uas) = refresher.Uas
+abbrev pub side_from : Option Side → Option Refresher
+side_from None = None
+side_from (Some uac) = Some refresher.Uac
+side_from (Some uas) = Some refresher.Uas
 
 abbrev pub numbers_from : Numbers → CodeNumbers
 numbers_from x = record {

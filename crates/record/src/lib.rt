@@ -3,4 +3,4 @@
 
 mod numbers;
 
-pub use numbers::{Method, Numbers, Refresher, State};
+pub use numbers::{Method, Numbers, State};

@@ -4,6 +4,7 @@ ghost use Rattle.limits.specs.Limits.{rust_limits};
 ghost use Rattle.record.specs.Rules.{request_step, ack_step, other_step, confirm_step, terminate_step, local_step, with_seconds, interval_step};
 ghost use Rattle.record.specs.NumbersForm.{meaning, kind_in, outcome_in};
 
+use headers::Refresher;
 use limits::{Limits, Refusal};
 use session_seconds::check_expires_seconds;
 
@@ -14,14 +15,8 @@ pub enum State {
     Terminated,
 }
 
-#[derive(Clone, Copy)]
-pub enum Refresher {
-    Uac,
-    Uas,
-    Unspecified,
-}
-
 // ACK is exactly those letters; every other method is another.
+// Kept (1, 7): the two are the cases of the rules (`Kind`, specs/Rules.antt), none of them an absence, and a flag would say less.
 #[derive(Clone, Copy)]
 pub enum Method {
     Ack,
@@ -35,11 +30,12 @@ pub struct Numbers {
     pub remote: u32,
     pub last_ack: Option<u32>,
     pub seconds: Option<u32>,
-    pub refresher: Refresher,
+    pub refresher: Option<Refresher>,
 }
 
 impl Numbers {
     // update_from_request: 9; ACK 11; others 10, 11, 12.
+    // Kept (7): a request is one of the two kinds of the rules; closures for the two steps would be no plainer.
     pub fn request(self, method: Method, cseq: u32) -> Result<Numbers, Refusal>
         ensures { outcome_in result ≡ request_step rust_limits (kind_in method) cseq (meaning self) }
     {
@@ -62,16 +58,9 @@ impl Numbers {
         if self.remote == 0 {
             return Err(Refusal::InvalidCSeq);
         }
-        let state = self.state;
-        let seconds = self.seconds;
-        let refresher = self.refresher;
         Ok(Numbers {
-            state,
-            local: self.local,
-            remote: self.remote,
             last_ack: Some(cseq),
-            seconds,
-            refresher,
+            ..self
         })
     }
 
@@ -91,9 +80,10 @@ impl Numbers {
                 return Err(Refusal::CSeqJumpTooLarge);
             }
         }
-        let mut x = self;
-        x.remote = cseq;
-        Ok(x)
+        Ok(Numbers {
+            remote: cseq,
+            ..self
+        })
     }
 
     // Early becomes Confirmed; every other state stays.
@@ -122,9 +112,10 @@ impl Numbers {
         if local == 4294967295 {
             return self;
         }
-        let mut x = self;
-        x.local = local + 1;
-        x
+        Numbers {
+            local: local + 1,
+            ..self
+        }
     }
 
     // set_session_expires: 13 with 90, 14.
@@ -138,32 +129,15 @@ impl Numbers {
     fn with_seconds(self, n: u32) -> Numbers
         ensures { meaning result ≡ with_seconds n (meaning self) }
     {
-        let state = self.state;
-        let last_ack = self.last_ack;
-        let refresher = self.refresher;
         Numbers {
-            state,
-            local: self.local,
-            remote: self.remote,
-            last_ack,
             seconds: Some(n),
-            refresher,
+            ..self
         }
     }
 
     fn in_state(self, state: State) -> Numbers
         ensures { result ≡ record { state = state; local = self.local; remote = self.remote; last_ack = self.last_ack; seconds = self.seconds; refresher = self.refresher } }
     {
-        let last_ack = self.last_ack;
-        let seconds = self.seconds;
-        let refresher = self.refresher;
-        Numbers {
-            state,
-            local: self.local,
-            remote: self.remote,
-            last_ack,
-            seconds,
-            refresher,
-        }
+        Numbers { state, ..self }
     }
 }

@@ -2,101 +2,95 @@
 // The caller has read the record.
 #![tactic(auto)]
 
-ghost use Rattle.std.specs.Prelude.{◌≡◌, ◌≤◌, ◌<◌, length, take, Some};
+ghost use Rattle.std.specs.Prelude.{◌≡◌, ◌≤◌, ◌<◌, length, take};
 ghost use Rattle.edit.specs.Edit.{over};
 ghost use Rattle.output.specs.Output.{fitted, leaves, written_from};
 ghost use Rattle.record.specs.Changes.{with_numbers};
 ghost use Rattle.record.specs.NumbersForm.{meaning};
-ghost use Rattle.image.specs.Places.{record_from};
-ghost use Rattle.image_edit.specs.Changes.{read_at, changed};
+ghost use Rattle.image_edit.specs.Changes.{changed};
+ghost use Rattle.image_edit.specs.Stands.{StandsAt};
 ghost use Rattle.record_gaps.specs.Revised.{revised};
 
-use image::RecordAt;
-use image_edit::change_numbers;
+use image_edit::{RecordPlace, change_numbers};
 use image_writer::{numbers_size, write_numbers};
 use limits::Refusal;
 use record::Numbers;
-use record_gaps::{open_gaps, write_head};
+use record_gaps::{Gap, open_gaps, write_head};
 
-// Other numbers for the record whose image begins at a place of the used bytes: 18. Answers the new used length.
-pub fn revise_numbers(
-    bytes: &mut [u8],
-    used: usize,
-    at: usize,
-    r: RecordAt,
-    numbers: Numbers,
-) -> Result<usize, Refusal>
-    requires used_in_bounds { (used ≤ length bytes.old) × (at ≤ used) }
-    requires bytes_value { record_from at (read_at at (take used bytes.old)) ≡ Some r }
-    ensures value { result ≡ written_from (fitted (length bytes.old) (changed (with_numbers (meaning numbers)) at (take used bytes.old))) }
-    ensures bytes_after { bytes.new ≡ leaves (fitted (length bytes.old) (changed (with_numbers (meaning numbers)) at (take used bytes.old))) bytes.old }
+// Other numbers for the record: 18. Answers the new used length.
+// Kept (5): each call has its own numbers, so that a struct of bytes, place and numbers would be made for it alone.
+pub fn revise_numbers(bytes: &mut [u8], p: RecordPlace, numbers: Numbers) -> Result<usize, Refusal>
+    requires stands { StandsAt bytes.old p }
+    ensures value { result ≡ written_from (fitted (length bytes.old) (changed (with_numbers (meaning numbers)) p.at (take p.used bytes.old))) }
+    ensures bytes_after { bytes.new ≡ leaves (fitted (length bytes.old) (changed (with_numbers (meaning numbers)) p.at (take p.used bytes.old))) bytes.old }
 {
+    let r = p.record;
     let uris = r.uris;
     let old = r.routes - uris.end;
-    let size = used - old + numbers_size(numbers);
+    let size = p.used - old + numbers_size(numbers);
     if bytes.len() < size {
         return Err(Refusal::NoRoom);
     }
-    Ok(change_numbers(bytes, used, at, r, numbers))
+    Ok(change_numbers(bytes, p, numbers))
 }
 
 // Other numbers and another target, a text of at most 65,535 bytes: 18.
+// Kept (5): each call has its own numbers, so that a struct of bytes, place and numbers would be made for it alone.
 pub fn revise_numbers_and_target(
     bytes: &mut [u8],
-    used: usize,
-    at: usize,
-    r: RecordAt,
+    p: RecordPlace,
     numbers: Numbers,
     target: &[u8],
 ) -> Result<usize, Refusal>
-    requires used_in_bounds { (used ≤ length bytes.old) × (at ≤ used) × (length target.now < 65536) }
-    requires bytes_value { record_from at (read_at at (take used bytes.old)) ≡ Some r }
-    ensures value { result ≡ written_from (fitted (length bytes.old) (changed (revised (meaning numbers) target.now) at (take used bytes.old))) }
-    ensures bytes_after { bytes.new ≡ leaves (fitted (length bytes.old) (changed (revised (meaning numbers) target.now) at (take used bytes.old))) bytes.old }
+    requires stands { StandsAt bytes.old p }
+    requires target_bound { length target.now < 65536 }
+    ensures value { result ≡ written_from (fitted (length bytes.old) (changed (revised (meaning numbers) target.now) p.at (take p.used bytes.old))) }
+    ensures bytes_after { bytes.new ≡ leaves (fitted (length bytes.old) (changed (revised (meaning numbers) target.now) p.at (take p.used bytes.old))) bytes.old }
 {
+    let r = p.record;
     let uris = r.uris;
     let text = uris.target;
     let old = r.routes - uris.end;
-    let result = used - text.length - old + target.len() + numbers_size(numbers);
+    let result = p.used - text.length - old + target.len() + numbers_size(numbers);
     if bytes.len() < result {
         return Err(Refusal::NoRoom);
     }
-    Ok(change_numbers_and_target(bytes, used, at, r, numbers, target))
+    Ok(change_numbers_and_target(bytes, p, numbers, target))
 }
 
 // The same where it fits. The new used length.
+// Kept (5): each call has its own numbers, so that a struct of bytes, place and numbers would be made for it alone.
 fn change_numbers_and_target(
     bytes: &mut [u8],
-    used: usize,
-    at: usize,
-    r: RecordAt,
+    p: RecordPlace,
     numbers: Numbers,
     target: &[u8],
 ) -> usize
-    requires used_in_bounds { (used ≤ length bytes.old) × (at ≤ used) × (length target.now < 65536) }
-    requires bytes_value { record_from at (read_at at (take used bytes.old)) ≡ Some r }
-    requires bytes_in_bounds { length (changed (revised (meaning numbers) target.now) at (take used bytes.old)) ≤ length bytes.old }
-    ensures value { result ≡ length (changed (revised (meaning numbers) target.now) at (take used bytes.old)) }
-    ensures bytes_after { bytes.new ≡ over (changed (revised (meaning numbers) target.now) at (take used bytes.old)) bytes.old }
+    requires stands { StandsAt bytes.old p }
+    requires target_bound { length target.now < 65536 }
+    requires bytes_in_bounds { length (changed (revised (meaning numbers) target.now) p.at (take p.used bytes.old)) ≤ length bytes.old }
+    ensures value { result ≡ length (changed (revised (meaning numbers) target.now) p.at (take p.used bytes.old)) }
+    ensures bytes_after { bytes.new ≡ over (changed (revised (meaning numbers) target.now) p.at (take p.used bytes.old)) bytes.old }
 {
+    let r = p.record;
     let uris = r.uris;
     let old = uris.target;
     let start = old.start;
     let old_length = old.length;
     let from = uris.end;
-    let size = numbers_size(numbers);
-    let n = open_gaps(
-        bytes,
-        used,
-        start,
+    let first = Gap {
+        at: start,
         old_length,
-        target.len(),
-        from,
-        r.routes - from,
-        size,
-    );
+        new_length: target.len(),
+    };
+    let second = Gap {
+        at: from,
+        old_length: r.routes - from,
+        new_length: numbers_size(numbers),
+    };
+    let n = open_gaps(bytes, p.used, first, second);
     let to = start + target.len() + (from - (start + old_length));
     write_numbers(bytes, to, numbers);
-    write_head(bytes, at, r, numbers, r.route_count, target);
+    write_head(bytes, p, numbers, r.route_count, target);
     n
 }

@@ -4,5 +4,5 @@
 mod gaps;
 mod head;
 
-pub use gaps::open_gaps;
+pub use gaps::{Gap, open_gaps};
 pub use head::write_head;

@@ -1,7 +1,8 @@
 -- Steps of the code: the record at a place of bytes that are whole records, where its parts lie and where its image ends.
-use Rattle.std.specs.Prelude.{ℕ, zero, suc, ◌+◌, ◌*◌, ◌≡◌, Bool, true, false, List, [], ◌++◌, length, drop, get_or, None, Option, Some}
+use Rattle.std.specs.Prelude.{ℕ, zero, suc, ◌+◌, ◌*◌, ◌≤◌, ◌<◌, ◌≡◌, Bool, true, false, List, [], ◌++◌, length, drop, get_or, None, Option, Some}
 use Rattle.codec.specs.Codec.{Reading}
-use Rattle.record.specs.Record.{Record, Ids, id_text, is_filled, fields_of, image}
+use Rattle.record.specs.Record.{Record, Ids, id_text, is_filled, is_given, fields_of, image}
+use Rattle.record.specs.Store.{records_in}
 
 -- a record stands at a place
 pub record At (s : List ℕ) (p : ℕ) : Type 0 where
@@ -51,3 +52,11 @@ end_at s p = p + length_read (image.read (drop p s))
 unfoldable pub texts_end : ℕ → List ℕ → ℕ → ℕ
 texts_end zero s at = at
 texts_end (suc n) s at = texts_end n s (past_text s at true)
+
+-- ---- whole records from a place on
+
+-- the end of the first, from where on the bytes are whole records too; none, where no bytes are left
+abbrev pub EndsFirst : List ℕ → ℕ → Option ℕ → Type 0
+EndsFirst s at None = length s ≤ at
+EndsFirst s at (Some end) =
+    (at < length s) × At s at × (end ≡ end_at s at) × (at < end) × (end ≤ length s) × (is_given (records_in (length s) (drop end s)) ≡ true)

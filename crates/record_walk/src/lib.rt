@@ -7,7 +7,12 @@ ghost use Rattle.record_walk.specs.Walk.{At, two_at, past_text, ids_end, end_at,
 
 use codec::wide;
 
+mod records;
+
+pub use records::Records;
+
 // The place past the record at a place.
+// Kept (5): one slice is lent, and many places in it are asked about.
 pub fn record_end(bytes: &[u8], p: usize) -> usize
     requires { At bytes.now p }
     ensures { result ≡ end_at bytes.now p }
@@ -26,6 +31,7 @@ pub fn record_end(bytes: &[u8], p: usize) -> usize
 }
 
 // The place past the identifier of the record at a place.
+// Kept (5): one slice is lent, and many places in it are asked about.
 pub fn ids_end(bytes: &[u8], p: usize) -> usize
     requires { At bytes.now p }
     ensures { (result ≡ ids_end bytes.now p) × (result ≤ length bytes.now) }
@@ -37,6 +43,7 @@ pub fn ids_end(bytes: &[u8], p: usize) -> usize
 }
 
 // The place past a text, where one stands.
+// Kept (5, 7): one slice is lent, and many places in it are asked about; the bit of the map that says whether a text stands is the argument.
 pub fn past(bytes: &[u8], at: usize, stands: bool) -> usize
     requires { past_text bytes.now at stands ≤ length bytes.now }
     ensures { result ≡ past_text bytes.now at stands }
@@ -48,6 +55,7 @@ pub fn past(bytes: &[u8], at: usize, stands: bool) -> usize
 }
 
 // The number in two bytes.
+// Kept (5): one slice is lent, and many places in it are asked about.
 pub fn two(bytes: &[u8], at: usize) -> usize
     requires { at + 1 < length bytes.now }
     ensures { (result ≡ two_at bytes.now at) × (result < 65536) }
@@ -56,15 +64,14 @@ pub fn two(bytes: &[u8], at: usize) -> usize
 }
 
 // The place past so many texts.
+// Kept (5): one slice is lent, and many places in it are asked about.
 fn texts_end(bytes: &[u8], at: usize, count: usize) -> usize
     requires { texts_end count bytes.now at ≤ length bytes.now }
     ensures { result ≡ texts_end count bytes.now at }
 {
-    let mut left = count;
     let mut end = at;
-    while 0 < left {
+    for i in 0..count {
         end = past(bytes, end, true);
-        left -= 1;
     }
     end
 }

@@ -64,6 +64,7 @@ fn reckon(row: usize, b: &[u8], v: &[u64; 48], o: &mut [u64; 8]) -> u64 {
 }
 
 // One image, read.
+// Kept (4): the rows of the list go by number, and each has a call of its own form.
 fn read_image(row: usize, b: &[u8], v: &[u64; 48], o: &mut [u64; 8]) -> u8 {
     match row {
         39 => readings::state(b, v, o),
@@ -76,6 +77,7 @@ fn read_image(row: usize, b: &[u8], v: &[u64; 48], o: &mut [u64; 8]) -> u8 {
 }
 
 // One image, made or changed; texts that are written.
+// Kept (4): the rows of the list go by number, and each has a call of its own form.
 fn change(row: usize, b: &[u8], v: &[u64; 48], out: &mut [u8], o: &mut [u64; 8]) -> u8 {
     match row {
         46 | 47 => changes::creation(row, b, v, out, o),
@@ -87,6 +89,7 @@ fn change(row: usize, b: &[u8], v: &[u64; 48], out: &mut [u8], o: &mut [u64; 8])
 }
 
 // A store.
+// Kept (4): the rows of the list go by number, and each has a call of its own form.
 fn on_store(
     row: usize,
     b: &[u8],

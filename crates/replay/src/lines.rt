@@ -3,7 +3,8 @@ use crate::calls::call;
 use replay_answers::{Outcome, as_recorded, fill_outs, lent_length, set_memory};
 use replay_lines::{copy_at, part, place_of, read_items, row_of, shape_fits, text};
 
-// The line, given the list, at whose head the rows are, and a memory of so many bytes. `old` and `bytes` are room to work in.
+// What becomes of the line, given the list, at whose head the rows are, and a memory of so many bytes; none where it can't be read. `old` and `bytes` are room to
+// work in.
 pub fn one_line(
     line: &[u8],
     list: &[u8],
@@ -11,24 +12,23 @@ pub fn one_line(
     old: &mut [u8],
     bytes: &mut [u8],
     size: usize,
-) -> Outcome {
+) -> Option<Outcome> {
     if let [] | [b'#', ..] = line {
-        return Outcome::Passed;
+        return Some(Outcome::Passed);
     }
     let n = line.iter().position(|&b| b == b' ').unwrap_or(line.len());
     let name = part(line, 0, n);
     let mut letters = [0u8; 24];
     let mut items = [0u64; 48];
     let rest = part(line, n, line.len());
-    let Some(count) = read_items(rest, bytes, &mut letters, &mut items) else {
-        return Outcome::Unreadable;
-    };
+    let count = read_items(rest, bytes, &mut letters, &mut items)?;
     let letters = part(&letters, 0, count);
     let Some((number, row)) = row_of(list, name) else {
-        return set_memory(name, letters, bytes, &items, store, size);
+        let size = set_memory(name, letters, bytes, &items, store, size)?;
+        return Some(Outcome::Memory(size));
     };
     if !shape_fits(row.shape, letters) {
-        return Outcome::Unreadable;
+        return None;
     }
     replay_call(number, row.shape, count, bytes, &items, store, old, size)
 }
@@ -43,15 +43,15 @@ fn replay_call(
     store: &mut [u8],
     old: &mut [u8],
     size: usize,
-) -> Outcome {
+) -> Option<Outcome> {
     let equals = place_of(shape, b'=');
     let lent = lent_length(shape, items, b's');
     let out_lent = lent_length(shape, items, b'o');
     if size < lent {
-        return Outcome::Unreadable;
+        return None;
     }
     if 65536 < out_lent {
-        return Outcome::Unreadable;
+        return None;
     }
     let mut out = [0u8; 65536];
     let mut o = [0u64; 8];
@@ -70,9 +70,9 @@ fn replay_call(
         part(store, 0, size),
         part(old, 0, size),
     ) {
-        return Outcome::Same(row);
+        return Some(Outcome::Same(row));
     }
-    Outcome::Differs(row)
+    Some(Outcome::Differs(row))
 }
 
 // The call, lent so many bytes of the memory and of the output.

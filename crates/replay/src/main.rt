@@ -19,6 +19,7 @@ fn main(rt: HostRuntime) -> io::Result<()> {
 }
 
 // Room for a list, or for the memory of a store.
+// Kept (6): no heap, so the room is an array.
 fn zeros() -> [u8; 786432]
     ensures { 786432 ≡ length result }
 {

@@ -9,12 +9,11 @@ pub use answers::{as_recorded, fill_outs, lent_length};
 pub use memory::set_memory;
 pub use tallies::{Tallies, report, show, take};
 
-// What became of a line: nothing was asked; the memory has so many bytes; the call of that row answered as recorded, or not; it can't be read.
+// What became of a line that can be read: nothing was asked; the memory has so many bytes; the call of that row answered as recorded, or not.
 #[derive(Clone, Copy)]
 pub enum Outcome {
     Passed,
     Memory(usize),
     Same(usize),
     Differs(usize),
-    Unreadable,
 }

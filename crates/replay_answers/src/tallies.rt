@@ -32,26 +32,26 @@ impl Tallies {
     }
 }
 
-// Counts what became of a line; how many bytes the memory then has.
+// Counts what became of a line, none where it can't be read; how many bytes the memory then has.
 pub fn take(
     rt: &impl Print,
-    outcome: Outcome,
+    outcome: Option<Outcome>,
     line: usize,
     tallies: &mut Tallies,
     size: usize,
 ) -> io::Result<usize> {
     match outcome {
-        Outcome::Passed => Ok(size),
-        Outcome::Memory(n) => Ok(n),
-        Outcome::Same(row) => {
+        Some(Outcome::Passed) => Ok(size),
+        Some(Outcome::Memory(n)) => Ok(n),
+        Some(Outcome::Same(row)) => {
             add(tallies, row, false, line);
             Ok(size)
         }
-        Outcome::Differs(row) => {
+        Some(Outcome::Differs(row)) => {
             add(tallies, row, true, line);
             Ok(size)
         }
-        Outcome::Unreadable => {
+        None => {
             println!(rt; "line {line} can't be read")?;
             tallies.unreadable = tallies.unreadable.saturating_add(1);
             Ok(size)

@@ -7,6 +7,7 @@ pub fn part<T>(s: &[T], from: usize, n: usize) -> &[T] {
 }
 
 // Writes s to the places of out from `at` on, as far as there is room.
+// Kept (4): the copy is `copy_from_slice`; here what has no room is passed over.
 pub fn copy_at(s: &[u8], out: &mut [u8], at: usize) {
     if let Some(room) = out.get_mut(at..) {
         let n = room.len().min(s.len());

@@ -27,6 +27,7 @@ pub fn value(items: &[u64; 48], k: usize) -> u64 {
 }
 
 // Reads the items of which a line's rest consists: how many; none where one of them can't be read.
+// Kept (6): no heap, so the caller lends the room for a line's items.
 pub fn read_items(
     line: &[u8],
     bytes: &mut [u8],

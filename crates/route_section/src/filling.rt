@@ -6,10 +6,12 @@ ghost use Rattle.route_section.specs.Filling.{text_put, filled, Answered, Bounde
 
 use codec::write_text;
 use limits::{Limits, Refusal};
-use route_set::{Element, next_part, read_element};
+use msg::Values;
+use route_set::{Elements, read_element};
 
 // The routes of all Record-Route lines, their elements one after another: one met when 50 are held ends the whole reading at once, and so does
 // one that is too long.
+// Kept (5): as `route_set::route`, which takes a block and whether it is reversed from the C function.
 pub fn fill_routes(out: &mut [u8], block: &[u8], reversed: bool) -> Result<(usize, usize), Refusal>
     requires { length block.now ≤ 8192 }
     ensures answered { Answered (filled rust_limits reversed (record { count = 0; size = 0; bytes = out.old }) (route_elements block.now)) result out.new }
@@ -17,46 +19,28 @@ pub fn fill_routes(out: &mut [u8], block: &[u8], reversed: bool) -> Result<(usiz
 {
     let mut count = 0;
     let mut size = 0;
-    let mut at = 0;
-    let mut ended = Ok(());
-    'lines: while at < block.len() {
-        let Some((v, next)) = msg::find_from(block, at, b"Record-Route") else {
-            return Ok((count, size));
-        };
-        let a = v.start;
-        let e = a + v.length;
-        let value = &block[a..e];
-        let mut from = 0;
-        while from <= value.len() {
-            let Some((p, after)) = next_part(value, from) else {
-                break;
-            };
+    let mut full = false;
+    'lines: for v in Values::of(block, b"Record-Route") {
+        for e in Elements::of(v.text) {
             if Limits::MAX_ROUTE_SET_SIZE <= count {
-                ended = Err(Refusal::RouteSetTooLarge);
+                full = true;
                 break 'lines;
             }
-            match read_element(value, p) {
-                Element::Unreadable => {}
-                Element::TooLong => {
-                    ended = Err(Refusal::UriTooLong);
-                    break 'lines;
-                }
-                Element::Route(u) => {
-                    let b = u.start;
-                    put_text(out, size, &value[b..b + u.length], reversed);
-                    size += 2 + u.length;
-                    count += 1;
-                }
+            if let Some(u) = read_element(e)? {
+                put_text(out, size, u.text, reversed);
+                size += 2 + u.text.len();
+                count += 1;
             }
-            from = after;
         }
-        at = next;
     }
-    ended?;
+    if full {
+        return Err(Refusal::RouteSetTooLarge);
+    }
     Ok((count, size))
 }
 
 // One text with its length bytes, if there is room for it: after those that are held, or, reversed, before them.
+// Kept (7): which side we are is known only when the program runs, so that a type for the order would move this test to each caller.
 fn put_text(out: &mut [u8], size: usize, t: &[u8], reversed: bool)
     requires { (length t.now ≤ 8192) × (size ≤ 500000) }
     ensures { out.new ≡ text_put reversed size t.now out.old }

@@ -12,6 +12,14 @@ use limits::Refusal;
 
 mod filling;
 
+// The block of a peer's Record-Route lines, and what `measure_routes` answers of it: how many routes it gives, and how many bytes their section has.
+#[derive(Clone, Copy)]
+pub struct PeerRoutes<'a> {
+    pub block: &'a [u8],
+    pub count: usize,
+    pub size: usize,
+}
+
 // How many routes the block gives, and how many bytes their section has, in either order.
 pub fn measure_routes(block: &[u8]) -> Result<(usize, usize), Refusal>
     requires { length block.now ≤ 8192 }
@@ -26,6 +34,7 @@ pub fn measure_routes(block: &[u8]) -> Result<(usize, usize), Refusal>
 }
 
 // The section over lent bytes that are as long as it is, its routes as received or reversed.
+// Kept (5): as `route_set::route`, which takes a block and whether it is reversed from the C function.
 pub fn write_routes(out: &mut [u8], block: &[u8], reversed: bool)
     requires { (length block.now ≤ 8192) × (length out.old ≡ length (section_in reversed (routes_of rust_limits block.now))) }
     ensures { out.new ≡ section_in reversed (routes_of rust_limits block.now) }

@@ -21,17 +21,14 @@ use Rattle.uri.specs.SipUri.{over_estimate}
 use Rattle.uri.specs.HeaderUri.{ReadUri, header_uri}
 use Rattle.route_set.specs.Routes.{route_before, with_element, routes_from, route_elements, routes_of, in_order, route_set, route_count, route_at, count_of}
 use Rattle.route_set.specs.Scan.{scan_element, scan, route_in}
-use Rattle.route_set.specs.declared.routes.Scan.{Scan}
-use Rattle.route_set.specs.declared.routes.Scan.TheVariants.{All, Route, TooMany, TooLong}
+use Rattle.text.specs.declared.Span.{Span}
 
 -- ---- how many
 
 -- what a scan that wants no route says of their number
-abbrev pub number_in : Scan → Result ℕ Refusal
-number_in (All n) = Ok n
-number_in (Route s) = Ok 0
-number_in TooMany = Err RouteSetTooLarge
-number_in TooLong = Err UriTooLong
+abbrev pub number_in : Result (ℕ × Option Span) Refusal → Result ℕ Refusal
+number_in (Ok (n, found)) = Ok n
+number_in (Err cause) = Err cause
 
 -- one route more is one more counted
 one_more : (held : ℕ) (p : Piece) (o : Result (List Piece) Refusal) → and_then (route_before p o) (λ ps. Ok (held + length ps)) ≡ and_then o (λ ps. Ok (held + 1 + length ps))

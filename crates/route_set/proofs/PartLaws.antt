@@ -1,23 +1,20 @@
 -- Segments between cuts: the loop of `part_length`, and the turns of the loop of `next_part`. Assumes nothing.
-use Prim.Native.Nat.{ℕ, suc, ◌+◌, ◌-◌, ◌≤◌, ◌<◌}
+use Prim.Native.Nat.{ℕ, suc, ◌+◌, ◌≤◌, ◌<◌}
 use native.Mathlib.Nat.{add-zero, add-suc, suc-add, le_of_suc-le-suc}
 use native.Mathlib.Numerals.{add-one}
 use native.Mathlib.Omega.{arith}
 use mathlib.Core.Path.{◌≡◌, refl, ap}
 use mathlib.Core.Bool.{Bool, true, false, cond}
 use mathlib.Core.List.{List, [], ◌∷◌}
-use lib.ListN.{length, get_or, take, drop, drop_of_length-le, length-drop}
-use lib.Seq.{drop-cons, take_all, drop-drop, length-take-le}
-use lib.Dec.{ltb}
-use borrow.Author.Tests.{le-leb, lt-leb, ltb-true, ltb-false}
+use lib.ListN.{length, get_or, take, drop, drop_of_length-le}
+use lib.Seq.{drop-cons}
 use Rattle.std.specs.Prelude.{None, Ok, Option, Some}
-use Rattle.limits.proofs.Laws.{some_pair}
-use Rattle.text.specs.Text.{trimmed, trimmed_span}
+use Rattle.text.specs.Text.{trimmed, trimmed_span, Piece, trimmed_piece}
+use Rattle.text.specs.Segments.{Cuts, placed}
 use Rattle.text.specs.Number.{non_empty}
 use Rattle.text.specs.Answers.{Stop, next_of}
 use Rattle.text.specs.declared.Span.{Span}
-use Rattle.text.proofs.Runs.{drop_part, part_length}
-use Rattle.route_set.specs.Parts.{is_cut, quote_after, depth_after, segments, segments_from, first_element, part_from}
+use Rattle.route_set.specs.Parts.{is_cut, quote_after, depth_after, segments, first_element, part_from}
 use Rattle.route_set.specs.Cuts.{cut_length}
 
 -- ---- the bytes before the first cut
@@ -68,60 +65,49 @@ split_end q d (b ∷ t) h = by (is_cut q d b) refl h (split_end (quote_after q b
     by true e h more = absurd (omega (arith, rw e at h))
     by false e h more = rw (e, more (le_of_suc-le-suc (rw e at h)))
 
-by_more : (v : List ℕ) (at : ℕ) (u : Bool) → ltb (cut_length false 0 (drop at v)) (length (drop at v)) ≡ u → at ≤ length v
-    → segments false 0 (drop at v) ≡ take (cut_length false 0 (drop at v)) (drop at v) ∷ segments_from v (at + cut_length false 0 (drop at v) + 1)
-by_more v at true e h =
-    let l : cut_length false 0 (drop at v) < length (drop at v) = ltb-true _ _ e in
-    let q : at + suc (cut_length false 0 (drop at v)) ≡ at + cut_length false 0 (drop at v) + 1 = omega arith in
-    let k : at + cut_length false 0 (drop at v) + 1 ≤ length v = omega (arith, l, length-drop at v) in
-    rw (split_cut false 0 (drop at v) l, drop-drop (suc (cut_length false 0 (drop at v))) at v, q, le-leb _ _ k)
-by_more v at false e h =
-    let l : length (drop at v) ≤ cut_length false 0 (drop at v) = ltb-false _ _ e in
-    let k : length v < at + cut_length false 0 (drop at v) + 1 = omega (arith, length-drop at v) in
-    rw (split_end false 0 (drop at v) l, take_all _ _ l, lt-leb _ _ k)
+-- n is what `part_length` answers
+pub first_cuts : (s : List ℕ) (n : ℕ) → n ≡ cut_length false 0 s → Cuts (segments false 0) s n
+first_cuts s n h = (
+  rw h (cut_le false 0 s),
+  (λ l. rw (h, add-one) (split_cut false 0 s (rw h at l))),
+  (λ l. split_end false 0 s (rw h at l)),
+)
 
--- n is what `part_length` answers of the part from `at` on
-module _ (v : List ℕ) (at n : ℕ) (h : at ≤ length v) (hn : n ≡ cut_length false 0 (take (length v - at) (drop at v))) where
-  pub from_cons : segments_from v at ≡ take n (take (length v - at) (drop at v)) ∷ segments_from v (at + n + 1)
-  from_cons =
-      let k : n ≡ cut_length false 0 (drop at v) = rw drop_part at hn in
-      rw (le-leb at (length v) h, drop_part v at, k) (by_more v at _ refl h)
+-- ---- the first element of segments with their places
 
-  pub segment_fits : at + n ≤ length v
-  segment_fits = omega (arith, cut_le false 0 (take (length v - at) (drop at v)), part_length v at)
+unfoldable pub element_among : List Piece → Option Stop
+element_among [] = None
+element_among (p ∷ ps) = cond (non_empty (trimmed p.text)) (Some (record { piece = trimmed_piece p.place p.text; next = p.place + length p.text + 1 })) (element_among ps)
 
-  pub segment_length : length (take n (take (length v - at) (drop at v))) ≡ n
-  segment_length = length-take-le n (take (length v - at) (drop at v)) (omega (arith, part_length v at, segment_fits))
+pub first_among : (at : ℕ) (gs : List (List ℕ)) → first_element at gs ≡ element_among (placed at gs)
+unfolding first_element element_among placed
+first_among at [] = refl
+first_among at (g ∷ gs) = rw (first_among (at + length g + 1) gs)
 
-  -- s is what `trim_span` answers of the segment
-  pub element_here : (s : Span) → s ≡ trimmed_span (take n (take (length v - at) (drop at v))) → 0 < s.length
-      → Some (record { start = at + s.start; length = s.length }, at + n + 1) ≡ part_from (first_element at (segments_from v at))
-  unfolding first_element
-  element_here s e k = rw (from_cons, filled (trimmed (take n (take (length v - at) (drop at v)))) (omega (arith, ap (λ (x : Span). x.length) e)), segment_length, e)
+-- p is the first of them, and s what `trim_span` answers of its text
+module _ (ps qs : List Piece) (p : Piece) (e : ps ≡ p ∷ qs) (s : Span) (is : s ≡ trimmed_span p.text) where
+  pub element_here : 0 < s.length → Some (record { start = p.place + s.start; length = s.length }, p.place + length p.text + 1) ≡ part_from (element_among ps)
+  unfolding element_among
+  element_here k = rw (e, filled (trimmed p.text) (omega (arith, ap (λ (x : Span). x.length) is)), is)
     where
       filled : (t : List ℕ) → 0 < length t → non_empty t ≡ true
       filled [] h = absurd (omega arith)
       filled (b ∷ t) h = refl
 
-  pub element_later : (s : Span) → s ≡ trimmed_span (take n (take (length v - at) (drop at v))) → s.length ≤ 0
-      → first_element at (segments_from v at) ≡ first_element (at + n + 1) (segments_from v (at + n + 1))
-  unfolding first_element
-  element_later s e k = rw (from_cons, none_here (trimmed (take n (take (length v - at) (drop at v)))) (omega (arith, ap (λ (x : Span). x.length) e)), segment_length)
+  pub element_later : s.length ≤ 0 → element_among ps ≡ element_among qs
+  unfolding element_among
+  element_later k = rw (e, none_here (trimmed p.text) (omega (arith, ap (λ (x : Span). x.length) is)))
     where
       none_here : (t : List ℕ) → length t ≤ 0 → non_empty t ≡ false
       none_here [] h = refl
       none_here (b ∷ t) h = absurd (omega arith)
 
-pub element_done : (v : List ℕ) (at : ℕ) → length v < at → first_element at (segments_from v at) ≡ None
-unfolding first_element
-element_done v at h = rw (lt-leb at (length v) h)
+pub element_none : (ps : List Piece) → ps ≡ [] → element_among ps ≡ None
+unfolding element_among
+element_none ps e = rw e
 
 -- ---- the answer with refusals by the one without
 
-pub no_element : (o : Option Stop) → part_from o ≡ None → Ok None ≡ next_of (Ok o)
-no_element None e = refl
-no_element (Some p) e = absurd (let z : ◌≡◌ {A = ℕ} 0 1 = cc in omega arith)
-
-pub some_element : (o : Option Stop) (s : Span) (next : ℕ) → part_from o ≡ Some (s, next) → Ok (Some (s, next)) ≡ next_of (Ok o)
-some_element None s next e = absurd (let z : ◌≡◌ {A = ℕ} 0 1 = cc in omega arith)
-some_element (Some p) s next e = rw ((some_pair e).0, (some_pair e).1)
+pub part_answer : (o : Option Stop) → Ok (part_from o) ≡ next_of (Ok o)
+part_answer None = refl
+part_answer (Some e) = refl

@@ -1,140 +1,124 @@
 -- The turns of the two loops of `scan_routes`. Assumes nothing.
-use Prim.Native.Nat.{ℕ, ◌+◌, ◌-◌, ◌≤◌, ◌<◌}
+use Prim.Native.Nat.{ℕ, ◌+◌, ◌≤◌, ◌<◌}
 use native.Mathlib.Omega.{arith}
-use mathlib.Core.Path.{◌≡◌, refl, sym, ap, subst, ◌∙◌}
+use mathlib.Core.Path.{◌≡◌, refl, sym, ap, ◌∙◌}
 use mathlib.Core.Bool.{Bool, true, false, cond}
 use mathlib.Core.List.{List, [], ◌∷◌, ◌++◌, map}
-use lib.ListN.{length, take, drop}
 use borrow.Author.Tests.{le-leb, lt-leb, eq-eqb, ne_eqb}
-use Rattle.std.specs.Prelude.{None, Option, Some}
+use Rattle.std.specs.Prelude.{Err, None, Ok, Option, Result, Some}
 use Rattle.limits.specs.Limits.{rust_limits}
+use Rattle.limits.specs.declared.Refusal.{Refusal}
+use Rattle.limits.specs.declared.Refusal.TheVariants.{UriTooLong, RouteSetTooLarge}
 use Rattle.text.specs.Text.{Piece, moved_piece}
 use Rattle.text.specs.Answers.{span_of}
+use Rattle.text.specs.Pieces.{piece_of}
 use Rattle.text.specs.declared.Span.{Span}
-use Rattle.msg.specs.Block.{first_named}
-use Rattle.msg.proofs.LookupLaws.{lines_left, Says, said_text}
+use Rattle.text.specs.declared.piece.Part.{Part}
+use Rattle.msg.specs.Block.{HeaderLine}
+use Rattle.msg.specs.Lines.{values_of}
 use Rattle.uri.specs.SipUri.{over_estimate}
 use Rattle.uri.specs.HeaderUri.{ReadUri, header_uri}
 use Rattle.route_set.specs.Parts.{header_values}
 use Rattle.route_set.specs.Routes.{elements_in}
-use Rattle.route_set.specs.Scan.{scan_element, scan, moved_span, element_from, InValue}
-use Rattle.route_set.specs.declared.routes.Element.{Element}
-use Rattle.route_set.specs.declared.routes.Element.TheVariants as element
-use Rattle.route_set.specs.declared.routes.Scan.{Scan}
-use Rattle.route_set.specs.declared.routes.Scan.TheVariants.{All, Route, TooMany, TooLong}
-use Rattle.route_set.proofs.WalkLaws.{elements_left, Told, named_left, FirstLine, line_told, no_line_left}
+use Rattle.route_set.specs.Scan.{scan_element, scan, element_of, element_from}
 
 -- ---- one element
 
-pub no_unread : (t : Bool) (s : Span) → cond t element.TooLong (element.Route s) ≡ element.Unreadable → ⊥
-no_unread true s e = let z : ◌≡◌ {A = ℕ} 0 1 = cc in omega arith
-no_unread false s e = let z : ◌≡◌ {A = ℕ} 0 1 = cc in omega arith
+-- what an answer says of an element's URI
+pub no_unread : (t : Bool) (p : Piece) → ◌≡◌ {A = Result (Option Piece) Refusal} (cond t (Err UriTooLong) (Ok (Some p))) (Ok None) → ⊥
+no_unread true p e = let z : ◌≡◌ {A = ℕ} 0 1 = cc in omega arith
+no_unread false p e = let z : ◌≡◌ {A = ℕ} 0 1 = cc in omega arith
 
-pub is_long : (t : Bool) (s : Span) → cond t element.TooLong (element.Route s) ≡ element.TooLong → t ≡ true
-is_long true s e = refl
-is_long false s e = absurd (let z : ◌≡◌ {A = ℕ} 0 1 = cc in omega arith)
+pub is_long : (t : Bool) (p : Piece) (cause : Refusal) → ◌≡◌ {A = Result (Option Piece) Refusal} (cond t (Err UriTooLong) (Ok (Some p))) (Err cause) → (t ≡ true) × (UriTooLong ≡ cause)
+is_long true p cause e = (refl, (cc))
+is_long false p cause e = absurd (let z : ◌≡◌ {A = ℕ} 0 1 = cc in omega arith)
 
-pub is_route : (t : Bool) (s u : Span) → cond t element.TooLong (element.Route s) ≡ element.Route u → (t ≡ false) × (s ≡ u)
-is_route true s u e = absurd (let z : ◌≡◌ {A = ℕ} 0 1 = cc in omega arith)
-is_route false s u e = (refl, (cc))
+pub is_route : (t : Bool) (p u : Piece) → ◌≡◌ {A = Result (Option Piece) Refusal} (cond t (Err UriTooLong) (Ok (Some p))) (Ok (Some u)) → (t ≡ false) × (p ≡ u)
+is_route true p u e = absurd (let z : ◌≡◌ {A = ℕ} 0 1 = cc in omega arith)
+is_route false p u e = (refl, (cc))
 
--- at is where the element stands in the block, and b where it stands in the value
-module _ (w held a b : ℕ) (s m : Scan) where
-  by_unread : (o : Option ReadUri) → element_from rust_limits b o ≡ element.Unreadable → scan_element rust_limits w held (a + b) o s m ≡ s
+-- as the code answers it
+pub answer_none : (r : Result (Option Part) Refusal) (o : Result (Option Piece) Refusal) → element_of r ≡ o → r ≡ Ok None → o ≡ Ok None
+answer_none r o e h = sym e ∙ ap element_of h
+
+pub answer_some : (r : Result (Option Part) Refusal) (o : Result (Option Piece) Refusal) (u : Part) → element_of r ≡ o → r ≡ Ok (Some u) → o ≡ Ok (Some (piece_of u))
+answer_some r o u e h = sym e ∙ ap element_of h
+
+pub answer_err : (r : Result (Option Part) Refusal) (o : Result (Option Piece) Refusal) (cause : Refusal) → element_of r ≡ o → r ≡ Err cause → o ≡ Err cause
+answer_err r o cause e h = sym e ∙ ap element_of h
+
+-- b is where the element stands in the value, which stands at a in the block
+module _ (w held a b : ℕ) (s m : Result (ℕ × Option Span) Refusal) where
+  by_unread : (o : Option ReadUri) → element_from rust_limits b o ≡ Ok None → scan_element rust_limits w held (a + b) o s m ≡ s
   by_unread None e = refl
-  by_unread (Some r) e = absurd (no_unread (over_estimate rust_limits r.uri) (span_of (moved_piece b r.piece)) e)
+  by_unread (Some r) e = absurd (no_unread (over_estimate rust_limits r.uri) (moved_piece b r.piece) e)
 
-  by_long : (o : Option ReadUri) → element_from rust_limits b o ≡ element.TooLong → scan_element rust_limits w held (a + b) o s m ≡ TooLong
-  by_long None e = absurd (let z : ◌≡◌ {A = ℕ} 0 1 = cc in omega arith)
-  by_long (Some r) e = rw (is_long (over_estimate rust_limits r.uri) (span_of (moved_piece b r.piece)) e)
+  by_long : (o : Option ReadUri) (cause : Refusal) → element_from rust_limits b o ≡ Err cause → scan_element rust_limits w held (a + b) o s m ≡ Err cause
+  by_long None cause e = absurd (let z : ◌≡◌ {A = ℕ} 0 1 = cc in omega arith)
+  by_long (Some r) cause e = let q = is_long (over_estimate rust_limits r.uri) (moved_piece b r.piece) cause e in rw (q.0, q.1)
 
-  by_hit : (o : Option ReadUri) (u : Span) → element_from rust_limits b o ≡ element.Route u → held ≡ w → scan_element rust_limits w held (a + b) o s m ≡ Route (moved_span a u)
+  by_hit : (o : Option ReadUri) (u : Piece) → element_from rust_limits b o ≡ Ok (Some u) → held ≡ w → scan_element rust_limits w held (a + b) o s m ≡ Ok (held, Some (span_of (moved_piece a u)))
   by_hit None u e h = absurd (let z : ◌≡◌ {A = ℕ} 0 1 = cc in omega arith)
   by_hit (Some r) u e h =
-      let q = is_route (over_estimate rust_limits r.uri) (span_of (moved_piece b r.piece)) u e in
+      let q = is_route (over_estimate rust_limits r.uri) (moved_piece b r.piece) u e in
       let k : a + b + r.piece.place ≡ a + (b + r.piece.place) = omega arith in
       rw (q.0, eq-eqb held w h, ← q.1, k)
 
-  by_more : (o : Option ReadUri) (u : Span) → element_from rust_limits b o ≡ element.Route u → (held ≡ w → ⊥) → scan_element rust_limits w held (a + b) o s m ≡ m
+  by_more : (o : Option ReadUri) (u : Piece) → element_from rust_limits b o ≡ Ok (Some u) → (held ≡ w → ⊥) → scan_element rust_limits w held (a + b) o s m ≡ m
   by_more None u e h = absurd (let z : ◌≡◌ {A = ℕ} 0 1 = cc in omega arith)
   by_more (Some r) u e h =
-      let q = is_route (over_estimate rust_limits r.uri) (span_of (moved_piece b r.piece)) u e in
+      let q = is_route (over_estimate rust_limits r.uri) (moved_piece b r.piece) u e in
       rw (q.0, ne_eqb held w h)
-
--- a route that was read lies within the value
-pub in_value : (v : List ℕ) (r : Element) (u : Span) → InValue v r → r ≡ element.Route u → u.start + u.length ≤ length v
-in_value v (element.Route own) u i e = let q : own ≡ u = cc in subst (λ (x : Span). x.start + x.length ≤ length v) q i
-in_value v element.Unreadable u i e = absurd (let z : ◌≡◌ {A = ℕ} 0 1 = cc in omega arith)
-in_value v element.TooLong u i e = absurd (let z : ◌≡◌ {A = ℕ} 0 1 = cc in omega arith)
-
-pub told_fits : (v : List ℕ) (from : ℕ) (p : Span) (next : ℕ) → Told v from p next → p.start + p.length ≤ length v
-told_fits v from p next t = subst (λ (x : Span). x.start + x.length ≤ length v) t.span_is t.placed.fits
-
--- the element that was read is the one ahead
-pub same_element : (v : List ℕ) (from : ℕ) (p : Span) (next : ℕ) (t : Told v from p next) → element_from rust_limits p.start (header_uri (take p.length (drop p.start v))) ≡ element_from rust_limits t.piece.place (header_uri t.piece.text)
-same_element v from p next t =
-    subst (λ (x : Span). element_from rust_limits x.start (header_uri (take x.length (drop x.start v))) ≡ element_from rust_limits t.piece.place (header_uri t.piece.text)) t.span_is
-    (ap (λ (l : List ℕ). element_from rust_limits t.piece.place (header_uri l)) t.placed.there)
 
 -- ---- the inner loop: the elements of a value that stands at a, then those of later lines
 
-abbrev pub ahead : ℕ → List ℕ → ℕ → List Piece → List Piece
-ahead a v from rest = map (moved_piece a) (elements_left v from) ++ rest
+abbrev pub ahead : ℕ → List Piece → List Piece → List Piece
+ahead a es rest = map (moved_piece a) es ++ rest
 
-module _ (w held a : ℕ) (v : List ℕ) (from : ℕ) (rest : List Piece) (p : Span) (next : ℕ) (t : Told v from p next) where
-  -- what is ahead is the element and what is ahead after it
-  split : ahead a v from rest ≡ moved_piece a t.piece ∷ ahead a v next rest
-  split = rw t.then
-
-  pub scan_full : 50 ≤ held → scan rust_limits w held (ahead a v from rest) ≡ TooMany
+-- p is the first element that is left, and ms those after it
+module _ (w held a : ℕ) (es ms : List Piece) (p : Piece) (rest : List Piece) (e : es ≡ p ∷ ms) where
+  pub scan_full : 50 ≤ held → scan rust_limits w held (ahead a es rest) ≡ Err RouteSetTooLarge
   unfolding scan
-  scan_full h = rw (split, le-leb 50 held h)
+  scan_full h = rw (e, le-leb 50 held h)
 
-  module _ (h : held < 50) (r : Element) (is : r ≡ element_from rust_limits p.start (header_uri (take p.length (drop p.start v)))) where
-    pub scan_unread : r ≡ element.Unreadable → scan rust_limits w held (ahead a v from rest) ≡ scan rust_limits w held (ahead a v next rest)
+  module _ (h : held < 50) where
+    pub scan_unread : element_from rust_limits p.place (header_uri p.text) ≡ Ok None → scan rust_limits w held (ahead a es rest) ≡ scan rust_limits w held (ahead a ms rest)
     unfolding scan
-    scan_unread e = rw (split, lt-leb 50 held h) (by_unread w held a t.piece.place (scan rust_limits w held (ahead a v next rest)) (scan rust_limits w (held + 1) (ahead a v next rest)) (header_uri t.piece.text) (sym (is ∙ same_element v from p next t) ∙ e))
+    scan_unread q = rw (e, lt-leb 50 held h) (by_unread w held a p.place _ _ (header_uri p.text) q)
 
-    pub scan_long : r ≡ element.TooLong → scan rust_limits w held (ahead a v from rest) ≡ TooLong
+    pub scan_long : (cause : Refusal) → element_from rust_limits p.place (header_uri p.text) ≡ Err cause → scan rust_limits w held (ahead a es rest) ≡ Err cause
     unfolding scan
-    scan_long e = rw (split, lt-leb 50 held h) (by_long w held a t.piece.place (scan rust_limits w held (ahead a v next rest)) (scan rust_limits w (held + 1) (ahead a v next rest)) (header_uri t.piece.text) (sym (is ∙ same_element v from p next t) ∙ e))
+    scan_long cause q = rw (e, lt-leb 50 held h) (by_long w held a p.place _ _ (header_uri p.text) cause q)
 
-    pub scan_hit : (u : Span) → r ≡ element.Route u → held ≡ w → scan rust_limits w held (ahead a v from rest) ≡ Route (moved_span a u)
+    pub scan_hit : (u : Piece) → element_from rust_limits p.place (header_uri p.text) ≡ Ok (Some u) → held ≡ w → scan rust_limits w held (ahead a es rest) ≡ Ok (held, Some (span_of (moved_piece a u)))
     unfolding scan
-    scan_hit u e k = rw (split, lt-leb 50 held h) (by_hit w held a t.piece.place (scan rust_limits w held (ahead a v next rest)) (scan rust_limits w (held + 1) (ahead a v next rest)) (header_uri t.piece.text) u (sym (is ∙ same_element v from p next t) ∙ e) k)
+    scan_hit u q k = rw (e, lt-leb 50 held h) (by_hit w held a p.place _ _ (header_uri p.text) u q k)
 
-    pub scan_more : (u : Span) → r ≡ element.Route u → (held ≡ w → ⊥) → scan rust_limits w held (ahead a v from rest) ≡ scan rust_limits w (held + 1) (ahead a v next rest)
+    pub scan_more : (u : Piece) → element_from rust_limits p.place (header_uri p.text) ≡ Ok (Some u) → (held ≡ w → ⊥) → scan rust_limits w held (ahead a es rest) ≡ scan rust_limits w (held + 1) (ahead a ms rest)
     unfolding scan
-    scan_more u e k = rw (split, lt-leb 50 held h) (by_more w held a t.piece.place (scan rust_limits w held (ahead a v next rest)) (scan rust_limits w (held + 1) (ahead a v next rest)) (header_uri t.piece.text) u (sym (is ∙ same_element v from p next t) ∙ e) k)
+    scan_more u q k = rw (e, lt-leb 50 held h) (by_more w held a p.place _ _ (header_uri p.text) u q k)
 
--- the value has no elements left
-pub value_done : (a : ℕ) (v : List ℕ) (from : ℕ) (rest : List Piece) → elements_left v from ≡ [] → ahead a v from rest ≡ rest
-value_done a v from rest e = rw e
+-- no element is left
+pub value_done : (a : ℕ) (es rest : List Piece) → es ≡ [] → ahead a es rest ≡ rest
+value_done a es rest e = rw e
 
--- ---- the outer loop
+-- ---- the outer loop: the values of the lines
 
-pub lines_none : (w held : ℕ) (s asked : List ℕ) (at : ℕ) → first_named asked (lines_left s at) ≡ None → scan rust_limits w held (elements_in (named_left s asked at)) ≡ All held
-unfolding scan elements_in
-lines_none w held s asked at e = rw (no_line_left asked (lines_left s at) e)
+-- the elements of some values, where they stand in the block
+unfoldable pub elements_among : List Piece → List Piece
+elements_among [] = []
+elements_among (v ∷ vs) = ahead v.place (header_values v.text) (elements_among vs)
 
-pub lines_end : (w held : ℕ) → scan rust_limits w held (elements_in []) ≡ All held
-unfolding scan elements_in
-lines_end w held = refl
+pub elements_by : (ls : List HeaderLine) → elements_in ls ≡ elements_among (values_of ls)
+unfolding elements_in elements_among
+elements_by [] = refl
+elements_by (l ∷ ls) = rw (elements_by ls)
 
-from_start : (v : List ℕ) → header_values v ≡ elements_left v 0
-from_start v = rw (le-leb 0 (length v) (omega arith))
+-- v is the first value that is left, and ms those after it
+pub open_value : (vs ms : List Piece) (v : Piece) → vs ≡ v ∷ ms → elements_among vs ≡ ahead v.place (header_values v.text) (elements_among ms)
+unfolding elements_among
+open_value vs ms v e = rw e
 
--- the line that the look-up found: its value's elements, then those of later lines
-pub open_line : (s asked : List ℕ) (at : ℕ) (v : Span) (next : ℕ) → Says s (first_named asked (lines_left s at)) v next
-    → elements_in (named_left s asked at) ≡ ahead v.start (take (v.start + v.length - v.start) (drop v.start s)) 0 (elements_in (named_left s asked next))
-unfolding elements_in
-open_line s asked at v next r =
-    let f : FirstLine s asked at r.line = line_told s asked at r.line r.is in
-    let n : r.line.next ≡ next = r.next_is in
-    let t : take (v.start + v.length - v.start) (drop v.start s) ≡ r.line.value.text = said_text s _ v next r ∙ rw r.is in
-    rw (f.then, n, t, from_start r.line.value.text) (ap (λ (x : Span). map (moved_piece x.start) (elements_left r.line.value.text 0) ++ elements_in (named_left s asked next)) r.span_is)
-
-pub line_after : (s asked : List ℕ) (at : ℕ) (v : Span) (next : ℕ) → Says s (first_named asked (lines_left s at)) v next → (at < next) × (next ≤ length s)
-line_after s asked at v next r =
-    let f : FirstLine s asked at r.line = line_told s asked at r.line r.is in
-    (omega (arith, f.later, r.next_is), omega (arith, f.within, r.next_is))
+pub no_more : (w held : ℕ) (vs : List Piece) → vs ≡ [] → scan rust_limits w held (elements_among vs) ≡ Ok (held, None)
+unfolding scan elements_among
+no_more w held vs e = rw e

@@ -1,4 +1,5 @@
 pub mod Cuts
+pub mod Elements
 pub mod Parts
 pub mod Routes
 pub mod Scan

@@ -2,11 +2,11 @@
 ghost use Rattle.std.specs.Prelude.{◌≡◌, ◌+◌, ◌<◌, ◌≤◌, ◌^◌, false, length};
 ghost use Rattle.limits.specs.Limits.{rust_limits};
 ghost use Rattle.text.specs.Answers.{next_of};
-ghost use Rattle.route_set.specs.Parts.{is_cut, quote_after, depth_after, element_from, next_header_value, part_from};
+ghost use Rattle.route_set.specs.Parts.{is_cut, quote_after, depth_after, segments, element_from, next_header_value, part_from};
 ghost use Rattle.route_set.specs.Cuts.{cut_length};
 
 use limits::Refusal;
-use text::Span;
+use text::{Cut, Segments, Span};
 
 // The next element of a value from a place on: 1, 2. All elements are had by asking from 0 on, and then from each answered
 // next place on.
@@ -14,33 +14,39 @@ pub fn next_header_value(value: &[u8], from: usize) -> Result<Option<(Span, usiz
     ensures { result ≡ next_of (next_header_value rust_limits value.now from) }
 {
     text::check_value(value)?;
-    let Some((p, next)) = next_part(value, from) else {
-        return Ok(None);
-    };
-    Ok(Some((p, next)))
+    Ok(next_part(value, from))
 }
 
 // The same of a value that was checked.
 pub fn next_part(value: &[u8], from: usize) -> Option<(Span, usize)>
     ensures { result ≡ part_from (element_from value.now from) }
 {
-    let mut at = from;
-    while at <= value.len() {
-        let rest = &value[at..];
-        let n = part_length(rest);
-        let p = text::trim_span(&rest[..n]);
+    for g in Segments::from(value, from, Comma {}) {
+        let p = text::trim_span(g.text);
         if 0 < p.length {
             return Some((
                 Span {
-                    start: at + p.start,
+                    start: g.place + p.start,
                     length: p.length,
                 },
-                at + n + 1,
+                g.place + g.text.len() + 1,
             ));
         }
-        at = at + n + 1;
     }
     None
+}
+
+// Cut at the commas outside quotes and angle brackets.
+#[derive(Clone, Copy)]
+struct Comma {}
+
+impl Cut for Comma {
+    ghost segments = { λ _ s. segments false 0 s };
+
+    // Kept (5): the parameters are the trait's.
+    fn first(&self, s: &[u8]) -> usize {
+        part_length(s)
+    }
 }
 
 // How many bytes stand before the first comma that cuts.
@@ -50,19 +56,18 @@ fn part_length(s: &[u8]) -> usize
 {
     let mut quoted = false;
     let mut depth: usize = 0;
-    let mut i = 0;
-    while i < s.len() {
-        let b = s[i];
+    for (i, &b) in s.iter().enumerate() {
         if is_cut(quoted, depth, b) {
             return i;
         }
         quoted = quote_after(quoted, b);
         depth = depth_after(depth, b);
-        i += 1;
     }
-    i
+    s.len()
 }
 
+// Whether a byte cuts, in quotes or not and at a depth of angle brackets.
+// Kept (7): whether quotes are open is what was read so far, and no choice of the caller.
 fn is_cut(quoted: bool, depth: usize, b: u8) -> bool
     ensures { result ≡ is_cut quoted depth b }
 {

@@ -1,42 +1,25 @@
 // The Contact's URI, and the route set of a block's Record-Route lines.
 ghost use Rattle.std.specs.Prelude.{◌≡◌, ◌+◌, ◌<◌, ◌≤◌, ◌^◌, length, take, drop};
 ghost use Rattle.limits.specs.Limits.{rust_limits};
-ghost use Rattle.text.specs.Answers.{lookup_of};
+ghost use Rattle.text.specs.Answers.{lookup_of, span_of};
+ghost use Rattle.text.specs.Pieces.{piece_of};
+ghost use Rattle.text.specs.Text.{moved_piece};
 ghost use Rattle.msg.specs.Table.{value_at, end_of};
 ghost use Rattle.route_set.specs.Routes.{contact, contact_of, uri_in, contact_from, route_elements, route_count, route_at, count_of};
-ghost use Rattle.route_set.specs.Scan.{scan, element_from, route_in, moved_span, InValue};
+ghost use Rattle.route_set.specs.Scan.{scan, element_of, element_from, route_in};
 ghost use Rattle.uri.specs.HeaderUri.{header_uri};
 
-use crate::parts::next_part;
+use crate::elements::Elements;
 use limits::{Limits, Refusal};
-use text::Span;
-
-// One element of a Record-Route line.
-#[derive(Clone, Copy)]
-pub enum Element {
-    Route(Span),
-    Unreadable,
-    TooLong,
-}
-
-// What a scan of the routes comes to: all of them, how many; the wanted one; or why it ended.
-#[derive(Clone, Copy)]
-pub enum Scan {
-    All(usize),
-    Route(Span),
-    TooMany,
-    TooLong,
-}
+use msg::Values;
+use text::{Part, Span};
 
 // The URI of the first Contact line, if it is readable: 1, 2.
 pub fn read_contact(block: &[u8]) -> Result<Option<Span>, Refusal>
     ensures { result ≡ lookup_of (contact rust_limits block.now) }
 {
     msg::check_block(block)?;
-    let Some(c) = find_contact(block) else {
-        return Ok(None);
-    };
-    Ok(Some(c))
+    Ok(find_contact(block))
 }
 
 // The same of a block that was checked.
@@ -48,16 +31,15 @@ pub fn find_contact(block: &[u8]) -> Option<Span>
 }
 
 // The URI of a line that was looked up.
+// Kept (5): the line is one of many that a table holds of the same block; a struct of both would be made at each call and taken apart in it.
 pub fn contact_at(block: &[u8], line: Option<(Span, usize)>) -> Option<Span>
     requires { end_of line ≤ length block.now }
     ensures { result ≡ contact_from (uri_in (value_at line block.now)) }
 {
     let (v, _) = line?;
-    let a = v.start;
-    let e = a + v.length;
-    let (u, _) = uri::header_uri(&block[a..e])?;
+    let (u, _) = uri::header_uri(v.text(block))?;
     Some(Span {
-        start: a + u.start,
+        start: v.start + u.start,
         length: u.length,
     })
 }
@@ -67,15 +49,12 @@ pub fn route_count(block: &[u8]) -> Result<usize, Refusal>
     ensures { result ≡ count_of (route_count rust_limits block.now) }
 {
     msg::check_block(block)?;
-    match scan_routes(block, Limits::MAX_ROUTE_SET_SIZE) {
-        Scan::All(n) => Ok(n),
-        Scan::Route(_) => Ok(0),
-        Scan::TooMany => Err(Refusal::RouteSetTooLarge),
-        Scan::TooLong => Err(Refusal::UriTooLong),
-    }
+    let (n, _) = scan_routes(block, Limits::MAX_ROUTE_SET_SIZE)?;
+    Ok(n)
 }
 
 // The route at an index, as received or reversed: 1, 2, then 7 or 8 of the whole set.
+// Kept (5, 7): a C caller gives the block and the order each by itself; the order only says from which end the index counts.
 pub fn route(block: &[u8], reversed: bool, index: usize) -> Result<Option<Span>, Refusal>
     ensures { result ≡ lookup_of (route_at rust_limits reversed block.now index) }
 {
@@ -94,82 +73,61 @@ fn nth_route(block: &[u8], index: usize) -> Result<Option<Span>, Refusal>
     ensures { result ≡ route_in (scan rust_limits index 0 (route_elements block.now)) }
 {
     match scan_routes(block, index) {
-        Scan::Route(r) => Ok(Some(r)),
-        Scan::All(_) => Ok(None),
-        Scan::TooMany => Ok(None),
-        Scan::TooLong => Ok(None),
+        Ok((_, found)) => Ok(found),
+        Err(_) => Ok(None),
     }
 }
 
-// The routes of all Record-Route lines up to the wanted one: an element met when 50 are held ends the whole reading at once.
-fn scan_routes(block: &[u8], wanted: usize) -> Scan
+// How many routes the Record-Route lines have up to the wanted one, and the wanted one, if they have it: an element met when 50 are held ends the
+// whole reading at once.
+fn scan_routes(block: &[u8], wanted: usize) -> Result<(usize, Option<Span>), Refusal>
     ensures { result ≡ scan rust_limits wanted 0 (route_elements block.now) }
 {
     let mut held = 0;
-    let mut at = 0;
     let mut full = false;
-    'lines: while at < block.len() {
-        let Some((v, next)) = msg::find_from(block, at, b"Record-Route") else {
-            return Scan::All(held);
-        };
-        let a = v.start;
-        let e = a + v.length;
-        let value = &block[a..e];
-        let mut from = 0;
-        while from <= value.len() {
-            let Some((p, after)) = next_part(value, from) else {
-                break;
-            };
+    'lines: for v in Values::of(block, b"Record-Route") {
+        for e in Elements::of(v.text) {
             if Limits::MAX_ROUTE_SET_SIZE <= held {
                 full = true;
                 break 'lines;
             }
-            match read_element(value, p) {
-                Element::Unreadable => {}
-                Element::TooLong => {
-                    return Scan::TooLong;
+            if let Some(u) = read_element(e)? {
+                if held == wanted {
+                    return Ok((held, Some(moved(v.place, u))));
                 }
-                Element::Route(u) => {
-                    if held == wanted {
-                        return Scan::Route(moved(a, u));
-                    }
-                    held += 1;
-                }
+                held += 1;
             }
-            from = after;
         }
-        at = next;
     }
     if full {
-        return Scan::TooMany;
+        return Err(Refusal::RouteSetTooLarge);
     }
-    Scan::All(held)
+    Ok((held, None))
 }
 
 // The URI of one element, where it stands in the value.
-pub fn read_element(value: &[u8], p: Span) -> Element
-    requires { p.start + p.length ≤ length value.now }
-    ensures value { result ≡ element_from rust_limits p.start (header_uri (take p.length (drop p.start value.now))) }
-    ensures in_value { InValue value.now result }
+pub fn read_element<'a>(e: Part<'a>) -> Result<Option<Part<'a>>, Refusal>
+    ensures { element_of result ≡ element_from rust_limits e.entry.place (header_uri e.entry.text.now) }
 {
-    let a = p.start;
-    let e = a + p.length;
-    let Some((u, parts)) = uri::header_uri(&value[a..e]) else {
-        return Element::Unreadable;
+    let Some((u, parts)) = uri::header_uri(e.text) else {
+        return Ok(None);
     };
     if uri::over_estimate(parts) {
-        return Element::TooLong;
+        return Err(Refusal::UriTooLong);
     }
-    Element::Route(moved(a, u))
+    Ok(Some(Part {
+        place: e.place + u.start,
+        text: u.text(e.text),
+    }))
 }
 
-// A part of a part: its place in the whole.
-fn moved(at: usize, s: Span) -> Span
-    requires { at + s.start < 2 ^ 64 }
-    ensures { result ≡ moved_span at s }
+// Where a part of a part stands in the whole.
+fn moved(at: usize, p: Part<'_>) -> Span
+    requires { at < 2 ^ 63 }
+    ensures { result ≡ span_of (moved_piece at (piece_of p.entry)) }
 {
     Span {
-        start: at + s.start,
-        length: s.length,
+        start: at + p.place,
+        length: p.text.len(),
     }
 }

@@ -30,7 +30,7 @@ use Rattle.image_edit.proofs.CutLaws.{three_edits}
 use Rattle.image_edit.proofs.ImageCuts.{Held, changed_held}
 use Rattle.image_edit.proofs.NumbersLaws.{filled_bit, routes_bit, image_cut, sized, state_is, end_is}
 use Rattle.route_set.specs.Routes.{routes_of}
-use Rattle.route_section.specs.Section.{section_of, route_texts, section_from}
+use Rattle.route_section.specs.Section.{section_of, route_texts, section_in, section_from}
 use Rattle.route_section.proofs.SectionLaws.{texts_count, section_size}
 
 -- ---- the two sections written
@@ -39,36 +39,27 @@ use Rattle.route_section.proofs.SectionLaws.{texts_count, section_size}
 pub lent_put : (a k : ℕ) (xs ys : List ℕ) → length ys ≡ k → put_mid a (a + k - a) xs ys ≡ put_at a ys xs
 lent_put a k xs ys e = rw (add-sub_cancel_left, drop-drop k a xs, e)
 
--- a is put where the tail was moved to make room for it and b, and b after it
-pub sections_put : (bytes : List ℕ) (used at old : ℕ) (a b : List ℕ) {k m n : ℕ} {moved first last : List ℕ} → at + old ≤ used → used ≤ length bytes → used - old + (length a + k) ≤ length bytes → k ≡ length b
-    → n ≡ length a + k → moved ≡ tail_moved used at old n bytes → at ≤ length moved → m ≡ at + length a → first ≡ put_at at a moved → last ≡ b
-    → put_mid m (m + k - m) first last ≡ over (spliced at old (a ++ b) (take used bytes)) bytes
-sections_put bytes used at old a b {k} {m} {n} {moved} {first} {last} h i j size room tail fits next put end =
-    let z : n ≡ length (a ++ b) = omega (arith, length-append a b) in
-    lent_put m k first last (ap length end ∙ sym size)
-    ∙ ap (λ (t : List ℕ). put_at m t first) end
-    ∙ ap (λ (t : List ℕ). put_at m b t) put
-    ∙ ap (λ (t : ℕ). put_at t b (put_at at a moved)) next
-    ∙ put_put at a b moved fits
-    ∙ ap (put_at at (a ++ b)) (tail ∙ ap (λ (t : ℕ). tail_moved used at old t bytes) z)
-    ∙ replace_law bytes (a ++ b) used at old h i (omega (arith, z))
-
 -- ---- the routes that were measured
 
-pub record Measured (block : List ℕ) (count size : ℕ) : Type 0 where
+pub record PeerRead (block : List ℕ) (count size : ℕ) : Type 0 where
   pub pieces : List Piece
   pub is : routes_of rust_limits block ≡ Ok pieces
   pub count_is : count ≡ length (route_texts true pieces)
   pub size_is : size ≡ length (section_of (route_texts true pieces))
 
-pub measured : (block : List ℕ) (count size : ℕ) → section_from (routes_of rust_limits block) ≡ Ok (count, size) → Measured block count size
+pub measured : (block : List ℕ) (count size : ℕ) → section_from (routes_of rust_limits block) ≡ Ok (count, size) → PeerRead block count size
 measured block count size e = by (routes_of rust_limits block) refl e
   where
-    by : (o : Result (List Piece) Refusal) → routes_of rust_limits block ≡ o → section_from o ≡ Ok (count, size) → Measured block count size
+    by : (o : Result (List Piece) Refusal) → routes_of rust_limits block ≡ o → section_from o ≡ Ok (count, size) → PeerRead block count size
     by (Err cause) q h = absurd (let z : ◌≡◌ {A = ℕ} 0 1 = cc in omega arith)
     by (Ok ps) q h =
         let n = ok_pair h in
         record { pieces = ps; is = q; count_is = sym n.0 ∙ sym (texts_count true ps); size_is = sym n.1 ∙ sym (section_size true ps) }
+
+pub measured_size : (block : List ℕ) (count size : ℕ) → section_from (routes_of rust_limits block) ≡ Ok (count, size) → size ≡ length (section_in true (routes_of rust_limits block))
+measured_size block count size e =
+    let r = measured block count size e in
+    r.size_is ∙ ap (λ (o : Result (List Piece) Refusal). length (section_in true o)) (sym r.is)
 
 -- ---- the record
 

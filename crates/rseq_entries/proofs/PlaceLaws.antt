@@ -1,19 +1,15 @@
--- Where the parts of an entry lie: what the laws of a store of entries ask of the RSeq store's. Assumes nothing.
+-- Where the parts of an entry lie: what the search in a store of entries asks of the RSeq store's. Assumes nothing.
 use Prim.Native.Nat.{ℕ, ◌+◌, ◌≤◌}
 use native.Mathlib.Omega.{arith}
-use mathlib.Core.Path.{◌≡◌, refl, sym, ap, ap₂, ◌∙◌}
+use mathlib.Core.Path.{◌≡◌, sym, ap, ◌∙◌}
 use mathlib.Core.List.{List, [], ◌∷◌, ◌++◌, append_assoc}
 use lib.ListN.{length, take, drop, length-append, length-drop}
 use lib.Seq.{drop-drop, take-append_seam, drop-append_seam}
-use Rattle.std.specs.Prelude.{None, Option, Some}
-use Rattle.codec.specs.Codec.{Reading, four, text}
-use Rattle.ordered_store.specs.Slot.{held}
-use Rattle.ordered_store.proofs.PlaceLaws.{Layout, Here}
+use Rattle.codec.specs.Codec.{four, text}
+use Rattle.ordered_store.specs.Layout.{Lawful}
 use Rattle.codec.specs.Places.{text_end}
-use Rattle.rseq_entries.specs.Entries.{Entry, key_of, entry_form, WellFormed}
-use Rattle.rseq_entries.specs.Places.{entry_at, reading_of, key_at, Within, slot_of}
-use Rattle.rseq_entries.specs.declared.entries.EntryAt.{EntryAt}
-use Rattle.rseq_entries.specs.declared.finding.Slot.TheVariants as slots
+use Rattle.rseq_entries.specs.Entries.{Entry, key_of, entry_form}
+use Rattle.rseq_entries.specs.Places.{entry_at, key_at, Within, layout}
 use Rattle.rseq_entries.proofs.FormLaws.{form_exact, entry_size_lem, filled}
 
 -- a text lies past its length bytes, and what comes after it comes after
@@ -46,37 +42,5 @@ lies s at e rest starts =
     let w : (entry_at at e).end ≤ length s = omega (arith, entry_size_lem e, ap length starts, length-append (entry_form.write e) rest, length-drop at s) in
     (same_key f.0 g.0 k.0, (omega (arith, w), omega (arith, w), omega (arith, w)))
 
--- what the answer of a reading says
-pub whole_says : (at : ℕ) (o : Option (Reading Entry)) (p : EntryAt) → reading_of at o ≡ Some p → (x : Reading Entry) × ((o ≡ Some x) × (entry_at at x.value ≡ p))
-whole_says at None p e = absurd (let z : ◌≡◌ {A = ℕ} 0 1 = cc in omega arith)
-whole_says at (Some x) p e = (x, (refl, (cc)))
-
-pub broken_says : (at : ℕ) (o : Option (Reading Entry)) → reading_of at o ≡ None → o ≡ None
-broken_says at None e = refl
-broken_says at (Some x) e = absurd (let z : ◌≡◌ {A = ℕ} 0 1 = cc in omega arith)
-
-abbrev pub layout : Layout Entry
-layout = record {
-  form = entry_form;
-  key_of = key_of;
-  Good = WellFormed;
-  exact = form_exact;
-  filled = filled;
-  Places = EntryAt;
-  places_of = entry_at;
-  end_of = λ p. p.end;
-  key_at = key_at;
-  Within = Within;
-  ends = ends;
-  lies = lies;
-  Answer = Option EntryAt;
-  answer_of = reading_of;
-  whole = Some;
-  broken = None;
-  whole_says = whole_says;
-  broken_says = broken_says;
-}
-
--- the answer of a search that met its entry
-pub held_told : {s : List ℕ} {at : ℕ} {p : EntryAt} {e : Entry} → Here layout s at p e → slots.Held at p.number p.end ≡ slot_of (Some (held at e))
-held_told {s} {at} h = ap₂ (λ (n m : ℕ). slots.Held at n m) (ap (λ (z : EntryAt). z.number) h.placed) h.ends
+pub lawful : Lawful layout
+lawful = record { exact = form_exact; filled = filled; ends = ends; lies = lies }

@@ -33,5 +33,5 @@ module _ (s : List ℕ) (at : ℕ) where
           pub zero_number : n ≡ 0 → None ≡ reading_of at (entry_form.read (drop at s))
           zero_number h = rw (a.got.reads, b.got.reads, c.got.reads, d, le-ltb 0 n (omega arith))
 
-          pub whole : (n ≡ 0 → ⊥) → Some (record { call_id = p; local_tag = q; remote_tag = r; number = n; end = r.start + r.length + 4 }) ≡ reading_of at (entry_form.read (drop at s))
+          pub whole : (n ≡ 0 → ⊥) → Some (record { id = record { call_id = p; local_tag = q; remote_tag = r }; number = n; end = r.start + r.length + 4 }) ≡ reading_of at (entry_form.read (drop at s))
           whole h = rw (a.got.reads, b.got.reads, c.got.reads, d, lt-ltb 0 n (omega arith), c.placed, b.placed, a.placed)

@@ -3,11 +3,12 @@ use Prim.Native.Nat.{ℕ, ◌+◌, ◌-◌, ◌≤◌, ◌<◌}
 use native.Mathlib.Omega.{arith}
 use mathlib.Core.Path.{◌≡◌, refl, sym, ap, ap₂, subst, ◌∙◌}
 use mathlib.Core.Logic.{inl, inr}
-use mathlib.Core.Bool.{Bool, true, false, cond}
+use mathlib.Core.Bool.{Bool, true, false}
 use mathlib.Core.List.{List, []}
 use lib.ListN.{length, take}
 use lib.Dec.{ltb}
-use borrow.Author.Tests.{ltb-false, eq-eqb, ne_eqb}
+use borrow.Author.Tests.{ltb-false}
+use Rattle.std.specs.Option.{ok_or}
 use Rattle.std.specs.Prelude.{Err, None, Ok, Option, Result, Some}
 use Rattle.limits.specs.Limits.{rust_limits}
 use Rattle.limits.specs.Outcome.{cause_if, or_else, check_of}
@@ -26,9 +27,9 @@ use Rattle.ordered_store.proofs.SlotLaws.{not_read}
 use Rattle.dialog_id.specs.Ident.{Ident, ident_cause}
 use Rattle.rseq_entries.specs.Entries.{key_of_ident, Entry, key_of, entry_form}
 use Rattle.rseq_manager.specs.RSeq.{first_number, next_number, next, current, remove, len, action_cause, numbered, judge, ran}
-use Rattle.rseq_manager.specs.Answers.{numbered_in, used_after, numbered_from, current_of, counted_of, emptiness}
+use Rattle.rseq_manager.specs.Answers.{numbered_in, used_after, numbered_from, current_of, counted_of}
 use Rattle.rseq_entries.specs.Places.{slot_for}
-use Rattle.rseq_entries.specs.declared.finding.Slot.TheVariants as slots
+use Rattle.rseq_entries.specs.declared.entries.EntryAt.{EntryAt}
 use Rattle.rseq_entries.proofs.SlotLaws.{holds, lacks, unreadable}
 use Rattle.rseq_manager.proofs.OperationLaws.{accepted, by_arguments, by_store, by_keeping, current_held, current_free, remove_held, remove_free, next_held, next_free, left_by}
 
@@ -107,22 +108,22 @@ module _ (i : Ident) (bytes : List ℕ) (used : ℕ) (b : Bytes bytes) where
       next_clear : action_cause rust_limits (next i n) ≡ None
       next_clear = next_cause i n (passed (ident_cause rust_limits i) p)
 
-      pub next_broken : slot_for (key_of_ident i) bytes used ≡ slots.Broken → DoneNext used next_left (Err BadStore) bytes
-      next_broken s =
-          subst (λ (l : Left ℕ). DoneNext used l (Err BadStore) bytes)
-          (sym (by_store rust_limits bytes used (next i n) next_clear (key_of_ident i) (unreadable (key_of_ident i) bytes used s))) (refl, (refl, refl))
+      pub next_broken : {x : Refusal} → slot_for (key_of_ident i) bytes used ≡ Err x → DoneNext used next_left (Err x) bytes
+      next_broken {x} s =
+          let u = unreadable (key_of_ident i) bytes used s in
+          subst (λ (l : Left ℕ). DoneNext used l (Err x) bytes) (sym (by_store rust_limits bytes used (next i n) next_clear (key_of_ident i) u.1)) (ap Err u.0, (refl, refl))
 
       -- a held number: its four bytes
-      pub next_raised : {at number end m : ℕ} {after : List ℕ} → slot_for (key_of_ident i) bytes used ≡ slots.Held at number end → m ≡ next_number number
-          → after ≡ put_at (end - 4) (four.write m) bytes → DoneNext used next_left (Ok (m, used)) after
-      next_raised {at} {number} {end} {m} {after} s q w =
+      pub next_raised : {p : EntryAt} {m : ℕ} {after : List ℕ} → slot_for (key_of_ident i) bytes used ≡ Ok (Ok p) → m ≡ next_number p.number
+          → after ≡ put_at (p.end - 4) (four.write m) bytes → DoneNext used next_left (Ok (m, used)) after
+      next_raised {p} {m} {after} s q w =
           let e : next_left ≡ accepted after used m =
           next_held bytes used b i (holds (key_of_ident i) bytes used s) rust_limits n next_clear
-          ∙ ap₂ (λ (x : List ℕ) (k : ℕ). accepted x used k) (sym (w ∙ ap (λ (k : ℕ). put_at (end - 4) (four.write k) bytes) q)) (sym q) in
+          ∙ ap₂ (λ (x : List ℕ) (k : ℕ). accepted x used k) (sym (w ∙ ap (λ (k : ℕ). put_at (p.end - 4) (four.write k) bytes) q)) (sym q) in
           subst (λ (l : Left ℕ). DoneNext used l (Ok (m, used)) after) (sym e) (refl, (refl, refl))
 
       -- a new one
-      pub next_new : {at m : ℕ} {r : Result (ℕ × ℕ) Refusal} {after : List ℕ} → slot_for (key_of_ident i) bytes used ≡ slots.Free at → m ≡ first_number n
+      pub next_new : {at m : ℕ} {r : Result (ℕ × ℕ) Refusal} {after : List ℕ} → slot_for (key_of_ident i) bytes used ≡ Ok (Err at) → m ≡ first_number n
           → (r ≡ numbered_from m (fitted (length bytes) (spliced at 0 (entry_form.write (numbered i m)) (take used bytes))))
           × (after ≡ leaves (fitted (length bytes) (spliced at 0 (entry_form.write (numbered i m)) (take used bytes))) bytes)
           → DoneNext used next_left r after
@@ -150,17 +151,17 @@ module _ (i : Ident) (bytes : List ℕ) (used : ℕ) (b : Bytes bytes) where
     current_clear : action_cause rust_limits (current i) ≡ None
     current_clear = current_cause i 0 (passed (ident_cause rust_limits i) p)
 
-    pub current_broken : slot_for (key_of_ident i) bytes used ≡ slots.Broken → DoneCurrent bytes used current_left (Err BadStore)
-    current_broken s =
-        subst (λ (l : Left ℕ). DoneCurrent bytes used l (Err BadStore))
-        (sym (by_store rust_limits bytes used (current i) current_clear (key_of_ident i) (unreadable (key_of_ident i) bytes used s))) (refl, (refl, refl))
+    pub current_broken : {x : Refusal} → slot_for (key_of_ident i) bytes used ≡ Err x → DoneCurrent bytes used current_left (Err x)
+    current_broken {x} s =
+        let u = unreadable (key_of_ident i) bytes used s in
+        subst (λ (l : Left ℕ). DoneCurrent bytes used l (Err x)) (sym (by_store rust_limits bytes used (current i) current_clear (key_of_ident i) u.1)) (ap Err u.0, (refl, refl))
 
-    pub current_is : {at number end : ℕ} → slot_for (key_of_ident i) bytes used ≡ slots.Held at number end → DoneCurrent bytes used current_left (Ok number)
-    current_is {at} {number} {end} s =
-        subst (λ (l : Left ℕ). DoneCurrent bytes used l (Ok number)) (sym (current_held bytes used b i (holds (key_of_ident i) bytes used s) rust_limits current_clear)) (refl, (refl, refl))
+    pub current_is : {p : EntryAt} → slot_for (key_of_ident i) bytes used ≡ Ok (Ok p) → DoneCurrent bytes used current_left (Ok p.number)
+    current_is {p} s =
+        subst (λ (l : Left ℕ). DoneCurrent bytes used l (Ok p.number)) (sym (current_held bytes used b i (holds (key_of_ident i) bytes used s) rust_limits current_clear)) (refl, (refl, refl))
 
     -- 15
-    pub current_none : {at : ℕ} → slot_for (key_of_ident i) bytes used ≡ slots.Free at → DoneCurrent bytes used current_left (Err NotFound)
+    pub current_none : {at : ℕ} → slot_for (key_of_ident i) bytes used ≡ Ok (Err at) → DoneCurrent bytes used current_left (Err NotFound)
     current_none s =
         subst (λ (l : Left ℕ). DoneCurrent bytes used l (Err NotFound)) (sym (current_free bytes used b i (lacks (key_of_ident i) bytes used s) rust_limits current_clear)) (refl, (refl, refl))
 
@@ -177,25 +178,25 @@ module _ (i : Ident) (bytes : List ℕ) (used : ℕ) (b : Bytes bytes) where
     remove_clear : action_cause rust_limits (remove i) ≡ None
     remove_clear = remove_cause i 0 (passed (ident_cause rust_limits i) p)
 
-    pub remove_broken : slot_for (key_of_ident i) bytes used ≡ slots.Broken → DoneRemove used remove_left (Err BadStore) bytes
-    remove_broken s =
-        subst (λ (l : Left ℕ). DoneRemove used l (Err BadStore) bytes)
-        (sym (by_store rust_limits bytes used (remove i) remove_clear (key_of_ident i) (unreadable (key_of_ident i) bytes used s))) (refl, (refl, refl))
+    pub remove_broken : {x : Refusal} → slot_for (key_of_ident i) bytes used ≡ Err x → DoneRemove used remove_left (Err x) bytes
+    remove_broken {x} s =
+        let u = unreadable (key_of_ident i) bytes used s in
+        subst (λ (l : Left ℕ). DoneRemove used l (Err x) bytes) (sym (by_store rust_limits bytes used (remove i) remove_clear (key_of_ident i) u.1)) (ap Err u.0, (refl, refl))
 
     -- its bytes cut out
-    pub remove_cut : {at number end n : ℕ} {after : List ℕ} → slot_for (key_of_ident i) bytes used ≡ slots.Held at number end → n ≡ used - (end - at) + 0
-        → after ≡ over (spliced at (end - at) [] (take used bytes)) bytes → DoneRemove used remove_left (Ok n) after
-    remove_cut {at} {number} {end} {n} {after} s q w =
+    pub remove_cut : {p : EntryAt} {n : ℕ} {after : List ℕ} → slot_for (key_of_ident i) bytes used ≡ Ok (Ok p) → n ≡ used - (p.end - (p.id.call_id.start - 2)) + 0
+        → after ≡ over (spliced (p.id.call_id.start - 2) (p.end - (p.id.call_id.start - 2)) [] (take used bytes)) bytes → DoneRemove used remove_left (Ok n) after
+    remove_cut {p} {n} {after} s q w =
         let e : remove_left ≡ accepted after n 0 =
         remove_held bytes used b i (holds (key_of_ident i) bytes used s) rust_limits remove_clear ∙ ap₂ (λ (x : List ℕ) (k : ℕ). accepted x k 0) (sym w) (sym q) in
         subst (λ (l : Left ℕ). DoneRemove used l (Ok n) after) (sym e) (refl, (refl, refl))
 
     -- nothing to remove
-    pub remove_nothing : {at : ℕ} → slot_for (key_of_ident i) bytes used ≡ slots.Free at → DoneRemove used remove_left (Ok used) bytes
+    pub remove_nothing : {at : ℕ} → slot_for (key_of_ident i) bytes used ≡ Ok (Err at) → DoneRemove used remove_left (Ok used) bytes
     remove_nothing s =
         subst (λ (l : Left ℕ). DoneRemove used l (Ok used) bytes) (sym (remove_free bytes used b i (lacks (key_of_ident i) bytes used s) rust_limits remove_clear)) (refl, (refl, refl))
 
--- ---- len, is_empty
+-- ---- len
 
 module _ (bytes : List ℕ) (used : ℕ) where
   abbrev len_left : Left ℕ
@@ -219,15 +220,7 @@ module _ (bytes : List ℕ) (used : ℕ) where
             let k : length es ≡ n = cc in
             subst (λ (l : Left ℕ). DoneLen bytes used l (Ok n)) (sym (by_keeping rust_limits bytes used len len_cause b h es q (length es) refl ∙ ap (accepted bytes used) k)) (refl, (refl, refl))
 
--- the flag of a length
-pub empty_is : (o : Result ℕ Refusal) {n : ℕ} → counted_of o ≡ Ok n → n ≡ 0 → Ok 1 ≡ counted_of (emptiness o)
-empty_is (Err cause) e h = absurd (let z : ◌≡◌ {A = ℕ} 0 1 = cc in omega arith)
-empty_is (Ok m) {n} e h = let k : m ≡ n = cc in sym (ap (λ t. Ok (cond t 1 0)) (eq-eqb m 0 (k ∙ h)))
-
-pub filled_is : (o : Result ℕ Refusal) {n : ℕ} → counted_of o ≡ Ok n → (n ≡ 0 → ⊥) → Ok 0 ≡ counted_of (emptiness o)
-filled_is (Err cause) e h = absurd (let z : ◌≡◌ {A = ℕ} 0 1 = cc in omega arith)
-filled_is (Ok m) {n} e h = let k : m ≡ n = cc in sym (ap (λ t. Ok (cond t 1 0)) (ne_eqb m 0 (λ z. h (sym k ∙ z))))
-
-pub refused_is : (o : Result ℕ Refusal) {cause : Refusal} → counted_of o ≡ Err cause → Err cause ≡ counted_of (emptiness o)
-refused_is (Err one) {cause} e = let k : one ≡ cause = cc in ap Err (sym k)
-refused_is (Ok m) e = absurd (let z : ◌≡◌ {A = ℕ} 0 1 = cc in omega arith)
+    -- read, or not
+    pub len_read : Bytes bytes → (o : Option ℕ) → o ≡ count_of (decode_entries entry_form key_of (take used bytes)) → {r : Result ℕ Refusal} → r ≡ ok_or o BadStore → DoneLen bytes used len_left r
+    len_read b None e q = subst (DoneLen bytes used len_left) (sym q) (len_broken (sym e))
+    len_read b (Some n) e q = subst (DoneLen bytes used len_left) (sym q) (len_is b (sym e))

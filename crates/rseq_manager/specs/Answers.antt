@@ -1,5 +1,5 @@
 -- What the calls of `RSeqManager` (lib.rs) answer, by what `ran` leaves: the number and the used length, and the lent bytes beside them.
-use Rattle.std.specs.Prelude.{ℕ, List, length, Err, Ok, Result}
+use Rattle.std.specs.Prelude.{ℕ, Bool, List, length, eqb, Err, Ok, Result}
 use Rattle.limits.specs.declared.Refusal.{Refusal}
 use Rattle.ordered_store.specs.Run.{Left}
 use Rattle.rseq_manager.specs.RSeq.{empty_flag}
@@ -22,10 +22,15 @@ abbrev pub current_of : Result ℕ Refusal → Result ℕ Refusal
 current_of (Err cause) = Err cause
 current_of (Ok n) = Ok n
 
--- `len`, and `is_empty`
+-- `len`
 abbrev pub counted_of : Result ℕ Refusal → Result ℕ Refusal
 counted_of (Err cause) = Err cause
 counted_of (Ok n) = Ok n
+
+-- `is_empty`: whether none is held, and the number that a C caller is given for it
+abbrev pub empty_of : Result ℕ Refusal → Result Bool Refusal
+empty_of (Err cause) = Err cause
+empty_of (Ok n) = Ok (eqb n 0)
 
 abbrev pub emptiness : Result ℕ Refusal → Result ℕ Refusal
 emptiness (Err cause) = Err cause

@@ -30,7 +30,7 @@ pub fn validate_session_expires(interval: u64, minimum: Option<u64>) -> Result<u
 pub fn non_refresher_expiry(interval: u64) -> u64
     ensures { result ≡ non_refresher_expiry interval }
 {
-    interval - smaller(EXPIRY_MARGIN_SECS * NANOS_PER_SECOND, interval / 3)
+    interval - (EXPIRY_MARGIN_SECS * NANOS_PER_SECOND).min(interval / 3)
 }
 
 // When the side that refreshes is to do so: at half the interval.
@@ -57,10 +57,11 @@ pub fn negotiate_session_expires(
     let Some(preferred) = preference else {
         return Ok(requested);
     };
-    Ok(smaller(requested, larger(preferred, least)))
+    Ok(requested.min(preferred.max(least)))
 }
 
 // Whether we refresh the session, by the refresher parameter, whose bytes count only if it is present.
+// Kept (7): a C caller says by a flag whether there is a parameter and lends bytes in either case; `sip_dialog` hands on both.
 pub fn determine_refresher_role(present: bool, param: &[u8], is_uac: bool) -> Result<bool, Refusal>
     ensures { result ≡ role_from (refresher_role rust_limits (text_if present param.now) is_uac) }
 {
@@ -92,10 +93,7 @@ pub fn needs_refresh(expires: Option<u32>, elapsed: u64) -> bool
 fn minimum_or_default(minimum: Option<u64>) -> u64
     ensures { result ≡ minimum_or_default rust_limits (time_of minimum) }
 {
-    match minimum {
-        Some(given) => given,
-        None => (Limits::MIN_SESSION_EXPIRES as u64) * NANOS_PER_SECOND,
-    }
+    minimum.unwrap_or((Limits::MIN_SESSION_EXPIRES as u64) * NANOS_PER_SECOND)
 }
 
 // The larger of both sides' minima.
@@ -103,7 +101,7 @@ fn joint_minimum(local: u64, remote: Option<u64>) -> u64
     ensures { result ≡ joint_minimum local (time_of remote) }
 {
     match remote {
-        Some(given) => larger(local, given),
+        Some(given) => local.max(given),
         None => local,
     }
 }
@@ -119,16 +117,4 @@ fn we_refresh(param: &[u8], is_uac: bool) -> bool
         return !is_uac;
     }
     is_uac
-}
-
-fn smaller(a: u64, b: u64) -> u64
-    ensures { result ≡ min a b }
-{
-    if a <= b { a } else { b }
-}
-
-fn larger(a: u64, b: u64) -> u64
-    ensures { result ≡ max a b }
-{
-    if a <= b { b } else { a }
 }

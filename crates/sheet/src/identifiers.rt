@@ -1,6 +1,6 @@
 // A dialog's identifier from given parts.
-use dialog_id::DialogId;
-use sheet_lines::{ask, ask_size, end_line, first, show, show_check};
+use dialog_id::{DialogId, IdTexts};
+use sheet_lines::{ask, ask_size, end_line, show, show_check};
 use std::io;
 
 pub fn identifiers(rt: &impl Print) -> io::Result<()> {
@@ -26,10 +26,10 @@ pub fn identifiers(rt: &impl Print) -> io::Result<()> {
     local_tag(rt, b"a tab", b"l\t")?;
     local_tag(rt, b"a byte 127", b"l\x7f")?;
     let long = [b'a'; 257];
-    call_id_of(rt, first(&long, 256))?;
+    call_id_of(rt, &long[..256])?;
     call_id_of(rt, &long)?;
-    tag_of(rt, first(&long, 128))?;
-    tag_of(rt, first(&long, 129))
+    tag_of(rt, &long[..128])?;
+    tag_of(rt, &long[..129])
 }
 
 fn identifier(
@@ -47,24 +47,31 @@ fn identifier(
     show(rt, b"][")?;
     show(rt, remote_tag)?;
     show(rt, b"]: ")?;
-    show_check(rt, DialogId::new(call_id, local_tag, remote_tag))?;
-    end_line(rt)
+    check(rt, call_id, local_tag, remote_tag)
 }
 
 fn local_tag(rt: &impl Print, what: &[u8], tag: &[u8]) -> io::Result<()> {
     ask(rt, b"01 row 27", b"identifier whose local tag has ", what)?;
-    show_check(rt, DialogId::new(b"c", tag, b"r"))?;
-    end_line(rt)
+    check(rt, b"c", tag, b"r")
 }
 
 fn call_id_of(rt: &impl Print, s: &[u8]) -> io::Result<()> {
     ask_size(rt, b"01 Identifier", b"Call-ID", s)?;
-    show_check(rt, DialogId::new(s, b"l", b"r"))?;
-    end_line(rt)
+    check(rt, s, b"l", b"r")
 }
 
 fn tag_of(rt: &impl Print, s: &[u8]) -> io::Result<()> {
     ask_size(rt, b"01 Identifier", b"tag", s)?;
-    show_check(rt, DialogId::new(b"c", b"l", s))?;
+    check(rt, b"c", b"l", s)
+}
+
+// The check of the parts, and the end of the line.
+fn check(rt: &impl Print, call_id: &[u8], local_tag: &[u8], remote_tag: &[u8]) -> io::Result<()> {
+    let id = IdTexts {
+        call_id,
+        local_tag,
+        remote_tag,
+    };
+    show_check(rt, DialogId::new(id))?;
     end_line(rt)
 }

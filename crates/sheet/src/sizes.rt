@@ -1,15 +1,13 @@
 // Texts and blocks of 8,192 bytes, which are read, and of 8,193, which are not.
-use sheet_lines::{
-    ask_size, end_line, first, put, show, show_check, show_expires, show_refusal, show_size,
-};
+use sheet_lines::{ask_size, end_line, show, show_check, show_expires, show_refusal, show_size};
 use std::io;
 
 pub fn sizes(rt: &impl Print) -> io::Result<()> {
     let mut block = [b'a'; 8193];
-    put(&mut block, 1, b':');
-    put(&mut block, 8190, b'\r');
-    put(&mut block, 8191, b'\n');
-    block_of(rt, first(&block, 8192))?;
+    block[1] = b':';
+    block[8190] = b'\r';
+    block[8191] = b'\n';
+    block_of(rt, &block[..8192])?;
     block_of(rt, &block)?;
     tags(rt)?;
     uris(rt)?;
@@ -18,26 +16,26 @@ pub fn sizes(rt: &impl Print) -> io::Result<()> {
 
 fn tags(rt: &impl Print) -> io::Result<()> {
     let mut value = [b'a'; 8193];
-    put(&mut value, 0, b't');
-    put(&mut value, 2, b'g');
-    put(&mut value, 3, b'=');
-    tag_of(rt, first(&value, 8192))?;
+    value[0] = b't';
+    value[2] = b'g';
+    value[3] = b'=';
+    tag_of(rt, &value[..8192])?;
     tag_of(rt, &value)
 }
 
 fn uris(rt: &impl Print) -> io::Result<()> {
     let mut uri = [b'a'; 8193];
-    put(&mut uri, 0, b's');
-    put(&mut uri, 1, b'i');
-    put(&mut uri, 2, b'p');
-    put(&mut uri, 3, b':');
-    uri_of(rt, first(&uri, 8192))?;
+    uri[0] = b's';
+    uri[1] = b'i';
+    uri[2] = b'p';
+    uri[3] = b':';
+    uri_of(rt, &uri[..8192])?;
     uri_of(rt, &uri)
 }
 
 fn intervals(rt: &impl Print) -> io::Result<()> {
     let zeros = [b'0'; 8193];
-    expires_of(rt, first(&zeros, 8192))?;
+    expires_of(rt, &zeros[..8192])?;
     expires_of(rt, &zeros)
 }
 

@@ -1,5 +1,5 @@
 // The tags of From and To values.
-use sheet_lines::{ask, end_line, show_tag};
+use sheet_lines::{ask, end_line, show_lookup};
 use std::io;
 
 pub fn tags(rt: &impl Print) -> io::Result<()> {
@@ -73,6 +73,6 @@ fn held(rt: &impl Print) -> io::Result<()> {
 
 fn tag(rt: &impl Print, place: &[u8], value: &[u8]) -> io::Result<()> {
     ask(rt, place, b"tag of ", value)?;
-    show_tag(rt, value, headers::extract_tag(value))?;
+    show_lookup(rt, value, headers::extract_tag(value).map(Some))?;
     end_line(rt)
 }

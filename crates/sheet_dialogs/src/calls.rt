@@ -1,62 +1,67 @@
-// Each call on one record, and its line. A call that changes the record hands out its new length.
+// Each call on one record, and its line.
 use crate::records::{show_cause, show_record};
+use creation_checks::NewDialog;
 use limits::Refusal;
 use sheet_lines::{
-    ask, ask_block, ask_number, end_line, first, show, show_block, show_time, show_yes,
+    Held, ask, ask_block, ask_number, end_line, show, show_block, show_time, show_yes,
 };
 use std::io;
 
+// The bytes that a record is lent.
+pub type Record = Held<512>;
+
 // A record by an INVITE that we sent.
-pub fn uac<'a>(
+pub fn uac(
     rt: &impl Print,
     place: &[u8],
     given: &[u8],
-    request: &'a [u8],
-    status: u16,
-    response: &'a [u8],
-    local_uri: &[u8],
-    remote_uri: &'a [u8],
-    bytes: &mut [u8],
-) -> io::Result<usize> {
+    call: NewDialog<'_>,
+    record: &mut Record,
+) -> io::Result<()> {
     ask(rt, place, b"new_uac, ", given)?;
-    let w = dialog_creation::new_uac(
-        b"INVITE", request, status, response, local_uri, remote_uri, bytes,
-    );
-    created(rt, w, bytes)
+    let answer = dialog_creation::new_uac(call, &mut record.bytes);
+    created(rt, answer, record)
 }
 
 // A record by an INVITE to us.
-pub fn uas<'a>(
+pub fn uas(
     rt: &impl Print,
     place: &[u8],
     given: &[u8],
-    request: &'a [u8],
-    status: u16,
-    response: &'a [u8],
-    local_uri: &[u8],
-    remote_uri: &'a [u8],
-    bytes: &mut [u8],
-) -> io::Result<usize> {
+    call: NewDialog<'_>,
+    record: &mut Record,
+) -> io::Result<()> {
     ask(rt, place, b"new_uas, ", given)?;
-    let w = dialog_creation::new_uas(
-        b"INVITE", request, status, response, local_uri, remote_uri, bytes,
-    );
-    created(rt, w, bytes)
+    let answer = dialog_creation::new_uas(call, &mut record.bytes);
+    created(rt, answer, record)
 }
 
-fn created(rt: &impl Print, w: Result<usize, Refusal>, bytes: &[u8]) -> io::Result<usize> {
-    match w {
+// The call as the other side has it: its URIs turned round.
+pub fn turned(call: NewDialog<'_>) -> NewDialog<'_> {
+    NewDialog {
+        local_uri: call.remote_uri,
+        remote_uri: call.local_uri,
+        ..call
+    }
+}
+
+// The call with a response of another status.
+pub fn answered_by(call: NewDialog<'_>, status: u16) -> NewDialog<'_> {
+    NewDialog { status, ..call }
+}
+
+fn created(rt: &impl Print, answer: Result<usize, Refusal>, record: &mut Record) -> io::Result<()> {
+    match answer {
         Ok(n) => {
-            show_record(rt, first(bytes, n))?;
-            end_line(rt)?;
-            Ok(n)
+            record.used = n;
+            show_record(rt, record.used_bytes())?;
         }
         Err(x) => {
+            record.used = 0;
             show_cause(rt, x)?;
-            end_line(rt)?;
-            Ok(0)
         }
     }
+    end_line(rt)
 }
 
 // A request, whose block is shown.
@@ -65,12 +70,10 @@ pub fn request(
     place: &[u8],
     method: &[u8],
     block: &[u8],
-    bytes: &mut [u8],
-    used: usize,
-) -> io::Result<usize> {
+    record: &mut Record,
+) -> io::Result<()> {
     ask_block(rt, place, method, block)?;
-    let w = dialog_requests::update_from_request(method, block, bytes, used);
-    updated(rt, w, bytes, used)
+    requested(rt, method, block, record)
 }
 
 // The same of a whole message, whose block is not shown.
@@ -79,12 +82,16 @@ pub fn message(
     place: &[u8],
     method: &[u8],
     block: &[u8],
-    bytes: &mut [u8],
-    used: usize,
-) -> io::Result<usize> {
+    record: &mut Record,
+) -> io::Result<()> {
     ask(rt, place, method, b"")?;
-    let w = dialog_requests::update_from_request(method, block, bytes, used);
-    updated(rt, w, bytes, used)
+    requested(rt, method, block, record)
+}
+
+fn requested(rt: &impl Print, method: &[u8], block: &[u8], record: &mut Record) -> io::Result<()> {
+    let used = record.used;
+    let answer = dialog_requests::update_from_request(method, block, &mut record.bytes, used);
+    updated(rt, answer, record)
 }
 
 // A response, whose block is shown.
@@ -93,15 +100,13 @@ pub fn response(
     place: &[u8],
     status: u16,
     block: &[u8],
-    bytes: &mut [u8],
-    used: usize,
-) -> io::Result<usize> {
+    record: &mut Record,
+) -> io::Result<()> {
     show(rt, place)?;
     print!(rt; "  {status} of {{")?;
     show_block(rt, block)?;
     show(rt, b"}: ")?;
-    let w = dialog_responses::update_from_response(status, block, bytes, used);
-    updated(rt, w, bytes, used)
+    answered(rt, status, block, record)
 }
 
 // The same of a whole message, whose block is not shown.
@@ -110,87 +115,69 @@ pub fn answer(
     place: &[u8],
     status: u16,
     block: &[u8],
-    bytes: &mut [u8],
-    used: usize,
-) -> io::Result<usize> {
+    record: &mut Record,
+) -> io::Result<()> {
     ask_number(rt, place, b"", status as u64)?;
-    let w = dialog_responses::update_from_response(status, block, bytes, used);
-    updated(rt, w, bytes, used)
+    answered(rt, status, block, record)
 }
 
-pub fn confirm(rt: &impl Print, place: &[u8], bytes: &mut [u8], used: usize) -> io::Result<usize> {
+fn answered(rt: &impl Print, status: u16, block: &[u8], record: &mut Record) -> io::Result<()> {
+    let used = record.used;
+    let answer = dialog_responses::update_from_response(status, block, &mut record.bytes, used);
+    updated(rt, answer, record)
+}
+
+pub fn confirm(rt: &impl Print, place: &[u8], record: &mut Record) -> io::Result<()> {
     ask(rt, place, b"confirm", b"")?;
-    let w = dialog_changes::confirm(bytes, used);
-    updated(rt, w, bytes, used)
+    let answer = dialog_changes::confirm(&mut record.bytes, record.used);
+    updated(rt, answer, record)
 }
 
-pub fn terminate(
-    rt: &impl Print,
-    place: &[u8],
-    bytes: &mut [u8],
-    used: usize,
-) -> io::Result<usize> {
+pub fn terminate(rt: &impl Print, place: &[u8], record: &mut Record) -> io::Result<()> {
     ask(rt, place, b"terminate", b"")?;
-    let w = dialog_changes::terminate(bytes, used);
-    updated(rt, w, bytes, used)
+    let answer = dialog_changes::terminate(&mut record.bytes, record.used);
+    updated(rt, answer, record)
 }
 
 pub fn interval(
     rt: &impl Print,
     place: &[u8],
     seconds: u64,
-    bytes: &mut [u8],
-    used: usize,
-) -> io::Result<usize> {
+    record: &mut Record,
+) -> io::Result<()> {
     ask_number(rt, place, b"set_session_expires ", seconds)?;
-    let w = dialog_changes::set_session_expires(bytes, used, seconds);
-    updated(rt, w, bytes, used)
+    let used = record.used;
+    let answer = dialog_changes::set_session_expires(&mut record.bytes, used, seconds);
+    updated(rt, answer, record)
 }
 
 // The answer, and the record after it.
-fn updated(
-    rt: &impl Print,
-    w: Result<usize, Refusal>,
-    bytes: &[u8],
-    used: usize,
-) -> io::Result<usize> {
-    match w {
+fn updated(rt: &impl Print, answer: Result<usize, Refusal>, record: &mut Record) -> io::Result<()> {
+    match answer {
         Ok(n) => {
+            record.used = n;
             show(rt, b"taken; ")?;
-            show_record(rt, first(bytes, n))?;
-            end_line(rt)?;
-            Ok(n)
         }
         Err(x) => {
             show_cause(rt, x)?;
             show(rt, b"; ")?;
-            show_record(rt, first(bytes, used))?;
-            end_line(rt)?;
-            Ok(used)
         }
     }
+    show_record(rt, record.used_bytes())?;
+    end_line(rt)
 }
 
-pub fn next_local(
-    rt: &impl Print,
-    place: &[u8],
-    bytes: &mut [u8],
-    used: usize,
-) -> io::Result<usize> {
+pub fn next_local(rt: &impl Print, place: &[u8], record: &mut Record) -> io::Result<()> {
     ask(rt, place, b"next_local_cseq", b"")?;
-    match dialog_changes::next_local_cseq(bytes, used) {
+    match dialog_changes::next_local_cseq(&mut record.bytes, record.used) {
         Ok((number, n)) => {
+            record.used = n;
             print!(rt; "{number}; ")?;
-            show_record(rt, first(bytes, n))?;
-            end_line(rt)?;
-            Ok(n)
+            show_record(rt, record.used_bytes())?;
         }
-        Err(x) => {
-            show_cause(rt, x)?;
-            end_line(rt)?;
-            Ok(used)
-        }
+        Err(x) => show_cause(rt, x)?,
     }
+    end_line(rt)
 }
 
 // Whether a request is the record's.
@@ -199,11 +186,10 @@ pub fn matching(
     place: &[u8],
     method: &[u8],
     block: &[u8],
-    bytes: &[u8],
-    used: usize,
+    record: &Record,
 ) -> io::Result<()> {
     ask(rt, place, b"matches_request, ", method)?;
-    match dialog::matches_request(block, first(bytes, used)) {
+    match dialog::matches_request(block, record.used_bytes()) {
         Ok(b) => show_yes(rt, b)?,
         Err(x) => show_cause(rt, x)?,
     }
@@ -211,18 +197,12 @@ pub fn matching(
 }
 
 // Whether a refresh is due, so long after the last.
-pub fn refresh(
-    rt: &impl Print,
-    place: &[u8],
-    elapsed: u64,
-    bytes: &[u8],
-    used: usize,
-) -> io::Result<()> {
+pub fn refresh(rt: &impl Print, place: &[u8], elapsed: u64, record: &Record) -> io::Result<()> {
     show(rt, place)?;
     show(rt, b"  needs_refresh after ")?;
     show_time(rt, elapsed)?;
     show(rt, b": ")?;
-    match dialog::needs_refresh(first(bytes, used), elapsed) {
+    match dialog::needs_refresh(record.used_bytes(), elapsed) {
         Ok(b) => show_yes(rt, b)?,
         Err(x) => show_cause(rt, x)?,
     }

@@ -1,109 +1,90 @@
 // Requests within a dialog, on each side.
-use crate::calls::{next_local, request, response, terminate, uac, uas};
+use crate::calls::{Record, next_local, request, response, terminate, turned, uac, uas};
+use creation_checks::NewDialog;
 use std::io;
 
-pub fn dialogs<'a>(
-    rt: &impl Print,
-    invite: &'a [u8],
-    answer: &'a [u8],
-    caller: &'a [u8],
-    callee: &'a [u8],
-) -> io::Result<()> {
-    let mut bytes = [0u8; 512];
-    let n = uac(
+pub fn dialogs(rt: &impl Print, call: NewDialog<'_>) -> io::Result<()> {
+    let mut record = Record::new();
+    uac(
         rt,
         b"RFC 3261 after 12.1.2",
         b"INVITE 4711 and 200",
-        invite,
-        200,
-        answer,
-        caller,
-        callee,
-        &mut bytes,
+        call,
+        &mut record,
     )?;
-    sent(rt, &mut bytes, n)?;
-    let n = uas(
+    sent(rt, &mut record)?;
+    uas(
         rt,
         b"RFC 3261 after 12.1.1",
         b"INVITE 4711 and 200",
-        invite,
-        200,
-        answer,
-        callee,
-        caller,
-        &mut bytes,
+        turned(call),
+        &mut record,
     )?;
-    let n = received(rt, &mut bytes, n)?;
-    refreshed(rt, &mut bytes, n)
+    received(rt, &mut record)?;
+    refreshed(rt, &mut record)
 }
 
 // Our requests, and the responses to them.
-fn sent(rt: &impl Print, bytes: &mut [u8], used: usize) -> io::Result<()> {
+fn sent(rt: &impl Print, record: &mut Record) -> io::Result<()> {
     let place: &[u8] = b"RFC 3261 after 12.2.1.2";
-    let n = next_local(rt, b"RFC 3261 after 12.2.1.1", bytes, used)?;
-    let n = response(
+    next_local(rt, b"RFC 3261 after 12.2.1.1", record)?;
+    response(
         rt,
         place,
         200,
         b"Contact: <sip:callee@u3.domain.com>\r\nRecord-Route: <sip:p3.domain.com;lr>\r\n",
-        bytes,
-        n,
+        record,
     )?;
-    let n = response(
+    response(
         rt,
         place,
         180,
         b"Contact: <sip:callee@u4.domain.com>\r\n",
-        bytes,
-        n,
+        record,
     )?;
     request(
         rt,
         b"RFC 3261 after 13.2.2.4",
         b"ACK",
         b"CSeq: 1 ACK\r\n",
-        bytes,
-        n,
+        record,
     )?;
     Ok(())
 }
 
 // The peer's requests: the order of their numbers.
-fn received(rt: &impl Print, bytes: &mut [u8], used: usize) -> io::Result<usize> {
+fn received(rt: &impl Print, record: &mut Record) -> io::Result<()> {
     let place: &[u8] = b"RFC 3261 after 12.2.2";
-    let n = request(rt, place, b"INFO", b"CSeq: 4710 INFO\r\n", bytes, used)?;
-    request(rt, place, b"INFO", b"CSeq: 4712 INFO\r\n", bytes, n)
+    request(rt, place, b"INFO", b"CSeq: 4710 INFO\r\n", record)?;
+    request(rt, place, b"INFO", b"CSeq: 4712 INFO\r\n", record)
 }
 
 // The target by the peer's requests, and the end.
-fn refreshed(rt: &impl Print, bytes: &mut [u8], used: usize) -> io::Result<()> {
+fn refreshed(rt: &impl Print, record: &mut Record) -> io::Result<()> {
     let place: &[u8] = b"RFC 3261 after 12.2.2";
     let end: &[u8] = b"RFC 3261 after 12.3";
-    let n = request(
+    request(
         rt,
         place,
         b"INVITE",
         b"CSeq: 4715 INVITE\r\nContact: <sip:caller@u3.example.com>\r\nRecord-Route: <sip:p3.domain.com;lr>\r\n",
-        bytes,
-        used,
+        record,
     )?;
-    let n = request(
+    request(
         rt,
         place,
         b"INVITE",
         b"CSeq: 4715 INVITE\r\nContact: <sip:caller@u4.example.com>\r\n",
-        bytes,
-        n,
+        record,
     )?;
-    let n = request(
+    request(
         rt,
         place,
         b"INFO",
         b"CSeq: 4716 INFO\r\nContact: <sip:caller@u4.example.com>\r\n",
-        bytes,
-        n,
+        record,
     )?;
-    let n = terminate(rt, end, bytes, n)?;
-    request(rt, end, b"INFO", b"CSeq: 4717 INFO\r\n", bytes, n)?;
+    terminate(rt, end, record)?;
+    request(rt, end, b"INFO", b"CSeq: 4717 INFO\r\n", record)?;
     Ok(())
 }

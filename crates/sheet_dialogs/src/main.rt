@@ -11,6 +11,7 @@ mod numbers;
 mod records;
 mod timers;
 
+use creation_checks::NewDialog;
 use std::io;
 
 fn main(rt: HostRuntime) -> io::Result<()> {
@@ -22,13 +23,15 @@ fn main(rt: HostRuntime) -> io::Result<()> {
 
 // The messages of RFC 3261 16.12.1.1 with the other fields that a dialog needs, and the number of 8.1.1.5.
 fn trapezoid(rt: &impl Print) -> io::Result<()> {
-    let invite: &[u8] =
-        b"From: <sip:caller@example.com>;tag=a\r\nTo: <sip:callee@domain.com>\r\nCall-ID: 1\r\nCSeq: 4711 INVITE\r\nContact: sip:caller@u1.example.com\r\nRecord-Route: <sip:p2.domain.com;lr>\r\nRecord-Route: <sip:p1.example.com;lr>\r\n";
-    let answer: &[u8] =
-        b"From: <sip:caller@example.com>;tag=a\r\nTo: <sip:callee@domain.com>;tag=b\r\nCall-ID: 1\r\nCSeq: 4711 INVITE\r\nContact: sip:callee@u2.domain.com\r\nRecord-Route: <sip:p2.domain.com;lr>\r\nRecord-Route: <sip:p1.example.com;lr>\r\n";
-    let caller: &[u8] = b"sip:caller@example.com";
-    let callee: &[u8] = b"sip:callee@domain.com";
-    creation::creation(rt, invite, answer, caller, callee)?;
-    dialogs::dialogs(rt, invite, answer, caller, callee)?;
-    confirmation::confirmation(rt, invite, answer, caller, callee)
+    let call = NewDialog {
+        method: b"INVITE",
+        request: b"From: <sip:caller@example.com>;tag=a\r\nTo: <sip:callee@domain.com>\r\nCall-ID: 1\r\nCSeq: 4711 INVITE\r\nContact: sip:caller@u1.example.com\r\nRecord-Route: <sip:p2.domain.com;lr>\r\nRecord-Route: <sip:p1.example.com;lr>\r\n",
+        status: 200,
+        response: b"From: <sip:caller@example.com>;tag=a\r\nTo: <sip:callee@domain.com>;tag=b\r\nCall-ID: 1\r\nCSeq: 4711 INVITE\r\nContact: sip:callee@u2.domain.com\r\nRecord-Route: <sip:p2.domain.com;lr>\r\nRecord-Route: <sip:p1.example.com;lr>\r\n",
+        local_uri: b"sip:caller@example.com",
+        remote_uri: b"sip:callee@domain.com",
+    };
+    creation::creation(rt, call)?;
+    dialogs::dialogs(rt, call)?;
+    confirmation::confirmation(rt, call)
 }

@@ -1,9 +1,10 @@
 // How a record is shown: state letter, side, local and remote number, last ACK, seconds and refresher (`-` where absent), whether it is
 // secure, the target and the routes.
 use dialog::{image_route, read_image};
+use headers::Refresher;
 use image::UrisAt;
 use limits::Refusal;
-use record::{Numbers, Refresher, State};
+use record::{Numbers, State};
 use sheet_lines::{show, show_bracketed, show_part, show_refusal, show_seconds};
 use std::io;
 
@@ -20,6 +21,7 @@ pub fn show_record(rt: &impl Print, image: &[u8]) -> io::Result<()> {
     show_routes(rt, image, r.route_count)
 }
 
+// Kept (4): the sheet's words for a type of a library.
 fn show_state(rt: &impl Print, numbers: Numbers) -> io::Result<()> {
     match numbers.state {
         State::Early => show(rt, b"E"),
@@ -50,11 +52,12 @@ fn show_optional(rt: &impl Print, n: Option<u32>) -> io::Result<()> {
     }
 }
 
-fn show_refresher(rt: &impl Print, r: Refresher) -> io::Result<()> {
+// Kept (4): the sheet's words for a type of a library.
+fn show_refresher(rt: &impl Print, r: Option<Refresher>) -> io::Result<()> {
     match r {
-        Refresher::Uac => show(rt, b" uac"),
-        Refresher::Uas => show(rt, b" uas"),
-        Refresher::Unspecified => show(rt, b" -"),
+        Some(Refresher::Uac) => show(rt, b" uac"),
+        Some(Refresher::Uas) => show(rt, b" uas"),
+        None => show(rt, b" -"),
     }
 }
 

@@ -1,12 +1,12 @@
 // How a line of the sheets is written: where the example stands, what is asked, and each kind of answer.
 #![tactic(auto)]
 
-mod parts;
+mod held;
 
 use dialog_id::DialogId;
 use headers::Refresher;
+pub use held::Held;
 use limits::Refusal;
-pub use parts::{first, put};
 use rack::RAck;
 use std::fmt::Display;
 use std::io;
@@ -77,15 +77,16 @@ fn show_byte(rt: &impl Print, b: u8) -> io::Result<()> {
 
 // The part of a text that an answer names.
 pub fn show_part(rt: &impl Print, s: &[u8], part: Span) -> io::Result<()> {
-    match s.get(part.start..) {
-        Some(rest) => show_first(rt, rest, part.length),
-        None => show(rt, b"outside"),
-    }
+    show_text(rt, part_of(s, part))
 }
 
-// The first n bytes.
-fn show_first(rt: &impl Print, s: &[u8], n: usize) -> io::Result<()> {
-    match s.get(..n) {
+fn part_of(s: &[u8], part: Span) -> Option<&[u8]> {
+    s.get(part.start..)?.get(..part.length)
+}
+
+// A part of a text, or that it isn't one.
+fn show_text(rt: &impl Print, part: Option<&[u8]>) -> io::Result<()> {
+    match part {
         Some([]) => show(rt, b"empty"),
         Some(part) => show(rt, part),
         None => show(rt, b"outside"),
@@ -112,6 +113,7 @@ pub fn show_yes(rt: &impl Print, b: bool) -> io::Result<()> {
     if b { show(rt, b"yes") } else { show(rt, b"no") }
 }
 
+// Kept (4): the sheet's words for an answer of a library.
 pub fn show_check(rt: &impl Print, c: Result<(), Refusal>) -> io::Result<()> {
     match c {
         Ok(()) => show(rt, b"taken"),
@@ -126,6 +128,7 @@ pub fn show_number(rt: &impl Print, n: Option<u32>) -> io::Result<()> {
     }
 }
 
+// Kept (4): the sheet's words for an answer of a library.
 pub fn show_lookup(rt: &impl Print, s: &[u8], l: Result<Option<Span>, Refusal>) -> io::Result<()> {
     match l {
         Ok(Some(part)) => show_part(rt, s, part),
@@ -154,13 +157,6 @@ pub fn show_next(
             show_refusal(rt, x)?;
             Ok(None)
         }
-    }
-}
-
-pub fn show_tag(rt: &impl Print, s: &[u8], t: Result<Span, Refusal>) -> io::Result<()> {
-    match t {
-        Ok(part) => show_part(rt, s, part),
-        Err(x) => show_refusal(rt, x),
     }
 }
 
@@ -217,7 +213,7 @@ pub fn show_answer<N: Display + Drop>(rt: &impl Print, n: Result<N, Refusal>) ->
 
 pub fn show_expires(
     rt: &impl Print,
-    e: Result<Option<(u32, Refresher)>, Refusal>,
+    e: Result<Option<(u32, Option<Refresher>)>, Refusal>,
 ) -> io::Result<()> {
     match e {
         Ok(Some((seconds, refresher))) => {
@@ -229,11 +225,12 @@ pub fn show_expires(
     }
 }
 
-fn show_refresher(rt: &impl Print, r: Refresher) -> io::Result<()> {
+// Kept (4): the sheet's words for a type of a library.
+fn show_refresher(rt: &impl Print, r: Option<Refresher>) -> io::Result<()> {
     match r {
-        Refresher::Uac => show(rt, b", uac"),
-        Refresher::Uas => show(rt, b", uas"),
-        Refresher::Unspecified => show(rt, b", no refresher"),
+        Some(Refresher::Uac) => show(rt, b", uac"),
+        Some(Refresher::Uas) => show(rt, b", uas"),
+        None => show(rt, b", no refresher"),
     }
 }
 
@@ -279,6 +276,7 @@ pub fn show_checked(rt: &impl Print, c: Result<u32, Refusal>) -> io::Result<()> 
 }
 
 // Yes or no, or why neither.
+// Kept (4): the sheet's words for an answer of a library.
 pub fn show_verdict(rt: &impl Print, b: Result<bool, Refusal>) -> io::Result<()> {
     match b {
         Ok(b) => show_yes(rt, b),
@@ -302,9 +300,10 @@ pub fn show_rack(rt: &impl Print, r: Result<RAck, Refusal>) -> io::Result<()> {
 }
 
 // What was written at the front of the lent bytes.
+// Kept (4): the sheet's words for an answer of a library.
 pub fn show_written(rt: &impl Print, out: &[u8], w: Result<usize, Refusal>) -> io::Result<()> {
     match w {
-        Ok(n) => show_first(rt, out, n),
+        Ok(n) => show_text(rt, out.get(..n)),
         Err(x) => show_refusal(rt, x),
     }
 }

@@ -1,76 +1,55 @@
-// Each call on a run of verdicts, and its line. `add` hands out the new used length.
+// Each call on a run of verdicts, and its line.
 use limits::Refusal;
-use sheet_lines::{show, show_refusal};
+use sheet_lines::{Held, show, show_refusal};
 use std::io;
 
 // A verdict, and what was answered.
-pub fn add(
+pub fn add<const N: usize>(
     rt: &impl Print,
     time: u64,
-    number: u8,
-    run: &mut [u8],
-    used: usize,
-) -> io::Result<usize> {
+    verdict: Result<(), Refusal>,
+    run: &mut Held<N>,
+) -> io::Result<()> {
+    let number = number_of(verdict);
     print!(rt; "add_verdict at {time}, number {number}: ")?;
-    let w = worst_minute::add_verdict(time, number, run, used);
-    changed(rt, w, run, used)
+    let answer = worst_minute::add_verdict(time, number, &mut run.bytes, run.used);
+    run.changed(rt, answer)
 }
 
 // So many verdicts alike: a line for all of them, or for the first that is refused.
-pub fn add_many(
+pub fn add_many<const N: usize>(
     rt: &impl Print,
     count: u64,
     time: u64,
-    number: u8,
-    run: &mut [u8],
-    used: usize,
-) -> io::Result<usize> {
+    verdict: Result<(), Refusal>,
+    run: &mut Held<N>,
+) -> io::Result<()> {
+    let number = number_of(verdict);
     print!(rt; "add_verdict at {time}, number {number}, times {count}: ")?;
-    let mut n = used;
     for _ in 0..count {
-        match worst_minute::add_verdict(time, number, run, n) {
-            Ok(length) => n = length,
-            Err(x) => return changed(rt, Err(x), run, n),
+        match worst_minute::add_verdict(time, number, &mut run.bytes, run.used) {
+            Ok(n) => run.used = n,
+            Err(x) => return run.changed(rt, Err(x)),
         }
     }
-    changed(rt, Ok(n), run, n)
+    run.changed(rt, Ok(run.used))
 }
 
 // The worst minute.
-pub fn worst(rt: &impl Print, run: &[u8], used: usize) -> io::Result<()> {
+pub fn worst<const N: usize>(rt: &impl Print, run: &Held<N>) -> io::Result<()> {
     show(rt, b"worst_minute: ")?;
-    match worst_minute::worst_minute(run, used) {
-        Ok(Some((n, start))) => {
-            print!(rt; "{n} from {start}")?;
-        }
+    match worst_minute::worst_minute(&run.bytes, run.used) {
+        Ok(Some((n, start))) => print!(rt; "{n} from {start}")?,
         Ok(None) => show(rt, b"0")?,
         Err(x) => show_refusal(rt, x)?,
     }
-    end(rt, run, used)
+    run.end(rt)
 }
 
-// What was answered to an `add`; the used length afterwards.
-fn changed(
-    rt: &impl Print,
-    w: Result<usize, Refusal>,
-    run: &[u8],
-    used: usize,
-) -> io::Result<usize> {
-    match w {
-        Ok(n) => {
-            show(rt, b"taken")?;
-            end(rt, run, n)?;
-            Ok(n)
-        }
-        Err(x) => {
-            show_refusal(rt, x)?;
-            end(rt, run, used)?;
-            Ok(used)
-        }
+// A verdict's number: 0 where the request was taken.
+fn number_of(verdict: Result<(), Refusal>) -> u8 {
+    match verdict {
+        Ok(()) => 0,
+        Err(x) => x.number(),
     }
-}
-
-// The end of a line: how many of the lent bytes are used.
-fn end(rt: &impl Print, run: &[u8], used: usize) -> io::Result<()> {
-    println!(rt; "; {used} of {} bytes", run.len())
 }

@@ -1,8 +1,7 @@
-// Each call on a PRACK store, and its line. A call that may change the store hands out its new used length.
-use limits::Refusal;
-use prack_validator::Validated;
+// Each call on a PRACK store, and its line.
+use prack_list::Provisional;
 use sheet_lines::{
-    end_line, first, show, show_block, show_rack, show_refusal, show_time, show_yes,
+    Held, end_line, show, show_block, show_rack, show_refusal, show_time, show_verdict,
 };
 use std::io;
 
@@ -15,147 +14,114 @@ pub fn begin(rt: &impl Print, place: &[u8], call: &[u8], id: &[u8]) -> io::Resul
     show(rt, id)
 }
 
-// The end of a line: how many of the lent bytes are used.
-pub fn end(rt: &impl Print, bytes: &[u8], used: usize) -> io::Result<()> {
-    println!(rt; "; {used} of {} bytes", bytes.len())
-}
-
-// What a call answered that hands out no more than its new used length.
-pub fn changed(
-    rt: &impl Print,
-    w: Result<usize, Refusal>,
-    bytes: &[u8],
-    used: usize,
-) -> io::Result<usize> {
-    match w {
-        Ok(n) => {
-            show(rt, b"taken")?;
-            end(rt, bytes, n)?;
-            Ok(n)
-        }
-        Err(x) => {
-            show_refusal(rt, x)?;
-            end(rt, bytes, used)?;
-            Ok(used)
-        }
+// A response to an INVITE.
+pub fn invited(rseq: u32, cseq: u32, code: u16, time: u64) -> Provisional {
+    Provisional {
+        rseq,
+        cseq,
+        method: 1,
+        code,
+        time,
     }
 }
 
-// A response to an INVITE.
-pub fn register(
+pub fn register<const N: usize>(
     rt: &impl Print,
     place: &[u8],
     id: &[u8],
-    rseq: u32,
-    cseq: u32,
-    code: u16,
-    time: u64,
-    bytes: &mut [u8],
-    used: usize,
-) -> io::Result<usize> {
+    response: Provisional,
+    store: &mut Held<N>,
+) -> io::Result<()> {
+    let code = response.code;
+    let rseq = response.rseq;
+    let cseq = response.cseq;
     begin(rt, place, b"register", id)?;
     print!(rt; ", {code} with RSeq {rseq} and CSeq {cseq} INVITE")?;
-    show_moment(rt, b", at ", time)?;
-    let w = prack_validator::register(id, rseq, cseq, 1, code, time, bytes, used);
-    changed(rt, w, bytes, used)
+    show_moment(rt, b", at ", response.time)?;
+    let answer = prack_validator::register(id, response, &mut store.bytes, store.used);
+    store.changed(rt, answer)
 }
 
 // The PRACK of a block.
-pub fn validate(
+pub fn validate<const N: usize>(
     rt: &impl Print,
     place: &[u8],
     id: &[u8],
     block: &[u8],
     time: u64,
-    bytes: &mut [u8],
-    used: usize,
-) -> io::Result<usize> {
+    store: &mut Held<N>,
+) -> io::Result<()> {
     begin(rt, place, b"validate", id)?;
     show(rt, b", {")?;
     show_block(rt, block)?;
     show_moment(rt, b"}, at ", time)?;
-    match prack_validator::validate(id, block, time, bytes, used) {
-        Validated::Is(k, n) => {
-            show_rack(rt, Ok(k))?;
-            end(rt, bytes, n)?;
-            Ok(n)
-        }
-        Validated::Refused(x, n) => {
-            show_refusal(rt, x)?;
-            end(rt, bytes, n)?;
-            Ok(n)
-        }
-    }
+    let used = store.used;
+    let answer = prack_validator::validate(id, block, time, &mut store.bytes, used);
+    store.used = answer.used;
+    show_rack(rt, answer.verdict)?;
+    store.end(rt)
 }
 
 // How many responses wait, and the RSeq and the code of each.
-pub fn pending(
+pub fn pending<const N: usize>(
     rt: &impl Print,
     place: &[u8],
     id: &[u8],
     time: u64,
-    bytes: &mut [u8],
-    used: usize,
-) -> io::Result<usize> {
+    store: &mut Held<N>,
+) -> io::Result<()> {
     begin(rt, place, b"get_pending", id)?;
     show_moment(rt, b", at ", time)?;
-    let mut out = [0u8; 60];
-    match prack_validator::get_pending(id, time, bytes, used, &mut out) {
+    let mut out = Held::<60>::new();
+    let used = store.used;
+    match prack_validator::get_pending(id, time, &mut store.bytes, used, &mut out.bytes) {
         Ok((length, n)) => {
-            show_waiting(rt, first(&out, length))?;
-            end(rt, bytes, n)?;
-            Ok(n)
+            out.used = length;
+            store.used = n;
+            show_waiting(rt, out.used_bytes())?;
         }
-        Err(x) => {
-            show_refusal(rt, x)?;
-            end(rt, bytes, used)?;
-            Ok(used)
-        }
+        Err(x) => show_refusal(rt, x)?,
     }
+    store.end(rt)
 }
 
-pub fn pracked(
+pub fn pracked<const N: usize>(
     rt: &impl Print,
     place: &[u8],
     id: &[u8],
     rseq: u32,
-    bytes: &[u8],
-    used: usize,
+    store: &Held<N>,
 ) -> io::Result<()> {
     begin(rt, place, b"is_pracked", id)?;
     print!(rt; ", RSeq {rseq}: ")?;
-    match prack_validator::is_pracked(id, rseq, bytes, used) {
-        Ok(b) => show_yes(rt, b)?,
-        Err(x) => show_refusal(rt, x)?,
-    }
+    let answer = prack_validator::is_pracked(id, rseq, &store.bytes, store.used);
+    show_verdict(rt, answer)?;
     end_line(rt)
 }
 
-pub fn remove_pracked(
+pub fn remove_pracked<const N: usize>(
     rt: &impl Print,
     place: &[u8],
     id: &[u8],
     rseq: u32,
-    bytes: &mut [u8],
-    used: usize,
-) -> io::Result<usize> {
+    store: &mut Held<N>,
+) -> io::Result<()> {
     begin(rt, place, b"remove_pracked", id)?;
     print!(rt; ", RSeq {rseq}: ")?;
-    let w = prack_removal::remove_pracked(id, rseq, bytes, used);
-    changed(rt, w, bytes, used)
+    let answer = prack_removal::remove_pracked(id, rseq, &mut store.bytes, store.used);
+    store.changed(rt, answer)
 }
 
-pub fn remove_dialog(
+pub fn remove_dialog<const N: usize>(
     rt: &impl Print,
     place: &[u8],
     id: &[u8],
-    bytes: &mut [u8],
-    used: usize,
-) -> io::Result<usize> {
+    store: &mut Held<N>,
+) -> io::Result<()> {
     begin(rt, place, b"remove_dialog", id)?;
     show(rt, b": ")?;
-    let w = prack_removal::remove_dialog(id, bytes, used);
-    changed(rt, w, bytes, used)
+    let answer = prack_removal::remove_dialog(id, &mut store.bytes, store.used);
+    store.changed(rt, answer)
 }
 
 fn show_moment(rt: &impl Print, before: &[u8], time: u64) -> io::Result<()> {

@@ -1,5 +1,6 @@
 // Cleanups: when one is due, what it drops, and where its time has no room.
-use crate::calls::{pending, register, validate};
+use crate::calls::{invited, pending, register, validate};
+use sheet_lines::Held;
 use std::io;
 
 const DUE: u64 = 300000000000;
@@ -19,18 +20,17 @@ pub fn cleanups(rt: &impl Print) -> io::Result<()> {
     let e: &[u8] = b"e";
     let one: &[u8] = b"RAck: 1 1 INVITE\r\n";
     let two: &[u8] = b"RAck: 2 1 INVITE\r\n";
-    let mut bytes = [0u8; 256];
-    let n = register(rt, place, d, 1, 1, 180, 0, &mut bytes, 0)?;
-    let n = validate(rt, place, d, one, 0, &mut bytes, n)?;
-    let n = register(rt, place, d, 2, 1, 183, 0, &mut bytes, n)?;
-    let n = validate(rt, place, d, one, BEFORE, &mut bytes, n)?;
-    let n = validate(rt, place, d, one, DUE, &mut bytes, n)?;
-    let n = pending(rt, place, d, DUE, &mut bytes, n)?;
-    let n = validate(rt, place, d, two, LATER, &mut bytes, n)?;
-    let n = validate(rt, place, d, two, 0, &mut bytes, n)?;
-    let n = register(rt, place, e, 2, 1, 180, 0, &mut bytes, n)?;
-    validate(rt, place, e, two, AFTER, &mut bytes, n)?;
-    Ok(())
+    let mut store = Held::<256>::new();
+    register(rt, place, d, invited(1, 1, 180, 0), &mut store)?;
+    validate(rt, place, d, one, 0, &mut store)?;
+    register(rt, place, d, invited(2, 1, 183, 0), &mut store)?;
+    validate(rt, place, d, one, BEFORE, &mut store)?;
+    validate(rt, place, d, one, DUE, &mut store)?;
+    pending(rt, place, d, DUE, &mut store)?;
+    validate(rt, place, d, two, LATER, &mut store)?;
+    validate(rt, place, d, two, 0, &mut store)?;
+    register(rt, place, e, invited(2, 1, 180, 0), &mut store)?;
+    validate(rt, place, e, two, AFTER, &mut store)
 }
 
 // A new text of one byte takes 12 bytes with its time, and with a response 33.
@@ -38,10 +38,9 @@ pub fn rooms(rt: &impl Print) -> io::Result<()> {
     let place: &[u8] = b"01 row 18";
     let d: &[u8] = b"d";
     let block: &[u8] = b"CSeq: 2 PRACK\r\n";
-    let mut short = [0u8; 11];
-    let mut exact = [0u8; 12];
-    validate(rt, place, d, block, 0, &mut short, 0)?;
-    let n = validate(rt, place, d, block, 0, &mut exact, 0)?;
-    register(rt, place, d, 1, 1, 180, 0, &mut exact, n)?;
-    Ok(())
+    let mut short = Held::<11>::new();
+    let mut exact = Held::<12>::new();
+    validate(rt, place, d, block, 0, &mut short)?;
+    validate(rt, place, d, block, 0, &mut exact)?;
+    register(rt, place, d, invited(1, 1, 180, 0), &mut exact)
 }

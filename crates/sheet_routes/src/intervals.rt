@@ -205,6 +205,7 @@ fn ask_seconds(rt: &impl Print, place: &[u8], question: &[u8], interval: u32) ->
     show(rt, b": ")
 }
 
+// Kept (4): the sheet's words for a time that may be absent.
 fn show_optional(rt: &impl Print, t: Option<u64>) -> io::Result<()> {
     match t {
         Some(n) => show_time(rt, n),

@@ -95,6 +95,7 @@ fn method(rt: &impl Print, place: &[u8], s: &[u8]) -> io::Result<()> {
     end_line(rt)
 }
 
+// Kept (1): the line shows a number, and two of them are no method's.
 fn name(rt: &impl Print, place: &[u8], number: u8) -> io::Result<()> {
     ask_number(rt, place, b"method ", number as u64)?;
     let mut out = [0u8; 16];
@@ -124,6 +125,7 @@ fn rack(rt: &impl Print, place: &[u8], value: &[u8]) -> io::Result<()> {
     end_line(rt)
 }
 
+// Kept (1): the line shows a number, and two of them are no method's.
 fn written(rt: &impl Print, place: &[u8], rseq: u32, cseq: u32, method: u8) -> io::Result<()> {
     show(rt, place)?;
     print!(rt; "  RAck of {rseq}, {cseq} and method {method}: ")?;

@@ -1,5 +1,5 @@
 // URIs, given ones and those in header values.
-use sheet_lines::{ask, ask_size, end_line, first, put, show_answer, show_lookup, show_uri};
+use sheet_lines::{ask, ask_size, end_line, show_answer, show_lookup, show_uri};
 use std::io;
 
 pub fn uris(rt: &impl Print) -> io::Result<()> {
@@ -45,6 +45,7 @@ fn examples(rt: &impl Print) -> io::Result<()> {
     )
 }
 
+// Kept (4): the URIs that the section compares are read here, and not compared.
 fn compared(rt: &impl Print) -> io::Result<()> {
     let place: &[u8] = b"RFC 3261 19.1.4";
     given(rt, place, b"sip:%61lice@atlanta.com;transport=TCP")?;
@@ -102,11 +103,11 @@ fn estimates(rt: &impl Print) -> io::Result<()> {
     estimate(rt, place, b"sip:bob@biloxi.com:6000;transport=tcp")?;
     estimate(rt, place, b"mailto:watson@bell-telephone.com")?;
     let mut long = [b'a'; 507];
-    put(&mut long, 0, b's');
-    put(&mut long, 1, b'i');
-    put(&mut long, 2, b'p');
-    put(&mut long, 3, b':');
-    host_of(rt, first(&long, 506))?;
+    long[0] = b's';
+    long[1] = b'i';
+    long[2] = b'p';
+    long[3] = b':';
+    host_of(rt, &long[..506])?;
     host_of(rt, &long)
 }
 

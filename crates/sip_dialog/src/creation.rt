@@ -7,8 +7,10 @@ ghost use Rattle.dialog_creation.specs.NewImage.{new_image};
 ghost use Rattle.c_answers.specs.Given.{WithLeastGives};
 
 use c_answers::give_with_least;
+use creation_checks::NewDialog;
 
 // The record of a dialog that our request opens, by the response to it: 1, 2, 6, 4, 5, 7, 8, 4, 9, 10, 13 with 90, 14, 18.
+// Kept (2): the C header's parameters, and each function has a clause of its own.
 pub fn sip_dialog_new_uac<'a>(
     method: &[u8],
     request: &'a [u8],
@@ -23,16 +25,19 @@ pub fn sip_dialog_new_uac<'a>(
     ensures set_gives { WithLeastGives (written_from (new_image rust_limits uac (record { method = method.now; request = request.now; status = status; response = response.now; local_uri = local_uri.now; remote_uri = remote_uri.now }) (length out.old))) (record { value = written.old; least = least.old }) result (record { value = written.new; least = least.new }) }
     ensures out_after { out.new ≡ leaves (new_image rust_limits uac (record { method = method.now; request = request.now; status = status; response = response.now; local_uri = local_uri.now; remote_uri = remote_uri.now }) (length out.old)) out.old }
 {
-    give_with_least(
-        dialog_creation::new_uac(
-            method, request, status, response, local_uri, remote_uri, out,
-        ),
-        written,
-        least,
-    )
+    let c = NewDialog {
+        method,
+        request,
+        status,
+        response,
+        local_uri,
+        remote_uri,
+    };
+    give_with_least(dialog_creation::new_uac(c, out), written, least)
 }
 
 // The record of a dialog that a request to us opens, by our response: the same.
+// Kept (2): the C header's parameters, and each function has a clause of its own.
 pub fn sip_dialog_new_uas<'a>(
     method: &[u8],
     request: &'a [u8],
@@ -47,11 +52,13 @@ pub fn sip_dialog_new_uas<'a>(
     ensures set_gives { WithLeastGives (written_from (new_image rust_limits uas (record { method = method.now; request = request.now; status = status; response = response.now; local_uri = local_uri.now; remote_uri = remote_uri.now }) (length out.old))) (record { value = written.old; least = least.old }) result (record { value = written.new; least = least.new }) }
     ensures out_after { out.new ≡ leaves (new_image rust_limits uas (record { method = method.now; request = request.now; status = status; response = response.now; local_uri = local_uri.now; remote_uri = remote_uri.now }) (length out.old)) out.old }
 {
-    give_with_least(
-        dialog_creation::new_uas(
-            method, request, status, response, local_uri, remote_uri, out,
-        ),
-        written,
-        least,
-    )
+    let c = NewDialog {
+        method,
+        request,
+        status,
+        response,
+        local_uri,
+        remote_uri,
+    };
+    give_with_least(dialog_creation::new_uas(c, out), written, least)
 }

@@ -7,7 +7,7 @@ ghost use Rattle.dialog_id.specs.DialogId.{identifier_cause, id_answer, from_req
 ghost use Rattle.c_answers.specs.Given.{PartGives, IdGives};
 
 use c_answers::{check_number, give_id, give_part};
-use dialog_id::DialogId;
+use dialog_id::{DialogId, IdTexts};
 
 // The tag of a From or To value: 1, 2, 4.
 pub fn sip_dialog_extract_tag(value: &[u8], place: &mut usize, length: &mut usize) -> u8
@@ -20,10 +20,16 @@ pub fn sip_dialog_extract_tag(value: &[u8], place: &mut usize, length: &mut usiz
 pub fn sip_dialog_dialog_id_new(call_id: &[u8], local_tag: &[u8], remote_tag: &[u8]) -> u8
     ensures { result ≡ number_in (check_of (identifier_cause rust_limits call_id.now local_tag.now remote_tag.now)) }
 {
-    check_number(DialogId::new(call_id, local_tag, remote_tag))
+    let id = IdTexts {
+        call_id,
+        local_tag,
+        remote_tag,
+    };
+    check_number(DialogId::new(id))
 }
 
 // The identifier of a request, with the tag of From as local tag: 1, 2, 4.
+// Kept (2): the C header's parameters, and each function has a clause of its own.
 pub fn sip_dialog_from_request(
     block: &[u8],
     call_id: &mut usize,
@@ -47,6 +53,7 @@ pub fn sip_dialog_from_request(
 }
 
 // The identifier of a response to a request that we sent: 1, 2, 4.
+// Kept (2): the C header's parameters, and each function has a clause of its own.
 pub fn sip_dialog_from_response_uac(
     block: &[u8],
     call_id: &mut usize,
@@ -70,6 +77,7 @@ pub fn sip_dialog_from_response_uac(
 }
 
 // The identifier of a response that we sent: 1, 2, 4.
+// Kept (2): the C header's parameters, and each function has a clause of its own.
 pub fn sip_dialog_from_response_uas(
     block: &[u8],
     call_id: &mut usize,

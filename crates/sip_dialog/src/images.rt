@@ -16,6 +16,7 @@ use c_answers::{give, give_flag, give_lookup, give_with_least, give_with_used};
 use c_image_answers::{give_image_id, give_numbers, give_route_count, give_state, give_uris};
 
 // Where the parts of the identifier lie: 3.
+// Kept (2): the C header's parameters, and each function has a clause of its own.
 pub fn sip_dialog_image_id(
     image: &[u8],
     call_id: &mut usize,
@@ -51,6 +52,7 @@ pub fn sip_dialog_image_state(
 }
 
 // Where the target, the local and the remote URI lie: 3.
+// Kept (2): the C header's parameters, and each function has a clause of its own.
 pub fn sip_dialog_image_uris(
     image: &[u8],
     target: &mut usize,
@@ -74,6 +76,7 @@ pub fn sip_dialog_image_uris(
 }
 
 // The numbers: 3.
+// Kept (2): the C header's parameters, and each function has a clause of its own.
 pub fn sip_dialog_image_numbers(
     image: &[u8],
     local: &mut u32,
@@ -133,6 +136,7 @@ pub fn sip_dialog_image_needs_refresh(image: &[u8], elapsed: u64, due: &mut u8) 
 }
 
 // A request from the peer: 1, 2, 3, 4, 9; ACK: 11; others: 10, 11, 12; 18.
+// Kept (2): the C header's parameters, and each function has a clause of its own.
 pub fn sip_dialog_image_update_from_request(
     method: &[u8],
     block: &[u8],
@@ -149,6 +153,7 @@ pub fn sip_dialog_image_update_from_request(
 }
 
 // A response: 1, 2, 3, 18.
+// Kept (2): the C header's parameters, and each function has a clause of its own.
 pub fn sip_dialog_image_update_from_response(
     status: u16,
     block: &[u8],

@@ -48,6 +48,7 @@ pub fn sip_dialog_method_number(text: &[u8], found: &mut u8, method: &mut u8) ->
 }
 
 // The text of a method at the front of the lent bytes: 28, 18.
+// Kept (1): the C header's parameter: C gives a method by its number, and a number that is none is refused.
 pub fn sip_dialog_method_text(method: u8, out: &mut [u8], written: &mut usize) -> u8
     ensures written_gives { ValueGives (written_from (method_text method (length out.old))) written.old result written.new }
     ensures out_after { out.new ≡ leaves (method_text method (length out.old)) out.old }
@@ -63,6 +64,7 @@ pub fn sip_dialog_parse_rack(value: &[u8], rseq: &mut u32, cseq: &mut u32, metho
 }
 
 // A RAck value at the front of the lent bytes: 28, 18.
+// Kept (1): the C header's parameter: C gives a method by its number, and a number that is none is refused.
 pub fn sip_dialog_format_rack(
     rseq: u32,
     cseq: u32,

@@ -9,8 +9,10 @@ ghost use Rattle.c_prack_answers.specs.Given.{rack_of, pracked_after};
 
 use c_answers::{give, give_flag, give_with_used};
 use c_prack_answers::give_validated;
+use prack_list::Provisional;
 
 // PrackValidator::register_reliable_provisional: 1, 28, 3, 18.
+// Kept (1): the C header's parameter: C gives a method by its number, and a number that is none is refused.
 pub fn sip_dialog_prack_register(
     id: &[u8],
     rseq: u32,
@@ -24,10 +26,14 @@ pub fn sip_dialog_prack_register(
     ensures returns { Returns (ran rust_limits (register id.now rseq cseq method code time) store.old used.old) store.new used.new result }
     ensures typed { Typed (register id.now rseq cseq method code time) }
 {
-    give(
-        prack_validator::register(id, rseq, cseq, method, code, time, store, *used),
-        used,
-    )
+    let response = Provisional {
+        rseq,
+        cseq,
+        method,
+        code,
+        time,
+    };
+    give(prack_validator::register(id, response, store, *used), used)
 }
 
 // PrackValidator::validate_prack: 1, 2, 3, 18, 19 to 24.
@@ -55,6 +61,7 @@ pub fn sip_dialog_prack_validate(
 }
 
 // PrackValidator::is_pracked: 1, 3.
+// Kept (6): the C header's parameters: C lends bytes and says how many are used.
 pub fn sip_dialog_prack_is_pracked(
     id: &[u8],
     rseq: u32,

@@ -12,8 +12,10 @@ ghost use Rattle.c_store_answers.specs.Given.{left_by, counting};
 
 use c_answers::give;
 use c_store_answers::give_place;
+use dialog_id::IdTexts;
 
 // DialogManager::get: 1, 3, 15.
+// Kept (6): the C header's parameters: C lends bytes and says how many are used.
 pub fn sip_dialog_get(
     call_id: &[u8],
     local_tag: &[u8],
@@ -27,14 +29,16 @@ pub fn sip_dialog_get(
     ensures place_after { place.new ≡ place_after (left_by (λ n. read n (get (ident call_id.now local_tag.now remote_tag.now))) store.now used).answer place.old }
     ensures length_after { length.new ≡ length_after (left_by (λ n. read n (get (ident call_id.now local_tag.now remote_tag.now))) store.now used).answer length.old }
 {
-    give_place(
-        dialog_manager::get(call_id, local_tag, remote_tag, store, used),
-        place,
-        length,
-    )
+    let id = IdTexts {
+        call_id,
+        local_tag,
+        remote_tag,
+    };
+    give_place(dialog_manager::get(id, store, used), place, length)
 }
 
 // DialogManager::find_by_call_id, the first in the store: 1, 3, 15.
+// Kept (2, 6): the C header's parameters: C lends bytes and says how many are used.
 pub fn sip_dialog_find_by_call_id(
     call_id: &[u8],
     store: &[u8],
@@ -54,6 +58,7 @@ pub fn sip_dialog_find_by_call_id(
 }
 
 // DialogManager::find_by_request: 1, 2, 3, 15.
+// Kept (2, 6): the C header's parameters: C lends bytes and says how many are used.
 pub fn sip_dialog_find_by_request(
     block: &[u8],
     store: &[u8],
@@ -73,6 +78,7 @@ pub fn sip_dialog_find_by_request(
 }
 
 // DialogManager::count: 3.
+// Kept (6): the C header's parameters: C lends bytes and says how many are used.
 pub fn sip_dialog_count(store: &[u8], used: usize, count: &mut usize) -> u8
     ensures returns { Returns (left_by (λ n. read n counting) store.now used) store.now used result }
     ensures count_after { count.new ≡ number_after (left_by (λ n. read n counting) store.now used).answer count.old }
@@ -81,6 +87,7 @@ pub fn sip_dialog_count(store: &[u8], used: usize, count: &mut usize) -> u8
 }
 
 // DialogManager::all_ids at the front of the lent bytes: 3, 18.
+// Kept (6): the C header's parameters: C lends bytes and says how many are used.
 pub fn sip_dialog_all_ids(store: &[u8], used: usize, out: &mut [u8], written: &mut usize) -> u8
     ensures returns { Returns (left_by (λ n. read n (all_ids (length out.old))) store.now used) store.now used result }
     ensures out_after { out.new ≡ output_after (left_by (λ n. read n (all_ids (length out.old))) store.now used).answer out.old }

@@ -8,6 +8,7 @@ ghost use Rattle.c_store_answers.specs.Given.{left_by};
 
 use c_answers::{give, give_with_least, give_with_used};
 use c_store_answers::give_counted;
+use dialog_id::IdTexts;
 
 // DialogManager::insert of one record image, and the created count: 3, 16, 17, 18. An image that is lent is made of bytes.
 pub fn sip_dialog_put(image: &[u8], store: &mut [u8], used: &mut usize, created: &mut u64) -> u8
@@ -37,13 +38,19 @@ pub fn sip_dialog_response(
 ) -> u8
     ensures { Returns (left_by (λ n. update n (response (ident call_id.now local_tag.now remote_tag.now) status block.now)) store.old used.old) store.new used.new result }
 {
+    let id = IdTexts {
+        call_id,
+        local_tag,
+        remote_tag,
+    };
     give(
-        store_updates::response(call_id, local_tag, remote_tag, status, block, store, *used),
+        store_updates::response(id, status, block, store, *used),
         used,
     )
 }
 
 // Dialog::terminate of the record of an identifier: 1, 3, 15.
+// Kept (2): the C header's parameters, and each function has a clause of its own.
 pub fn sip_dialog_terminate(
     call_id: &[u8],
     local_tag: &[u8],
@@ -53,13 +60,16 @@ pub fn sip_dialog_terminate(
 ) -> u8
     ensures { Returns (left_by (λ n. update n (terminate (ident call_id.now local_tag.now remote_tag.now))) store.old used.old) store.new used.new result }
 {
-    give(
-        store_updates::terminate(call_id, local_tag, remote_tag, store, *used),
-        used,
-    )
+    let id = IdTexts {
+        call_id,
+        local_tag,
+        remote_tag,
+    };
+    give(store_updates::terminate(id, store, *used), used)
 }
 
 // Dialog::next_local_cseq of the record of an identifier: 1, 3, 15, 18.
+// Kept (2): the C header's parameters, and each function has a clause of its own.
 pub fn sip_dialog_next_local_cseq(
     call_id: &[u8],
     local_tag: &[u8],
@@ -71,14 +81,20 @@ pub fn sip_dialog_next_local_cseq(
     ensures returns { Returns (left_by (λ n. update n (local_number (ident call_id.now local_tag.now remote_tag.now))) store.old used.old) store.new used.new result }
     ensures number_after { number.new ≡ number_after (left_by (λ n. update n (local_number (ident call_id.now local_tag.now remote_tag.now))) store.old used.old).answer number.old }
 {
+    let id = IdTexts {
+        call_id,
+        local_tag,
+        remote_tag,
+    };
     give_with_used(
-        store_updates::next_local_cseq(call_id, local_tag, remote_tag, store, *used),
+        store_updates::next_local_cseq(id, store, *used),
         used,
         number,
     )
 }
 
 // Dialog::set_session_expires of the record of an identifier: 1, 3, 15, 13 with the least, 14, 18.
+// Kept (2): the C header's parameters, and each function has a clause of its own.
 pub fn sip_dialog_set_session_expires(
     call_id: &[u8],
     local_tag: &[u8],
@@ -91,14 +107,20 @@ pub fn sip_dialog_set_session_expires(
     ensures returns { Returns (left_by (λ n. update n (interval (ident call_id.now local_tag.now remote_tag.now) seconds)) store.old used.old) store.new used.new result }
     ensures least_after { least.new ≡ least_after (left_by (λ n. update n (interval (ident call_id.now local_tag.now remote_tag.now) seconds)) store.old used.old).answer least.old }
 {
+    let id = IdTexts {
+        call_id,
+        local_tag,
+        remote_tag,
+    };
     give_with_least(
-        store_updates::set_session_expires(call_id, local_tag, remote_tag, seconds, store, *used),
+        store_updates::set_session_expires(id, seconds, store, *used),
         used,
         least,
     )
 }
 
 // DialogManager::remove, and the terminated count: 1, 3, 15.
+// Kept (2): the C header's parameters, and each function has a clause of its own.
 pub fn sip_dialog_remove(
     call_id: &[u8],
     local_tag: &[u8],
@@ -110,11 +132,12 @@ pub fn sip_dialog_remove(
     ensures returns { Returns (left_by (λ n. remove n (ident call_id.now local_tag.now remote_tag.now)) store.old used.old) store.new used.new result }
     ensures terminated_after { terminated.new ≡ count_after (left_by (λ n. remove n (ident call_id.now local_tag.now remote_tag.now)) store.old used.old).answer terminated.old }
 {
-    give_counted(
-        store_edits::remove(call_id, local_tag, remote_tag, store, *used),
-        used,
-        terminated,
-    )
+    let id = IdTexts {
+        call_id,
+        local_tag,
+        remote_tag,
+    };
+    give_counted(store_edits::remove(id, store, *used), used, terminated)
 }
 
 // DialogManager::cleanup_terminated: 3.

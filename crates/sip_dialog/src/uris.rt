@@ -9,6 +9,7 @@ ghost use Rattle.c_answers.specs.Given.{ValueGives, UriGives, LookupGives};
 use c_answers::{give, give_lookup, give_uri};
 
 // The parts of a URI: 1, 6. Without a user part its length is 0 and its place the host's.
+// Kept (2): the C header's parameters, and each function has a clause of its own.
 pub fn sip_dialog_sip_uri(
     text: &[u8],
     secure: &mut u8,

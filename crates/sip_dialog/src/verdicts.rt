@@ -9,6 +9,7 @@ use c_answers::give;
 use c_minute_answers::give_worst;
 
 // A verdict at the end of the run: 3, 18.
+// Kept (1): the C header's parameter: any byte of the log, 0 or a cause.
 pub fn sip_dialog_add_verdict(time: u64, number: u8, run: &mut [u8], used: &mut usize) -> u8
     ensures written_gives { ValueGives (written_from (added (record { time = time; number = number }) run.old used.old)) used.old result used.new }
     ensures run_after { run.new ≡ leaves (added (record { time = time; number = number }) run.old used.old) run.old }
@@ -18,6 +19,7 @@ pub fn sip_dialog_add_verdict(time: u64, number: u8, run: &mut [u8], used: &mut 
 }
 
 // The most refusals in 60 s that start at a verdict, and the earliest start that has them: 3.
+// Kept (6): the C header's parameters: C lends bytes and says how many are used.
 pub fn sip_dialog_worst_minute(
     run: &[u8],
     used: usize,

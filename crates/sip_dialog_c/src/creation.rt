@@ -8,6 +8,7 @@ ghost use Rattle.dialog_creation.specs.NewImage.{new_image};
 ghost use Rattle.c_answers.specs.Given.{WithLeastGives};
 
 // The record of a dialog that our request opens, by the response to it: 1, 2, 6, 4, 5, 7, 8, 4, 9, 10, 13 with 90, 14, 18.
+// Kept (2): the C header's parameters, and each function has a clause of its own.
 #[unsafe(no_mangle)]
 pub extern "C" fn sip_dialog_new_uac<'a>(
     method: &[u8],
@@ -29,6 +30,7 @@ pub extern "C" fn sip_dialog_new_uac<'a>(
 }
 
 // The record of a dialog that a request to us opens, by our response: the same.
+// Kept (2): the C header's parameters, and each function has a clause of its own.
 #[unsafe(no_mangle)]
 pub extern "C" fn sip_dialog_new_uas<'a>(
     method: &[u8],

@@ -28,6 +28,7 @@ pub extern "C" fn sip_dialog_dialog_id_new(
 }
 
 // The identifier of a request, with the tag of From as local tag: 1, 2, 4.
+// Kept (2): the C header's parameters, and each function has a clause of its own.
 #[unsafe(no_mangle)]
 pub extern "C" fn sip_dialog_from_request(
     block: &[u8],
@@ -52,6 +53,7 @@ pub extern "C" fn sip_dialog_from_request(
 }
 
 // The identifier of a response to a request that we sent: 1, 2, 4.
+// Kept (2): the C header's parameters, and each function has a clause of its own.
 #[unsafe(no_mangle)]
 pub extern "C" fn sip_dialog_from_response_uac(
     block: &[u8],
@@ -76,6 +78,7 @@ pub extern "C" fn sip_dialog_from_response_uac(
 }
 
 // The identifier of a response that we sent: 1, 2, 4.
+// Kept (2): the C header's parameters, and each function has a clause of its own.
 #[unsafe(no_mangle)]
 pub extern "C" fn sip_dialog_from_response_uas(
     block: &[u8],

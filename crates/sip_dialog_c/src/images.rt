@@ -14,6 +14,7 @@ ghost use Rattle.c_answers.specs.Given.{ValueGives, FlagGives, WithUsedGives, Wi
 ghost use Rattle.c_image_answers.specs.Given.{ImageIdGives, StateGives, UrisGives, NumbersGives, RouteCountGives};
 
 // Where the parts of the identifier lie: 3.
+// Kept (2): the C header's parameters, and each function has a clause of its own.
 #[unsafe(no_mangle)]
 pub extern "C" fn sip_dialog_image_id(
     image: &[u8],
@@ -51,6 +52,7 @@ pub extern "C" fn sip_dialog_image_state(
 }
 
 // Where the target, the local and the remote URI lie: 3.
+// Kept (2): the C header's parameters, and each function has a clause of its own.
 #[unsafe(no_mangle)]
 pub extern "C" fn sip_dialog_image_uris(
     image: &[u8],
@@ -75,6 +77,7 @@ pub extern "C" fn sip_dialog_image_uris(
 }
 
 // The numbers: 3.
+// Kept (2): the C header's parameters, and each function has a clause of its own.
 #[unsafe(no_mangle)]
 pub extern "C" fn sip_dialog_image_numbers(
     image: &[u8],
@@ -143,6 +146,7 @@ pub extern "C" fn sip_dialog_image_needs_refresh(image: &[u8], elapsed: u64, due
 }
 
 // A request from the peer: 1, 2, 3, 4, 9; ACK: 11; others: 10, 11, 12; 18.
+// Kept (2): the C header's parameters, and each function has a clause of its own.
 #[unsafe(no_mangle)]
 pub extern "C" fn sip_dialog_image_update_from_request(
     method: &[u8],
@@ -157,6 +161,7 @@ pub extern "C" fn sip_dialog_image_update_from_request(
 }
 
 // A response: 1, 2, 3, 18.
+// Kept (2): the C header's parameters, and each function has a clause of its own.
 #[unsafe(no_mangle)]
 pub extern "C" fn sip_dialog_image_update_from_response(
     status: u16,

@@ -53,6 +53,7 @@ pub extern "C" fn sip_dialog_method_number(text: &[u8], found: &mut u8, method: 
 }
 
 // The text of a method at the front of the lent bytes: 28, 18.
+// Kept (1): the C header's parameter: C gives a method by its number, and a number that is none is refused.
 #[unsafe(no_mangle)]
 pub extern "C" fn sip_dialog_method_text(method: u8, out: &mut [u8], written: &mut usize) -> u8
     ensures written_gives { ValueGives (written_from (method_text method (length out.old))) written.old result written.new }
@@ -75,6 +76,7 @@ pub extern "C" fn sip_dialog_parse_rack(
 }
 
 // A RAck value at the front of the lent bytes: 28, 18.
+// Kept (1): the C header's parameter: C gives a method by its number, and a number that is none is refused.
 #[unsafe(no_mangle)]
 pub extern "C" fn sip_dialog_format_rack(
     rseq: u32,

@@ -9,6 +9,7 @@ ghost use Rattle.prack_validator.specs.Answers.{rack_after, length_after, output
 ghost use Rattle.c_prack_answers.specs.Given.{rack_of, pracked_after};
 
 // PrackValidator::register_reliable_provisional: 1, 28, 3, 18.
+// Kept (1): the C header's parameter: C gives a method by its number, and a number that is none is refused.
 #[unsafe(no_mangle)]
 pub extern "C" fn sip_dialog_prack_register(
     id: &[u8],
@@ -50,6 +51,7 @@ pub extern "C" fn sip_dialog_prack_validate(
 }
 
 // PrackValidator::is_pracked: 1, 3.
+// Kept (6): the C header's parameters: C lends bytes and says how many are used.
 #[unsafe(no_mangle)]
 pub extern "C" fn sip_dialog_prack_is_pracked(
     id: &[u8],

@@ -9,6 +9,7 @@ ghost use Rattle.rseq_manager.specs.Answers.{emptiness};
 ghost use Rattle.c_answers.specs.Given.{value_after};
 
 // RSeqManager::next_rseq: 1, 3, 18.
+// Kept (2): the C header's parameters, and each function has a clause of its own.
 #[unsafe(no_mangle)]
 pub extern "C" fn sip_dialog_rseq_next(
     call_id: &[u8],
@@ -26,6 +27,7 @@ pub extern "C" fn sip_dialog_rseq_next(
 }
 
 // RSeqManager::current_rseq: 1, 3, 15.
+// Kept (6): the C header's parameters: C lends bytes and says how many are used.
 #[unsafe(no_mangle)]
 pub extern "C" fn sip_dialog_rseq_current(
     call_id: &[u8],
@@ -42,6 +44,7 @@ pub extern "C" fn sip_dialog_rseq_current(
 }
 
 // RSeqManager::remove: 1, 3.
+// Kept (2): the C header's parameters, and each function has a clause of its own.
 #[unsafe(no_mangle)]
 pub extern "C" fn sip_dialog_rseq_remove(
     call_id: &[u8],
@@ -56,6 +59,7 @@ pub extern "C" fn sip_dialog_rseq_remove(
 }
 
 // RSeqManager::len: 3.
+// Kept (6): the C header's parameters: C lends bytes and says how many are used.
 #[unsafe(no_mangle)]
 pub extern "C" fn sip_dialog_rseq_len(store: &[u8], used: usize, count: &mut usize) -> u8
     ensures returns { Returns (ran rust_limits len store.now used) store.now used result }
@@ -65,6 +69,7 @@ pub extern "C" fn sip_dialog_rseq_len(store: &[u8], used: usize, count: &mut usi
 }
 
 // RSeqManager::is_empty: 3.
+// Kept (6): the C header's parameters: C lends bytes and says how many are used.
 #[unsafe(no_mangle)]
 pub extern "C" fn sip_dialog_rseq_is_empty(store: &[u8], used: usize, empty: &mut u8) -> u8
     ensures returns { Returns (ran rust_limits len store.now used) store.now used result }

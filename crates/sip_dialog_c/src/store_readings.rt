@@ -12,6 +12,7 @@ ghost use Rattle.c_answers.specs.Given.{ValueGives};
 ghost use Rattle.c_store_answers.specs.Given.{left_by, counting};
 
 // DialogManager::get: 1, 3, 15.
+// Kept (6): the C header's parameters: C lends bytes and says how many are used.
 #[unsafe(no_mangle)]
 pub extern "C" fn sip_dialog_get(
     call_id: &[u8],
@@ -32,6 +33,7 @@ pub extern "C" fn sip_dialog_get(
 }
 
 // DialogManager::find_by_call_id, the first in the store: 1, 3, 15.
+// Kept (2, 6): the C header's parameters: C lends bytes and says how many are used.
 #[unsafe(no_mangle)]
 pub extern "C" fn sip_dialog_find_by_call_id(
     call_id: &[u8],
@@ -48,6 +50,7 @@ pub extern "C" fn sip_dialog_find_by_call_id(
 }
 
 // DialogManager::find_by_request: 1, 2, 3, 15.
+// Kept (2, 6): the C header's parameters: C lends bytes and says how many are used.
 #[unsafe(no_mangle)]
 pub extern "C" fn sip_dialog_find_by_request(
     block: &[u8],
@@ -64,6 +67,7 @@ pub extern "C" fn sip_dialog_find_by_request(
 }
 
 // DialogManager::count: 3.
+// Kept (6): the C header's parameters: C lends bytes and says how many are used.
 #[unsafe(no_mangle)]
 pub extern "C" fn sip_dialog_count(store: &[u8], used: usize, count: &mut usize) -> u8
     ensures returns { Returns (left_by (λ n. read n counting) store.now used) store.now used result }
@@ -73,6 +77,7 @@ pub extern "C" fn sip_dialog_count(store: &[u8], used: usize, count: &mut usize)
 }
 
 // DialogManager::all_ids at the front of the lent bytes: 3, 18.
+// Kept (6): the C header's parameters: C lends bytes and says how many are used.
 #[unsafe(no_mangle)]
 pub extern "C" fn sip_dialog_all_ids(
     store: &[u8],

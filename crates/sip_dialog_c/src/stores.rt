@@ -54,6 +54,7 @@ pub extern "C" fn sip_dialog_response(
 }
 
 // Dialog::terminate of the record of an identifier: 1, 3, 15.
+// Kept (2): the C header's parameters, and each function has a clause of its own.
 #[unsafe(no_mangle)]
 pub extern "C" fn sip_dialog_terminate(
     call_id: &[u8],
@@ -68,6 +69,7 @@ pub extern "C" fn sip_dialog_terminate(
 }
 
 // Dialog::next_local_cseq of the record of an identifier: 1, 3, 15, 18.
+// Kept (2): the C header's parameters, and each function has a clause of its own.
 #[unsafe(no_mangle)]
 pub extern "C" fn sip_dialog_next_local_cseq(
     call_id: &[u8],
@@ -86,6 +88,7 @@ pub extern "C" fn sip_dialog_next_local_cseq(
 }
 
 // Dialog::set_session_expires of the record of an identifier: 1, 3, 15, 13 with the least, 14, 18.
+// Kept (2): the C header's parameters, and each function has a clause of its own.
 #[unsafe(no_mangle)]
 pub extern "C" fn sip_dialog_set_session_expires(
     call_id: &[u8],
@@ -105,6 +108,7 @@ pub extern "C" fn sip_dialog_set_session_expires(
 }
 
 // DialogManager::remove, and the terminated count: 1, 3, 15.
+// Kept (2): the C header's parameters, and each function has a clause of its own.
 #[unsafe(no_mangle)]
 pub extern "C" fn sip_dialog_remove(
     call_id: &[u8],

@@ -8,6 +8,7 @@ ghost use Rattle.uri.specs.HeaderUri.{uri_from_header};
 ghost use Rattle.c_answers.specs.Given.{ValueGives, UriGives, LookupGives};
 
 // The parts of a URI: 1, 6. Without a user part its length is 0 and its place the host's.
+// Kept (2): the C header's parameters, and each function has a clause of its own.
 #[unsafe(no_mangle)]
 pub extern "C" fn sip_dialog_sip_uri(
     text: &[u8],

@@ -7,6 +7,7 @@ ghost use Rattle.c_answers.specs.Given.{ValueGives};
 ghost use Rattle.c_minute_answers.specs.Given.{MinuteGives};
 
 // A verdict at the end of the run: 3, 18.
+// Kept (1): the C header's parameter: any byte of the log, 0 or a cause.
 #[unsafe(no_mangle)]
 pub extern "C" fn sip_dialog_add_verdict(
     time: u64,
@@ -22,6 +23,7 @@ pub extern "C" fn sip_dialog_add_verdict(
 }
 
 // The most refusals in 60 s that start at a verdict, and the earliest start that has them: 3.
+// Kept (6): the C header's parameters: C lends bytes and says how many are used.
 #[unsafe(no_mangle)]
 pub extern "C" fn sip_dialog_worst_minute(
     run: &[u8],

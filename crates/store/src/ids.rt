@@ -8,6 +8,7 @@ use record_walk::{past, two};
 use text::Span;
 
 // The parts of the identifier of the record at a place.
+// Kept (5): one slice is lent, and many places in it are asked about.
 pub fn ids_at(bytes: &[u8], p: usize) -> IdsAt
     requires { At bytes.now p }
     ensures { IdsRead bytes.now p result }

@@ -18,6 +18,7 @@ const SMALL_STORE: usize = 4096;
 const MIDDLE_STORE: usize = 65536;
 
 // DialogManager::count, of lent bytes of which so many are used: 3.
+// Kept (5, 6): a C caller lends bytes and says how many are used.
 pub fn count(bytes: &[u8], used: usize) -> Result<usize, Refusal>
     ensures { result ≡ count_answer (records_held bytes.now used) }
 {
@@ -50,6 +51,7 @@ pub fn read_store(bytes: &[u8]) -> Option<usize>
 }
 
 // The same, with tables for the places of the records; a store with more records than they hold is compared pair by pair.
+// Kept (5): no heap: the caller lends both tables.
 fn read_with(bytes: &[u8], places: &mut [usize], scratch: &mut [usize]) -> Option<usize>
     requires { length scratch.old ≡ length places.old }
     ensures { result ≡ store_from (decode_all bytes.now) }
@@ -68,12 +70,14 @@ fn read_with(bytes: &[u8], places: &mut [usize], scratch: &mut [usize]) -> Optio
 }
 
 // The records from the front to the end, identifiers not compared; the places of as many as the table holds.
+// Kept (5): no heap: the caller lends the table.
 fn read_records(bytes: &[u8], places: &mut [usize]) -> Option<usize>
     ensures value { result ≡ store_from (whole_records bytes.now) }
     ensures tabled { Tabled bytes.now places.new }
 {
     let mut at = 0;
     let mut count = 0;
+    // Kept (3): the bytes may not be whole records: each reading gives the end or ends the walk; `Records` is for bytes that are known to be.
     while at < bytes.len() {
         let r = image::read_record(bytes, at)?;
         if count < places.len() {

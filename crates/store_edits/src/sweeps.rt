@@ -14,6 +14,7 @@ use record_walk::record_end;
 use store::ids_at;
 
 // DialogManager::cleanup_terminated: 3. The records that stay keep their order.
+// Kept (5, 6): a C caller lends bytes and says how many are used.
 pub fn sweep(bytes: &mut [u8], used: usize) -> Result<usize, Refusal>
     ensures value { result ≡ written_in (run rust_limits (sweeping (length bytes.old)) bytes.old used) }
     ensures bytes_after { bytes.new ≡ (run rust_limits (sweeping (length bytes.old)) bytes.old used).bytes }
@@ -25,6 +26,7 @@ pub fn sweep(bytes: &mut [u8], used: usize) -> Result<usize, Refusal>
 }
 
 // Each record that stays moved down to the end of those before it. The new used length.
+// Kept (5, 6): bytes are written, and those past the used ones stay what they were.
 fn close_up(bytes: &mut [u8], used: usize) -> usize
     requires used_in_bounds { used ≤ length bytes.old }
     requires stored { Stored (take used bytes.old) }
@@ -33,10 +35,11 @@ fn close_up(bytes: &mut [u8], used: usize) -> usize
 {
     let mut at = 0;
     let mut to = 0;
+    // Kept (3): the bytes are written as they are walked, so that no iterator can hold them.
     while at < used {
         let end = record_end(bytes, at);
         let n = staying(bytes, at, end - at);
-        edit::move_left(bytes, at, to, n);
+        edit::shift(bytes, at, to, n);
         to += n;
         at = end;
     }
@@ -44,6 +47,7 @@ fn close_up(bytes: &mut [u8], used: usize) -> usize
 }
 
 // How many stay of the n bytes of the record at a place. Its state byte stands behind its identifier: low two bits 3, Terminated.
+// Kept (5): one slice is lent, and many places in it are asked about.
 fn staying(bytes: &[u8], at: usize, n: usize) -> usize
     requires { At bytes.now at }
     ensures { StayingAt bytes.now at n result }

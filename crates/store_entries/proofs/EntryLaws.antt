@@ -14,7 +14,6 @@ use Rattle.limits.specs.Limits.{LimitSet, rust_limits}
 use Rattle.limits.specs.Outcome.{cause_if, refuse_by, refuse_if, and_then, or_refuse}
 use Rattle.limits.specs.declared.Refusal.{Refusal}
 use Rattle.limits.specs.declared.Refusal.TheVariants.{BadStore, NotFound, NoRoom}
-use Rattle.limits.proofs.Laws.{ok_pair}
 use Rattle.edit.specs.Edit.{over, spliced}
 use Rattle.output.specs.Output.{fitted, leaves, written_from}
 use Rattle.codec.specs.Codec.{write_all}
@@ -22,7 +21,7 @@ use Rattle.record.specs.Record.{Record, image}
 use Rattle.codec.proofs.CodecLaws.{Bytes, bytes_take}
 use Rattle.record.proofs.StoreLaws.{decoded}
 use Rattle.image.specs.Places.{record_places}
-use Rattle.image.specs.declared.RecordAt.{RecordAt}
+use Rattle.image_edit.specs.declared.RecordPlace.{RecordPlace}
 use Rattle.dialog_updates.specs.AtPlace.{stepped_by, stepped}
 use Rattle.dialog_id.specs.Ident.{Ident}
 use Rattle.book.specs.Calls.{Update, update, Call, Value, no_value}
@@ -138,10 +137,10 @@ module _ (L : LimitSet) (p : Permitted L) (u : Update) (bytes : List ℕ) (used 
   told (Ok now) = told_by u now
 
   -- the record that stood at its place, and what its step leaves
-  pub record Changed (at : ℕ) (q : RecordAt) : Type 0 where
+  pub record Changed (q : RecordPlace) : Type 0 where
     pub value : Record
-    pub placed : q ≡ record_places at value
-    pub left : updating L u bytes used ≡ left_by (stepped (revised L u) (length bytes) at (take used bytes)) (told (revised L u value))
+    pub placed : q.record ≡ record_places q.at value
+    pub left : updating L u bytes used ≡ left_by (stepped (revised L u) (length bytes) q.at (take q.used bytes)) (told (revised L u value))
 
   -- what is left, read as the answer of a call that tells no value
   left_done : (o : Result (List ℕ) Refusal) (v : Value) → updating L u bytes used ≡ left_by o v → Done (written_from o) (leaves o bytes)
@@ -246,49 +245,43 @@ module _ (L : LimitSet) (p : Permitted L) (u : Update) (bytes : List ℕ) (used 
             by (Ok now) e = subst (λ (l : List ℕ). updating L u bytes used ≡ left_by (fitted (length bytes) l) (told_by u now)) (sym (amended now e)) (taken now e)
 
       -- what is left where a record was found
-      pub step_left : Bytes bytes → (at : ℕ) (q : RecordAt) → ◌≡◌ {A = Result (ℕ × RecordAt) Refusal} (Ok (at, q)) (standing_of (spot_in i bytes used)) → Changed at q
-      step_left h at q e = by (spot_in i bytes used) refl e
+      pub step_left : Bytes bytes → (q : RecordPlace) → Ok q ≡ standing_of used (spot_in i bytes used) → Changed q
+      step_left h q e = by (spot_in i bytes used) refl e
         where
-          by : (o : Result Spot Refusal) → spot_in i bytes used ≡ o → ◌≡◌ {A = Result (ℕ × RecordAt) Refusal} (Ok (at, q)) (standing_of o) → Changed at q
+          by : (o : Result Spot Refusal) → spot_in i bytes used ≡ o → Ok q ≡ standing_of used o → Changed q
           by (Err cause) f e = absurd (let y : ◌≡◌ {A = ℕ} 0 1 = cc in omega arith)
           by (Ok x) f e =
-              let p = ok_pair e in
-              let k : x.place ≡ at = sym p.0 in
-              let n : record_places x.place x.value ≡ q = sym p.1 in
-              record {
-                value = x.value;
-                placed = sym n ∙ ap (λ (y : ℕ). record_places y x.value) k;
-                left = subst (λ (y : ℕ). updating L u bytes used ≡ left_by (stepped (revised L u) (length bytes) y (take used bytes)) (told (revised L u x.value))) k (after_step h x (met i bytes used x f));
-              }
+              let k : record { used = used; at = x.place; «record» = record_places x.place x.value } ≡ q = cc in
+              subst Changed k (record { value = x.value; placed = refl; left = after_step h x (met i bytes used x f) })
 
       -- the step on the record that was found
-      pub step_done : Bytes bytes → (at : ℕ) (q : RecordAt) → ◌≡◌ {A = Result (ℕ × RecordAt) Refusal} (Ok (at, q)) (standing_of (spot_in i bytes used)) → (r : Result ℕ Refusal) (after : List ℕ)
-          → (r ≡ written_from (stepped (revised L u) (length bytes) at (take used bytes))) × (after ≡ leaves (stepped (revised L u) (length bytes) at (take used bytes)) bytes) → Done r after
-      step_done h at q e r after w =
-          let l = step_left h at q e in
-          let d = left_done (stepped (revised L u) (length bytes) at (take used bytes)) (told (revised L u l.value)) l.left in
+      pub step_done : Bytes bytes → (q : RecordPlace) → Ok q ≡ standing_of used (spot_in i bytes used) → (r : Result ℕ Refusal) (after : List ℕ)
+          → (r ≡ written_from (stepped (revised L u) (length bytes) q.at (take q.used bytes))) × (after ≡ leaves (stepped (revised L u) (length bytes) q.at (take q.used bytes)) bytes) → Done r after
+      step_done h q e r after w =
+          let l = step_left h q e in
+          let d = left_done (stepped (revised L u) (length bytes) q.at (take q.used bytes)) (told (revised L u l.value)) l.left in
           (w.0 ∙ d.0, (w.1 ∙ d.1.0, ap (λ (y : Result ℕ Refusal). used_after y used) w.0 ∙ d.1.1))
 
 -- nothing was found
-pub not_standing : (i : Ident) (bytes : List ℕ) (used : ℕ) {cause : Refusal} → Err cause ≡ standing_of (spot_in i bytes used) → spot_in i bytes used ≡ Err cause
+pub not_standing : (i : Ident) (bytes : List ℕ) (used : ℕ) {cause : Refusal} → Err cause ≡ standing_of used (spot_in i bytes used) → spot_in i bytes used ≡ Err cause
 not_standing i bytes used {cause} e = by (spot_in i bytes used) e
   where
-    by : (o : Result Spot Refusal) → Err cause ≡ standing_of o → o ≡ Err cause
+    by : (o : Result Spot Refusal) → Err cause ≡ standing_of used o → o ≡ Err cause
     by (Err one) e = let k : one ≡ cause = cc in ap Err k
     by (Ok x) e = absurd (let y : ◌≡◌ {A = ℕ} 0 1 = cc in omega arith)
 
 -- where no identifier is named, nothing is found
-pub never_at : {X : Type 0} (bytes : List ℕ) (used : ℕ) {at : ℕ} {q : RecordAt} → ◌≡◌ {A = Result (ℕ × RecordAt) Refusal} (Ok (at, q)) (standing_of (spot_named None bytes used)) → X
-never_at {X} bytes used {at} {q} e = by (ltb (length bytes) used) (decode_all (take used bytes)) e
+pub never_at : {X : Type 0} (bytes : List ℕ) (used : ℕ) {q : RecordPlace} → Ok q ≡ standing_of used (spot_named None bytes used) → X
+never_at {X} bytes used {q} e = by (ltb (length bytes) used) (decode_all (take used bytes)) e
   where
-    by : (t : Bool) (o : Option Book) → ◌≡◌ {A = Result (ℕ × RecordAt) Refusal} (Ok (at, q)) (standing_of (refuse_if t BadStore (and_then (or_refuse BadStore o) (λ b. Err NotFound)))) → X
+    by : (t : Bool) (o : Option Book) → Ok q ≡ standing_of used (refuse_if t BadStore (and_then (or_refuse BadStore o) (λ b. Err NotFound))) → X
     by true o e = absurd (let y : ◌≡◌ {A = ℕ} 0 1 = cc in omega arith)
     by false None e = absurd (let y : ◌≡◌ {A = ℕ} 0 1 = cc in omega arith)
     by false (Some b) e = absurd (let y : ◌≡◌ {A = ℕ} 0 1 = cc in omega arith)
 
-pub not_named : (o : Option Ident) (bytes : List ℕ) (used : ℕ) {cause : Refusal} → Err cause ≡ standing_of (spot_named o bytes used) → spot_named o bytes used ≡ Err cause
+pub not_named : (o : Option Ident) (bytes : List ℕ) (used : ℕ) {cause : Refusal} → Err cause ≡ standing_of used (spot_named o bytes used) → spot_named o bytes used ≡ Err cause
 not_named o bytes used {cause} e = by (spot_named o bytes used) e
   where
-    by : (s : Result Spot Refusal) → Err cause ≡ standing_of s → s ≡ Err cause
+    by : (s : Result Spot Refusal) → Err cause ≡ standing_of used s → s ≡ Err cause
     by (Err one) e = let k : one ≡ cause = cc in ap Err k
     by (Ok x) e = absurd (let y : ◌≡◌ {A = ℕ} 0 1 = cc in omega arith)

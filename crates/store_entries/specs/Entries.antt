@@ -1,13 +1,13 @@
 -- Steps of the code: the calls that change one held record (document 01, "A request arrives", "Entry"). What they leave and answer is `run`
 -- (book/specs/Store.antt) of the call as data; here the call of each is set out, and what the functions below it promise.
 use Rattle.limits.specs.declared.Refusal.{Refusal}
-use Rattle.std.specs.Prelude.{ℕ, ◌≤◌, ◌≡◌, List, length, take, ltb, Err, None, Ok, Option, Result, Some}
+use Rattle.std.specs.Prelude.{ℕ, List, length, take, ltb, Err, None, Ok, Option, Result, Some}
 use Rattle.limits.specs.Limits.{LimitSet}
 use Rattle.limits.specs.Outcome.{refuse_if, and_then, or_refuse}
 use Rattle.limits.specs.declared.Refusal.TheVariants.{BadStore, NotFound}
-use Rattle.image.specs.declared.RecordAt.{RecordAt}
-use Rattle.image.specs.Places.{record_places, record_from}
-use Rattle.image_edit.specs.Changes.{read_at}
+use Rattle.image.specs.Places.{record_places}
+use Rattle.image_edit.specs.Stands.{StandsAt}
+use Rattle.image_edit.specs.declared.RecordPlace.{RecordPlace}
 use Rattle.dialog_id.specs.Ident.{Ident, ident}
 use Rattle.book.specs.Calls.{Update, request, response, terminate, local_number, interval, update, Answer}
 use Rattle.record.specs.Store.{decode_all}
@@ -65,14 +65,15 @@ abbrev pub spot_named : Option Ident → List ℕ → ℕ → Result Spot Refusa
 spot_named None bytes used = refuse_if (ltb (length bytes) used) BadStore (and_then (or_refuse BadStore (decode_all (take used bytes))) (λ b. Err NotFound))
 spot_named (Some i) bytes used = spot_in i bytes used
 
-abbrev pub standing_of : Result Spot Refusal → Result (ℕ × RecordAt) Refusal
-standing_of (Err cause) = Err cause
-standing_of (Ok x) = Ok (x.place, record_places x.place x.value)
+-- the same as the code's place, of so many used bytes
+abbrev pub standing_of : ℕ → Result Spot Refusal → Result RecordPlace Refusal
+standing_of used (Err cause) = Err cause
+standing_of used (Ok x) = Ok (record { used = used; at = x.place; «record» = record_places x.place x.value })
 
 -- the record that was found is what is read at its place
-abbrev pub Ready : List ℕ → ℕ → Result (ℕ × RecordAt) Refusal → Type 0
-Ready bytes used (Ok (at, r)) = ((used ≤ length bytes) × (at ≤ used)) × (record_from at (read_at at (take used bytes)) ≡ Some r)
-Ready bytes used (Err cause) = Unit {0}
+abbrev pub Ready : List ℕ → Result RecordPlace Refusal → Type 0
+Ready bytes (Ok p) = StandsAt bytes p
+Ready bytes (Err cause) = Unit {0}
 
 -- the number of the changed record beside the used length that was answered
 abbrev pub raised_with : ℕ → Result ℕ Refusal → Result (ℕ × ℕ) Refusal

@@ -3,29 +3,25 @@
 #![tactic(auto)]
 
 ghost use Rattle.std.specs.Prelude.{◌≡◌};
-ghost use Rattle.dialog_id.specs.Ident.{ident};
+ghost use Rattle.dialog_id.specs.IdTexts.{ident_of};
 ghost use Rattle.store_entries.specs.Entries.{spot_in, standing_of, Ready};
 
+use dialog_id::IdTexts;
 use dialog_manager::search_id;
-use image::RecordAt;
+use image_edit::RecordPlace;
 use limits::Refusal;
 
 // 3, 15.
-pub fn locate(
-    bytes: &[u8],
-    used: usize,
-    call_id: &[u8],
-    local_tag: &[u8],
-    remote_tag: &[u8],
-) -> Result<(usize, RecordAt), Refusal>
-    ensures value { result ≡ standing_of (spot_in (ident call_id.now local_tag.now remote_tag.now) bytes.now used) }
-    ensures ready { Ready bytes.now used result }
+// Kept (5, 6): that the used length lies within the lent bytes is checked here, by `count`.
+pub fn locate(bytes: &[u8], used: usize, id: IdTexts<'_>) -> Result<RecordPlace, Refusal>
+    ensures value { result ≡ standing_of used (spot_in (ident_of id.entry) bytes.now used) }
+    ensures ready { Ready bytes.now result }
 {
     let Ok(_) = store::count(bytes, used) else {
         return Err(Refusal::BadStore);
     };
-    let Some((at, r)) = search_id(&bytes[..used], call_id, local_tag, remote_tag) else {
+    let Some((at, record)) = search_id(&bytes[..used], id) else {
         return Err(Refusal::NotFound);
     };
-    Ok((at, r))
+    Ok(RecordPlace { used, at, record })
 }

@@ -15,11 +15,12 @@ ghost use Rattle.store_ids.specs.Identifiers.{ids_in, IdsShort, length_at, texts
 
 use image::IdsAt;
 use limits::Refusal;
-use record_walk::record_end;
+use record_walk::Records;
 use store::ids_at;
 use text::Span;
 
 // DialogManager::all_ids: 3, 18. Answers how many bytes of the output were written.
+// Kept (5, 6): a C caller lends bytes and says how many are used.
 pub fn all_ids(bytes: &[u8], used: usize, out: &mut [u8]) -> Result<usize, Refusal>
     ensures value { result ≡ ids_written (run rust_limits (read (length bytes.now) (all_ids (length out.old))) bytes.now used).answer }
     ensures out_after { out.new ≡ output_after (run rust_limits (read (length bytes.now) (all_ids (length out.old))) bytes.now used).answer out.old }
@@ -40,12 +41,10 @@ fn ids_size(bytes: &[u8]) -> usize
     requires { Stored bytes.now }
     ensures { result ≡ length (ids_in (decode_all bytes.now)) }
 {
-    let mut at = 0;
     let mut n = 0;
-    while at < bytes.len() {
+    for at in Records::new(bytes) {
         let ids = ids_at(bytes, at);
         n += id_size(ids);
-        at = record_end(bytes, at);
     }
     n
 }
@@ -62,21 +61,21 @@ fn id_size(ids: IdsAt) -> usize
 }
 
 // The identifiers of all records, over the front of the output.
+// Kept (5): bytes that are read and bytes that are written are lent by different callers.
 fn write_all(bytes: &[u8], out: &mut [u8])
     requires stored { Stored bytes.now }
     requires bytes_in_bounds { length (ids_in (decode_all bytes.now)) ≤ length out.old }
     ensures { out.new ≡ over (ids_in (decode_all bytes.now)) out.old }
 {
-    let mut at = 0;
     let mut to = 0;
-    while at < bytes.len() {
+    for at in Records::new(bytes) {
         let ids = ids_at(bytes, at);
         to = write_id(bytes, ids, out, to);
-        at = record_end(bytes, at);
     }
 }
 
 // An identifier at a place of the output. The place after it.
+// Kept (5): places lie in bytes that are lent beside them.
 fn write_id(bytes: &[u8], ids: IdsAt, out: &mut [u8], to: usize) -> usize
     requires ids_within { IdsWithin bytes.now ids }
     requires ids_short { IdsShort ids }
@@ -90,6 +89,7 @@ fn write_id(bytes: &[u8], ids: IdsAt, out: &mut [u8], to: usize) -> usize
 }
 
 // One text at a place of the output: two length bytes, and its bytes. The place after it.
+// Kept (5): a place in lent output, as `codec::write_text` takes it.
 fn write_part(bytes: &[u8], part: Span, out: &mut [u8], to: usize) -> usize
     requires length_in_bounds { part.start + part.length ≤ length bytes.now }
     requires length_bound { part.length < 65536 }
@@ -97,6 +97,5 @@ fn write_part(bytes: &[u8], part: Span, out: &mut [u8], to: usize) -> usize
     ensures value { result ≡ to + length (text.write (part_in bytes.now part)) }
     ensures out_after { out.new ≡ put_at to (text.write (part_in bytes.now part)) out.old }
 {
-    let at = part.start;
-    codec::write_text(out, to, &bytes[at..at + part.length])
+    codec::write_text(out, to, part.text(bytes))
 }

@@ -21,7 +21,7 @@ use Rattle.dialog_id.specs.Ident.{Ident, ident}
 use Rattle.record.specs.Store.{decode_all}
 use Rattle.book.specs.Book.{Book, is_of, others, keep, is_early, is_early_of, early_of}
 use Rattle.dialog_manager.specs.Search.{IdsWithin, Stored}
-use Rattle.dialog_manager.proofs.SearchLaws.{Turn, its_end, ids_within, compared, call_compared}
+use Rattle.dialog_manager.proofs.SearchLaws.{Turn, its_end, ids_within, texts_of, named_held, call_held}
 use Rattle.store_puts.specs.Puts.{early_others, state_at, early_at}
 use Rattle.store_edits.proofs.AheadLaws.{Ahead, all_ahead, Front, front, none_ahead}
 use Rattle.store_edits.proofs.StateLaws.{byte, place, state_here, state_is}
@@ -156,10 +156,6 @@ module _ (c l r : List ℕ) (s : List ℕ) (at n : ℕ) (g : Counting (ident c l
     abbrev here : At s at
     here = record { reading = record { value = f.value; rest = drop (record_places at f.value).end s }; reads = f.reads }
 
-    -- a record stands there
-    pub stands : At s at
-    stands = here
-
     abbrev places : RecordAt
     places = record_places at f.value
 
@@ -171,7 +167,7 @@ module _ (c l r : List ℕ) (s : List ℕ) (at n : ℕ) (g : Counting (ident c l
       end_is = its_end s at hb (omega (arith, h)) here
 
       weighed : early_at s places.ids c l r ≡ counts (ident c l r) f.value
-      weighed = rw (state_told s at hb here, compared s at places turn hb c l r, call_compared s at places turn hb c)
+      weighed = rw (state_told s at hb here, named_held s places.ids c l r f.value (texts_of s at places turn hb), call_held s places.ids c f.value (texts_of s at places turn hb))
 
       at_places : Counted c l r s at n places.ids
       at_places = record {

@@ -1,6 +1,5 @@
 -- A put: its refusals in their order, then its image over the old one or after all others. Assumes nothing.
 use Prim.Native.Nat.{ℕ, ◌+◌, ◌-◌, ◌≤◌, ◌<◌}
-use native.Mathlib.Nat.{add-sub_cancel_left}
 use native.Mathlib.Omega.{arith}
 use mathlib.Core.Path.{◌≡◌, refl, sym, ap, ap₂, subst, ◌∙◌}
 use mathlib.Core.Bool.{Bool, true, false}
@@ -16,7 +15,6 @@ use Rattle.limits.specs.Outcome.{cause_if, refuse_by, or_refuse}
 use Rattle.output.specs.Output.{fitted, leaves, written_from}
 use Rattle.limits.specs.declared.Refusal.{Refusal}
 use Rattle.limits.specs.declared.Refusal.TheVariants.{BadStore, NotFound, TooManyDialogs, TooManyEarlyDialogs, NoRoom}
-use Rattle.text.specs.declared.Span.{Span}
 use Rattle.edit.specs.Edit.{over, spliced}
 use Rattle.record.specs.Record.{State, Record, image}
 use Rattle.record.specs.NumbersForm.{state_in}
@@ -235,35 +233,27 @@ pub open_to : (L : LimitSet) (s : List ℕ) (used n : ℕ) → Kept s used → c
 unfolding is_full
 open_to L s used n k e h = record { records = k.contents.records; within = k.within; are = k.are; free = lt-leb L.dialogs (length k.contents.records) (omega (arith, h, counted_is s used n k e)) }
 
--- a part of a slice, as it is lent
-abbrev pub lent : List ℕ → Span → List ℕ
-lent s v = take (v.start + v.length - v.start) (drop v.start s)
-
--- it is the bytes that the span names
-lent_is : (s : List ℕ) (v : Span) → lent s v ≡ part_in s v
-lent_is s v = ap (λ (n : ℕ). take n (drop v.start s)) (add-sub_cancel_left v.start v.length)
-
 module _ (img : List ℕ) (p : RecordAt) (e : Ok p ≡ image_answer (one_record img)) where
   -- the texts of its identifier lie within the image
   pub texts_within : IdsWithin img p.ids
   texts_within = ids_within img p (one.held img p e)
 
   -- the record of the image, its state and its identifier
-  pub image_named : ((i : ℕ) → get_or img i 0 < 256) → Named img p.numbers.state (lent img p.ids.call_id) (lent img p.ids.local_tag) (lent img p.ids.remote_tag)
+  pub image_named : ((i : ℕ) → get_or img i 0 < 256) → Named img p.numbers.state (part_in img p.ids.call_id) (part_in img p.ids.local_tag) (part_in img p.ids.remote_tag)
   image_named b =
       let h = one.held img p e in
       let w = image_read img p b e in
       let v : w.value ≡ h.value = (let z : Ok w.value ≡ Ok h.value = sym w.one ∙ h.one in cc) in
       let l : Lie img 2 (ids_of h.value) = subst (λ (r : Record). Lie img 2 (ids_of r)) h.whole (record_lies img 0 h.reading (bytes_all img b) h.reads) in
-      let c : lent img p.ids.call_id ≡ h.value.call_id = lent_is img p.ids.call_id ∙ (ap (λ (q : RecordAt). part_in img q.ids.call_id) h.places ∙ l.call_id) in
-      let d : lent img p.ids.local_tag ≡ h.value.local_tag = lent_is img p.ids.local_tag ∙ (ap (λ (q : RecordAt). part_in img q.ids.local_tag) h.places ∙ l.local_tag) in
-      let f : lent img p.ids.remote_tag ≡ h.value.remote_tag = lent_is img p.ids.remote_tag ∙ (ap (λ (q : RecordAt). part_in img q.ids.remote_tag) h.places ∙ l.remote_tag) in
+      let c : part_in img p.ids.call_id ≡ h.value.call_id = ap (λ (q : RecordAt). part_in img q.ids.call_id) h.places ∙ l.call_id in
+      let d : part_in img p.ids.local_tag ≡ h.value.local_tag = ap (λ (q : RecordAt). part_in img q.ids.local_tag) h.places ∙ l.local_tag in
+      let f : part_in img p.ids.remote_tag ≡ h.value.remote_tag = ap (λ (q : RecordAt). part_in img q.ids.remote_tag) h.places ∙ l.remote_tag in
       record {
         value = h.value;
         one = h.one;
         is = ap image.write (sym v) ∙ sym w.bytes;
         state_is = ap (λ (q : RecordAt). state_in q.numbers.state) h.places ∙ state_same h.value.numbers.state;
-        ident_is = ap₂ (λ (x y : List ℕ). ident x y (lent img p.ids.remote_tag)) c d ∙ ap (ident h.value.call_id h.value.local_tag) f;
+        ident_is = ap₂ (λ (x y : List ℕ). ident x y (part_in img p.ids.remote_tag)) c d ∙ ap (ident h.value.call_id h.value.local_tag) f;
       }
 
 -- ---- the place of the image

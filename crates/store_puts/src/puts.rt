@@ -4,16 +4,23 @@ ghost use Rattle.limits.specs.Limits.{rust_limits};
 ghost use Rattle.edit.specs.Edit.{spliced};
 ghost use Rattle.output.specs.Output.{fitted, leaves, written_from};
 ghost use Rattle.book.specs.Store.{run};
+ghost use Rattle.text.specs.Spans.{part_in};
+ghost use Rattle.dialog_id.specs.Ident.{ident};
+ghost use Rattle.dialog_id.specs.IdTexts.{ident_of};
 ghost use Rattle.dialog_manager.specs.Answers.{written_in};
+ghost use Rattle.dialog_manager.specs.Search.{IdsWithin};
 ghost use Rattle.store_puts.specs.Puts.{putting, Named, Open};
 
 use crate::early::is_crowded;
+use dialog_id::IdTexts;
 use dialog_manager::search_id;
+use image::IdsAt;
 use image_writer::write_image;
 use limits::{Limits, Refusal};
 use record::State;
 
 // DialogManager::insert of one record image: 3, 16, 17, 18. A replacement keeps its place; a new record is written into the free end of the store.
+// Kept (5, 6): a C caller lends bytes and says how many are used.
 pub fn put(image: &[u8], bytes: &mut [u8], used: usize) -> Result<usize, Refusal>
     ensures value { result ≡ written_in (run rust_limits (putting (length bytes.old) image.now) bytes.old used) }
     ensures bytes_after { bytes.new ≡ (run rust_limits (putting (length bytes.old) image.now) bytes.old used).bytes }
@@ -27,51 +34,49 @@ pub fn put(image: &[u8], bytes: &mut [u8], used: usize) -> Result<usize, Refusal
     if Limits::MAX_CONFIRMED_DIALOGS <= n {
         return Err(Refusal::TooManyDialogs);
     }
-    let ids = r.ids;
     let numbers = r.numbers;
-    let state = numbers.state;
-    let call_id = ids.call_id;
-    let local = ids.local_tag;
-    let remote = ids.remote_tag;
-    let a = call_id.start;
-    let b = local.start;
-    let c = remote.start;
-    put_named(
-        image,
-        state,
-        &image[a..a + call_id.length],
-        &image[b..b + local.length],
-        &image[c..c + remote.length],
-        bytes,
-        used,
-    )
+    let id = ids_texts(r.ids, image);
+    put_named(image, numbers.state, id, bytes, used)
+}
+
+// The texts of an identifier that lies in bytes.
+// Kept (2): `DialogId::texts` does it for another type, the parts in a block.
+fn ids_texts<'a>(ids: IdsAt, bytes: &'a [u8]) -> IdTexts<'a>
+    requires { IdsWithin bytes.now ids }
+    ensures { ident_of result ≡ ident (part_in bytes.now ids.call_id) (part_in bytes.now ids.local_tag) (part_in bytes.now ids.remote_tag) }
+{
+    IdTexts {
+        call_id: ids.call_id.text(bytes),
+        local_tag: ids.local_tag.text(bytes),
+        remote_tag: ids.remote_tag.text(bytes),
+    }
 }
 
 // The image of a record of this state and identifier: 17, 18. The store was read, and isn't full.
+// Kept (5, 6): bytes past the used ones are written where the image is longer or new.
 fn put_named(
     image: &[u8],
     state: State,
-    call_id: &[u8],
-    local_tag: &[u8],
-    remote_tag: &[u8],
+    id: IdTexts<'_>,
     bytes: &mut [u8],
     used: usize,
 ) -> Result<usize, Refusal>
-    requires named { Named image.now state call_id.now local_tag.now remote_tag.now }
+    requires named { Named image.now state id.call_id.now id.local_tag.now id.remote_tag.now }
     requires fact { Open rust_limits bytes.old used }
     ensures value { result ≡ written_in (run rust_limits (putting (length bytes.old) image.now) bytes.old used) }
     ensures bytes_after { bytes.new ≡ (run rust_limits (putting (length bytes.old) image.now) bytes.old used).bytes }
 {
-    if is_crowded(state, &bytes[..used], call_id, local_tag, remote_tag) {
+    if is_crowded(state, &bytes[..used], id) {
         return Err(Refusal::TooManyEarlyDialogs);
     }
-    let Some((at, r)) = search_id(&bytes[..used], call_id, local_tag, remote_tag) else {
+    let Some((at, r)) = search_id(&bytes[..used], id) else {
         return add(image, bytes, used);
     };
     replace_image(image, bytes, used, at, r.end - at)
 }
 
 // The image for the old_length used bytes at a place: 18.
+// Kept (5, 6): bytes past the used ones are written where the image is longer or new.
 fn replace_image(
     image: &[u8],
     bytes: &mut [u8],
@@ -90,6 +95,7 @@ fn replace_image(
 }
 
 // The image after the used bytes: 18. The image writer is lent the free end of the store, the bytes from the used length on.
+// Kept (5, 6): bytes past the used ones are written where the image is longer or new.
 fn add(image: &[u8], bytes: &mut [u8], used: usize) -> Result<usize, Refusal>
     requires { used ≤ length bytes.old }
     ensures value { result ≡ written_from (fitted (length bytes.old) (take used bytes.old ++ image.now)) }

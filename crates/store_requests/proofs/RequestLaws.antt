@@ -16,7 +16,7 @@ use Rattle.dialog_id.specs.DialogId.{identifier_of, from_name, to_name}
 use Rattle.dialog_id.specs.declared.DialogId.{DialogId}
 use Rattle.output.specs.Output.{leaves, written_from}
 use Rattle.codec.proofs.CodecLaws.{Bytes}
-use Rattle.image.specs.declared.RecordAt.{RecordAt}
+use Rattle.image_edit.specs.declared.RecordPlace.{RecordPlace}
 use Rattle.text.specs.Spans.{part_in}
 use Rattle.dialog_rules.specs.Updates.{kind_of, request_update}
 use Rattle.dialog_rules.proofs.PlacedLaws.{Asked}
@@ -60,21 +60,21 @@ module _ (method block bytes : List ℕ) (used : ℕ) where
       request_clear = rw (short, good)
 
       -- no record of that name
-      pub request_turned : {cause : Refusal} → Err cause ≡ standing_of (spot_named (named_in block) bytes used) → Heard (Err cause) bytes
+      pub request_turned : {cause : Refusal} → Err cause ≡ standing_of used (spot_named (named_in block) bytes used) → Heard (Err cause) bytes
       request_turned {cause} e = by (named_in block) refl e
         where
-          by : (o : Option Ident) → named_in block ≡ o → Err cause ≡ standing_of (spot_named o bytes used) → Heard (Err cause) bytes
+          by : (o : Option Ident) → named_in block ≡ o → Err cause ≡ standing_of used (spot_named o bytes used) → Heard (Err cause) bytes
           by None n e = unnamed rust_limits permitted (request method block) bytes used request_clear n (not_named None bytes used e)
           by (Some i) n e = turned rust_limits permitted (request method block) bytes used request_clear i n (not_named (Some i) bytes used e)
 
       -- the step on the record
-      pub request_done : Bytes bytes → (at : ℕ) (q : RecordAt) → ◌≡◌ {A = Result (ℕ × RecordAt) Refusal} (Ok (at, q)) (standing_of (spot_named (named_in block) bytes used)) → (r : Result ℕ Refusal) (after : List ℕ)
-          → (r ≡ written_from (stepped (request_update rust_limits (kind_of method) block) (length bytes) at (take used bytes)))
-          × (after ≡ leaves (stepped (request_update rust_limits (kind_of method) block) (length bytes) at (take used bytes)) bytes)
+      pub request_done : Bytes bytes → (q : RecordPlace) → Ok q ≡ standing_of used (spot_named (named_in block) bytes used) → (r : Result ℕ Refusal) (after : List ℕ)
+          → (r ≡ written_from (stepped (request_update rust_limits (kind_of method) block) (length bytes) q.at (take q.used bytes)))
+          × (after ≡ leaves (stepped (request_update rust_limits (kind_of method) block) (length bytes) q.at (take q.used bytes)) bytes)
           → Heard r after
       unfolding revised
-      request_done h at q e r after w = by (named_in block) refl e
+      request_done h q e r after w = by (named_in block) refl e
         where
-          by : (o : Option Ident) → named_in block ≡ o → ◌≡◌ {A = Result (ℕ × RecordAt) Refusal} (Ok (at, q)) (standing_of (spot_named o bytes used)) → Heard r after
+          by : (o : Option Ident) → named_in block ≡ o → Ok q ≡ standing_of used (spot_named o bytes used) → Heard r after
           by None n e = never_at bytes used e
-          by (Some i) n e = step_done rust_limits permitted (request method block) bytes used request_clear i n h at q e r after w
+          by (Some i) n e = step_done rust_limits permitted (request method block) bytes used request_clear i n h q e r after w

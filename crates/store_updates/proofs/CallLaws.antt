@@ -16,6 +16,7 @@ use Rattle.record.specs.Rules.{local_step}
 use Rattle.codec.proofs.CodecLaws.{Bytes}
 use Rattle.record.proofs.NumberLaws.{meaning_same}
 use Rattle.image.specs.declared.RecordAt.{RecordAt}
+use Rattle.image_edit.specs.declared.RecordPlace.{RecordPlace}
 use Rattle.dialog_rules.specs.Updates.{local_update}
 use Rattle.dialog_rules.proofs.RefusalLaws.{no_causes}
 use Rattle.dialog_updates.specs.AtPlace.{stepped}
@@ -62,26 +63,26 @@ unfolding update_cause
 raises i = record { named = refl; causes = or_none (ident_cause rust_limits i) }
 
 -- t is where the record was found
-module _ {u : Update} {i : Ident} {others : Option Refusal} (n : ByIdent u i others) (bytes : List ℕ) (used : ℕ) {t : Result (ℕ × RecordAt) Refusal} (told : t ≡ standing_of (found_in i others bytes used)) where
+module _ {u : Update} {i : Ident} {others : Option Refusal} (n : ByIdent u i others) (bytes : List ℕ) (used : ℕ) {t : Result RecordPlace Refusal} (told : t ≡ standing_of used (found_in i others bytes used)) where
   abbrev Ends : Result ℕ Refusal → List ℕ → Type 0
   Ends r after = Done rust_limits permitted u bytes used r after
 
-  by_cause : {a : Result (ℕ × RecordAt) Refusal} → t ≡ a → a ≡ standing_of (refuse_by (update_cause rust_limits u) (spot_in i bytes used))
-  by_cause e = sym e ∙ told ∙ ap (λ (o : Option Refusal). standing_of (refuse_by o (spot_in i bytes used))) (sym n.causes)
+  by_cause : {a : Result RecordPlace Refusal} → t ≡ a → a ≡ standing_of used (refuse_by (update_cause rust_limits u) (spot_in i bytes used))
+  by_cause e = sym e ∙ told ∙ ap (λ (o : Option Refusal). standing_of used (refuse_by o (spot_in i bytes used))) (sym n.causes)
 
   -- 1, 2, 3, 15
   pub call_refused : {cause : Refusal} → t ≡ Err cause → Ends (Err cause) bytes
   call_refused {cause} e = by (update_cause rust_limits u) refl (by_cause e)
     where
-      by : (o : Option Refusal) → update_cause rust_limits u ≡ o → Err cause ≡ standing_of (refuse_by o (spot_in i bytes used)) → Ends (Err cause) bytes
+      by : (o : Option Refusal) → update_cause rust_limits u ≡ o → Err cause ≡ standing_of used (refuse_by o (spot_in i bytes used)) → Ends (Err cause) bytes
       by None q f = turned rust_limits permitted u bytes used q i n.named (not_standing i bytes used f)
       by (Some own) q f = let k : own ≡ cause = cc in arguments_done rust_limits permitted u bytes used (q ∙ ap Some k)
 
-  module _ {at : ℕ} {q : RecordAt} (e : t ≡ Ok (at, q)) where
-    pub stands : (update_cause rust_limits u ≡ None) × (◌≡◌ {A = Result (ℕ × RecordAt) Refusal} (Ok (at, q)) (standing_of (spot_in i bytes used)))
+  module _ {q : RecordPlace} (e : t ≡ Ok q) where
+    pub stands : (update_cause rust_limits u ≡ None) × (Ok q ≡ standing_of used (spot_in i bytes used))
     stands = by (update_cause rust_limits u) (by_cause e)
       where
-        by : (o : Option Refusal) → ◌≡◌ {A = Result (ℕ × RecordAt) Refusal} (Ok (at, q)) (standing_of (refuse_by o (spot_in i bytes used))) → (o ≡ None) × (◌≡◌ {A = Result (ℕ × RecordAt) Refusal} (Ok (at, q)) (standing_of (spot_in i bytes used)))
+        by : (o : Option Refusal) → Ok q ≡ standing_of used (refuse_by o (spot_in i bytes used)) → (o ≡ None) × (Ok q ≡ standing_of used (spot_in i bytes used))
         by None f = (refl, f)
         by (Some own) f = absurd (let z : ◌≡◌ {A = ℕ} 0 1 = cc in omega arith)
 
@@ -91,9 +92,9 @@ module _ {u : Update} {i : Ident} {others : Option Refusal} (n : ByIdent u i oth
 
     -- the step's refusals, 18, or the changed record
     pub call_done : Bytes bytes → {r : Result ℕ Refusal} {after : List ℕ}
-        → (r ≡ written_from (stepped (revised rust_limits u) (length bytes) at (take used bytes))) × (after ≡ leaves (stepped (revised rust_limits u) (length bytes) at (take used bytes)) bytes)
+        → (r ≡ written_from (stepped (revised rust_limits u) (length bytes) q.at (take q.used bytes))) × (after ≡ leaves (stepped (revised rust_limits u) (length bytes) q.at (take q.used bytes)) bytes)
         → Ends r after
-    call_done h {r} {after} w = step_done rust_limits permitted u bytes used stands.0 i n.named h at q stands.1 r after w
+    call_done h {r} {after} w = step_done rust_limits permitted u bytes used stands.0 i n.named h q stands.1 r after w
 
 -- ---- the next local number
 
@@ -106,8 +107,8 @@ module _ (i : Ident) (bytes : List ℕ) (used : ℕ) where
   Raises r after = RaisesBy r after (updating rust_limits (local_number i) bytes used)
 
   -- the step on the record at a place
-  abbrev pub local_at : ℕ → Result (List ℕ) Refusal
-  local_at at = stepped (λ v. Ok (local_update v)) (length bytes) at (take used bytes)
+  abbrev pub local_at : RecordPlace → Result (List ℕ) Refusal
+  local_at q = stepped (λ v. Ok (local_update v)) (length bytes) q.at (take q.used bytes)
 
   -- a refusal, as this call answers it
   pub raise_not : {cause : Refusal} → Done rust_limits permitted (local_number i) bytes used (Err cause) bytes → Raises (Err cause) bytes
@@ -127,13 +128,13 @@ module _ (i : Ident) (bytes : List ℕ) (used : ℕ) where
       by (Ok s) = (refl, (refl, refl))
 
   -- 18, or the changed record's number
-  pub raise_done : {t : Result (ℕ × RecordAt) Refusal} → t ≡ standing_of (found_in i None bytes used) → {at : ℕ} {q : RecordAt} → t ≡ Ok (at, q) → Bytes bytes → {r : Result (ℕ × ℕ) Refusal} {after : List ℕ}
-      → (r ≡ raised_with (local_step (meaning q.numbers)).local (written_from (local_at at))) × (after ≡ leaves (local_at at) bytes) → Raises r after
+  pub raise_done : {t : Result RecordPlace Refusal} → t ≡ standing_of used (found_in i None bytes used) → {q : RecordPlace} → t ≡ Ok q → Bytes bytes → {r : Result (ℕ × ℕ) Refusal} {after : List ℕ}
+      → (r ≡ raised_with (local_step (meaning q.record.numbers)).local (written_from (local_at q))) × (after ≡ leaves (local_at q) bytes) → Raises r after
   unfolding revised
-  raise_done told {at} {q} e h {r} w =
+  raise_done told {q} e h {r} w =
       let s = stands (raises i) bytes used told e in
-      let l = step_left rust_limits permitted (local_number i) bytes used s.0 i refl h at q s.1 in
-      let n : meaning q.numbers ≡ l.value.numbers = ap (λ (y : RecordAt). meaning y.numbers) l.placed ∙ meaning_same l.value.numbers in
-      let f : r ≡ raised_with (local_step l.value.numbers).local (written_from (local_at at)) = w.0 ∙ ap (λ (y : Numbers). raised_with (local_step y).local (written_from (local_at at))) n in
-      let d = raised_left (local_step l.value.numbers).local (local_at at) l.left in
+      let l = step_left rust_limits permitted (local_number i) bytes used s.0 i refl h q s.1 in
+      let n : meaning q.record.numbers ≡ l.value.numbers = ap (λ (y : RecordAt). meaning y.numbers) l.placed ∙ meaning_same l.value.numbers in
+      let f : r ≡ raised_with (local_step l.value.numbers).local (written_from (local_at q)) = w.0 ∙ ap (λ (y : Numbers). raised_with (local_step y).local (written_from (local_at q))) n in
+      let d = raised_left (local_step l.value.numbers).local (local_at q) l.left in
       (f ∙ d.0, (w.1 ∙ d.1.0, ap (λ (y : Result (ℕ × ℕ) Refusal). used_raised y used) f ∙ d.1.1))

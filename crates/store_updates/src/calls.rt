@@ -1,99 +1,90 @@
 // The calls that name their record by its identifier.
 ghost use Rattle.std.specs.Prelude.{◌≡◌};
 ghost use Rattle.limits.specs.Limits.{rust_limits};
-ghost use Rattle.dialog_id.specs.Ident.{ident};
+ghost use Rattle.dialog_id.specs.IdTexts.{ident_of};
 ghost use Rattle.dialog_manager.specs.Answers.{written_in};
 ghost use Rattle.store_entries.specs.Entries.{raised_in, used_after, used_raised, terminating, responding, setting, raising, standing_of, Ready};
 ghost use Rattle.store_updates.specs.Finding.{cause_in, found_in};
 
-use dialog_id::check_lengths;
+use dialog_id::IdTexts;
 use dialog_responses::response_at;
-use image::RecordAt;
+use image_edit::RecordPlace;
 use limits::Refusal;
 use store_entries::locate;
 use store_steps::{interval_at, local_at, terminate_at};
 
 // Dialog::terminate, by identifier: 1, 3, 15.
-pub fn terminate(
-    call_id: &[u8],
-    local_tag: &[u8],
-    remote_tag: &[u8],
-    bytes: &mut [u8],
-    used: usize,
-) -> Result<usize, Refusal>
-    ensures value { result ≡ written_in (terminating rust_limits call_id.now local_tag.now remote_tag.now bytes.old used) }
-    ensures bytes_after { bytes.new ≡ (terminating rust_limits call_id.now local_tag.now remote_tag.now bytes.old used).bytes }
-    ensures used_value { used_after result used ≡ (terminating rust_limits call_id.now local_tag.now remote_tag.now bytes.old used).used }
+// Kept (5, 6): a C caller lends bytes and says how many are used.
+pub fn terminate(id: IdTexts<'_>, bytes: &mut [u8], used: usize) -> Result<usize, Refusal>
+    ensures value { result ≡ written_in (terminating rust_limits id.entry.call_id.now id.entry.local_tag.now id.entry.remote_tag.now bytes.old used) }
+    ensures bytes_after { bytes.new ≡ (terminating rust_limits id.entry.call_id.now id.entry.local_tag.now id.entry.remote_tag.now bytes.old used).bytes }
+    ensures used_value { used_after result used ≡ (terminating rust_limits id.entry.call_id.now id.entry.local_tag.now id.entry.remote_tag.now bytes.old used).used }
 {
-    let (at, r) = find_record(call_id, local_tag, remote_tag, Ok(()), bytes, used)?;
-    terminate_at(bytes, used, at, r)
+    let p = find_record(id, Ok(()), bytes, used)?;
+    terminate_at(bytes, p)
 }
 
 // Dialog::update_from_response, by identifier: 1, 2, 3, 15, 18.
+// Kept (5, 6): a C caller lends bytes and says how many are used.
 pub fn response(
-    call_id: &[u8],
-    local_tag: &[u8],
-    remote_tag: &[u8],
+    id: IdTexts<'_>,
     status: u16,
     block: &[u8],
     bytes: &mut [u8],
     used: usize,
 ) -> Result<usize, Refusal>
-    ensures value { result ≡ written_in (responding rust_limits call_id.now local_tag.now remote_tag.now status block.now bytes.old used) }
-    ensures bytes_after { bytes.new ≡ (responding rust_limits call_id.now local_tag.now remote_tag.now status block.now bytes.old used).bytes }
-    ensures used_value { used_after result used ≡ (responding rust_limits call_id.now local_tag.now remote_tag.now status block.now bytes.old used).used }
+    ensures value { result ≡ written_in (responding rust_limits id.entry.call_id.now id.entry.local_tag.now id.entry.remote_tag.now status block.now bytes.old used) }
+    ensures bytes_after { bytes.new ≡ (responding rust_limits id.entry.call_id.now id.entry.local_tag.now id.entry.remote_tag.now status block.now bytes.old used).bytes }
+    ensures used_value { used_after result used ≡ (responding rust_limits id.entry.call_id.now id.entry.local_tag.now id.entry.remote_tag.now status block.now bytes.old used).used }
 {
     let others = msg::check_block(block);
-    let (at, r) = find_record(call_id, local_tag, remote_tag, others, bytes, used)?;
-    response_at(bytes, used, at, r, status, block)
+    let p = find_record(id, others, bytes, used)?;
+    response_at(bytes, p, status, block)
 }
 
 // Dialog::set_session_expires, by identifier: 1, 3, 15, 13 with 90, 14, 18.
+// Kept (5, 6): a C caller lends bytes and says how many are used.
 pub fn set_session_expires(
-    call_id: &[u8],
-    local_tag: &[u8],
-    remote_tag: &[u8],
+    id: IdTexts<'_>,
     seconds: u64,
     bytes: &mut [u8],
     used: usize,
 ) -> Result<usize, Refusal>
-    ensures value { result ≡ written_in (setting rust_limits call_id.now local_tag.now remote_tag.now seconds bytes.old used) }
-    ensures bytes_after { bytes.new ≡ (setting rust_limits call_id.now local_tag.now remote_tag.now seconds bytes.old used).bytes }
-    ensures used_value { used_after result used ≡ (setting rust_limits call_id.now local_tag.now remote_tag.now seconds bytes.old used).used }
+    ensures value { result ≡ written_in (setting rust_limits id.entry.call_id.now id.entry.local_tag.now id.entry.remote_tag.now seconds bytes.old used) }
+    ensures bytes_after { bytes.new ≡ (setting rust_limits id.entry.call_id.now id.entry.local_tag.now id.entry.remote_tag.now seconds bytes.old used).bytes }
+    ensures used_value { used_after result used ≡ (setting rust_limits id.entry.call_id.now id.entry.local_tag.now id.entry.remote_tag.now seconds bytes.old used).used }
 {
-    let (at, r) = find_record(call_id, local_tag, remote_tag, Ok(()), bytes, used)?;
-    interval_at(bytes, used, at, r, seconds)
+    let p = find_record(id, Ok(()), bytes, used)?;
+    interval_at(bytes, p, seconds)
 }
 
 // Dialog::next_local_cseq, by identifier: 1, 3, 15, 18. Answers the new number, or the largest again.
+// Kept (5, 6): a C caller lends bytes and says how many are used.
 pub fn next_local_cseq(
-    call_id: &[u8],
-    local_tag: &[u8],
-    remote_tag: &[u8],
+    id: IdTexts<'_>,
     bytes: &mut [u8],
     used: usize,
 ) -> Result<(u32, usize), Refusal>
-    ensures value { result ≡ raised_in (raising rust_limits call_id.now local_tag.now remote_tag.now bytes.old used) }
-    ensures bytes_after { bytes.new ≡ (raising rust_limits call_id.now local_tag.now remote_tag.now bytes.old used).bytes }
-    ensures used_value { used_raised result used ≡ (raising rust_limits call_id.now local_tag.now remote_tag.now bytes.old used).used }
+    ensures value { result ≡ raised_in (raising rust_limits id.entry.call_id.now id.entry.local_tag.now id.entry.remote_tag.now bytes.old used) }
+    ensures bytes_after { bytes.new ≡ (raising rust_limits id.entry.call_id.now id.entry.local_tag.now id.entry.remote_tag.now bytes.old used).bytes }
+    ensures used_value { used_raised result used ≡ (raising rust_limits id.entry.call_id.now id.entry.local_tag.now id.entry.remote_tag.now bytes.old used).used }
 {
-    let (at, r) = find_record(call_id, local_tag, remote_tag, Ok(()), bytes, used)?;
-    local_at(bytes, used, at, r)
+    let p = find_record(id, Ok(()), bytes, used)?;
+    local_at(bytes, p)
 }
 
 // Where the record of an identifier stands: 1 of the identifier, what the check of the other arguments found, 3, 15.
+// Kept (5, 6): that the used length lies within the lent bytes is checked by `locate`, after the other arguments.
 fn find_record(
-    call_id: &[u8],
-    local_tag: &[u8],
-    remote_tag: &[u8],
+    id: IdTexts<'_>,
     others: Result<(), Refusal>,
     bytes: &[u8],
     used: usize,
-) -> Result<(usize, RecordAt), Refusal>
-    ensures value { result ≡ standing_of (found_in (ident call_id.now local_tag.now remote_tag.now) (cause_in others) bytes.now used) }
-    ensures ready { Ready bytes.now used result }
+) -> Result<RecordPlace, Refusal>
+    ensures value { result ≡ standing_of used (found_in (ident_of id.entry) (cause_in others) bytes.now used) }
+    ensures ready { Ready bytes.now result }
 {
-    check_lengths(call_id, local_tag, remote_tag)?;
+    id.check_lengths()?;
     others?;
-    locate(bytes, used, call_id, local_tag, remote_tag)
+    locate(bytes, used, id)
 }

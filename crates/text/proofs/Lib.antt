@@ -4,3 +4,4 @@ pub mod Runs
 pub mod Sames
 pub mod Trimming
 pub mod Words
+pub mod SegmentLaws

@@ -1,17 +1,17 @@
 -- Segments between bytes that pass a test, and words between blanks. Assumes nothing.
-use Prim.Native.Nat.{ℕ, zero, suc, ◌+◌, ◌-◌, ◌≤◌, ◌<◌}
+use Prim.Native.Nat.{ℕ, zero, suc, ◌+◌, ◌≤◌, ◌<◌}
 use native.Mathlib.Nat.{le_of_suc-le-suc}
+use native.Mathlib.Numerals.{add-one}
 use native.Mathlib.Omega.{arith}
 use mathlib.Core.Path.{◌≡◌, refl, sym, ap, ◌∙◌}
 use mathlib.Core.Bool.{Bool, true, false, cond, not}
 use mathlib.Core.List.{List, [], ◌∷◌}
-use lib.ListN.{length, take, drop, length-drop, length-take}
-use lib.Seq.{take_all, drop-drop}
-use lib.Dec.{ltb, leb}
-use borrow.Author.Tests.{ltb-true, ltb-false, le-leb, lt-leb}
+use lib.ListN.{length, take, drop}
+use lib.Seq.{drop-drop}
 use Rattle.text.specs.Text.{span, split, filled, words, is_blank, blanks, word_span}
+use Rattle.text.specs.Segments.{Cuts}
 use Rattle.text.specs.declared.Span.{Span}
-use Rattle.text.proofs.Runs.{drop_part, span_le}
+use Rattle.text.proofs.Runs.{span_le}
 
 -- a segment that ends at a byte that passes, and the others
 pub split_at : (p : ℕ → Bool) (t : List ℕ) → span (λ b. not (p b)) t < length t
@@ -37,37 +37,13 @@ split_last p (b ∷ t) h = by (p b) refl h (split_last p t)
     by true e h more = absurd (omega (arith, rw e at h))
     by false e h more = rw (e, more (le_of_suc-le-suc (rw e at h)))
 
--- the segments of s that start at `at` or after it: none past the end
-abbrev pub left : (ℕ → Bool) → List ℕ → ℕ → List (List ℕ)
-left p s at = cond (leb at (length s)) (split p (drop at s)) []
-
-pub left_start : (p : ℕ → Bool) (s : List ℕ) → left p s 0 ≡ split p s
-left_start p s = rw (le-leb 0 (length s) (omega arith))
-
-pub left_done : (p : ℕ → Bool) (s : List ℕ) (at : ℕ) → length s < at → left p s at ≡ []
-left_done p s at h = rw (lt-leb at (length s) h)
-
-by_more : (p : ℕ → Bool) (s : List ℕ) (at : ℕ) (u : Bool) → ltb (span (λ b. not (p b)) (drop at s)) (length (drop at s)) ≡ u → at ≤ length s
-    → split p (drop at s) ≡ take (span (λ b. not (p b)) (drop at s)) (drop at s) ∷ left p s (at + span (λ b. not (p b)) (drop at s) + 1)
-by_more p s at true e h =
-    let l : span (λ b. not (p b)) (drop at s) < length (drop at s) = ltb-true _ _ e in
-    let q : at + suc (span (λ b. not (p b)) (drop at s)) ≡ at + span (λ b. not (p b)) (drop at s) + 1 = omega arith in
-    let k : at + span (λ b. not (p b)) (drop at s) + 1 ≤ length s = omega (arith, l, length-drop at s) in
-    rw (split_at p (drop at s) l, drop-drop (suc (span (λ b. not (p b)) (drop at s))) at s, q, le-leb _ _ k)
-by_more p s at false e h =
-    let l : length (drop at s) ≤ span (λ b. not (p b)) (drop at s) = ltb-false _ _ e in
-    let k : length s < at + span (λ b. not (p b)) (drop at s) + 1 = omega (arith, length-drop at s) in
-    rw (split_last p (drop at s) l, take_all _ _ l, lt-leb _ _ k)
-
--- n is what the search for the next such byte answers of the part from `at` on
-module _ (p : ℕ → Bool) (s : List ℕ) (at n : ℕ) (h : at ≤ length s) (hn : n ≡ span (λ b. not (p b)) (take (length s - at) (drop at s))) where
-  pub left_cons : left p s at ≡ take n (take (length s - at) (drop at s)) ∷ left p s (at + n + 1)
-  left_cons =
-      let k : n ≡ span (λ b. not (p b)) (drop at s) = rw drop_part at hn in
-      rw (le-leb at (length s) h, drop_part s at, k) (by_more p s at _ refl h)
-
-  pub segment_fits : at + n ≤ length s
-  segment_fits = omega (arith, span_le (λ b. not (p b)) (take (length s - at) (drop at s)), length-take (length s - at) (drop at s), length-drop at s)
+-- n is what the search for the next such byte answers
+pub split_cuts : (p : ℕ → Bool) (s : List ℕ) (n : ℕ) → n ≡ span (λ b. not (p b)) s → Cuts (split p) s n
+split_cuts p s n h = (
+  rw h (span_le (λ b. not (p b)) s),
+  (λ l. rw (h, add-one) (split_at p s (rw h at l))),
+  (λ l. split_last p s (rw h at l)),
+)
 
 -- ---- words
 

@@ -13,7 +13,6 @@ use Rattle.text.specs.Text.{span, all, other, alike, same, lower, Piece}
 use Rattle.text.specs.Answers.{span_of}
 use Rattle.text.specs.declared.Span.{Span}
 use Rattle.text.proofs.Runs.{span_le, drop_part, part_length}
-use Rattle.text.proofs.Alike.{alike_length}
 use Rattle.uri.proofs.Ports.{second}
 use Rattle.uri.proofs.Hosts.{host_own, host_uris}
 use Rattle.uri_bytes.specs.Bytes.{is_uri}
@@ -47,11 +46,7 @@ same_lengths f [] (y ∷ b) e = absurd (true≢false (sym e))
 same_lengths f (x ∷ a) [] e = absurd (true≢false (sym e))
 same_lengths f (x ∷ a) (y ∷ b) e = ap suc (same_lengths f a b (second (eqb (f x) (f y)) (alike f a b) e))
 
--- a text that is shorter than the head doesn't begin with it
-pub starts_not : (s head : List ℕ) → length s < length head → same (take (length head) s) head ≡ false
-starts_not s head h = alike_length lower (take (length head) s) head (λ e. omega (arith, length-take (length head) s))
-
--- one that does is as long
+-- a text that begins with a head is as long
 pub starts_fits : (s head : List ℕ) → same (take (length head) s) head ≡ true → length head ≤ length s
 starts_fits s head e = omega (arith, same_lengths lower (take (length head) s) head e, length-take (length head) s)
 

@@ -3,7 +3,6 @@
 
 ghost use Rattle.std.specs.Prelude.{◌≡◌, ◌+◌, ◌-◌, ◌≤◌, length, take, drop, ltb};
 ghost use Rattle.limits.specs.Limits.{rust_limits};
-ghost use Rattle.text.specs.Text.{same};
 ghost use Rattle.text.specs.Answers.{lookup_of, span_of};
 ghost use Rattle.uri.specs.SipUri.{uri_answer, read_uri, estimate_answer, read_estimate, uri_from, sip_uri, with_user, with_host};
 ghost use Rattle.uri.specs.HeaderUri.{uri_from_header, header_uri_from, header_uri, uri_text, in_brackets};
@@ -118,30 +117,21 @@ fn estimated_length(u: SipUri) -> usize
 }
 
 // How long `sip:` or `sips:` is, which stands first; 0 where neither does.
+// Kept (2): two schemes with their lengths; what has the same shape elsewhere asks for other texts and answers another thing.
 fn scheme_length(s: &[u8]) -> usize
     ensures { result ≡ scheme_length s.now }
 {
-    if starts_with(s, b"sip:") {
+    if text::starts_with(s, b"sip:") {
         return 4;
     }
-    if starts_with(s, b"sips:") {
+    if text::starts_with(s, b"sips:") {
         return 5;
     }
     0
 }
 
-// Whether the text begins with these bytes, letter case ignored.
-fn starts_with(s: &[u8], head: &[u8]) -> bool
-    ensures { result ≡ same (take (length head.now) s.now) head.now }
-{
-    let n = head.len();
-    if s.len() < n {
-        return false;
-    }
-    text::same_text(&s[..n], head)
-}
-
 // The parts from the user part on, which stands after the scheme.
+// Kept (5): a place in the text, from which each step reads on.
 fn with_user(s: &[u8], at: usize, secure: bool) -> Option<SipUri>
     requires { at ≤ length s.now }
     ensures { result ≡ uri_from (of_uri (drop at s.now) (with_user secure at (drop at s.now))) }
@@ -151,6 +141,7 @@ fn with_user(s: &[u8], at: usize, secure: bool) -> Option<SipUri>
 }
 
 // All before the first `@`, or nothing where there is none. Bytes that no URI has are seen here.
+// Kept (5): a place in the text, from which each step reads on.
 fn read_user(s: &[u8], at: usize) -> Option<(Span, usize)>
     requires { at ≤ length s.now }
     ensures { UserStep s.now at result }
@@ -182,6 +173,7 @@ fn read_user(s: &[u8], at: usize) -> Option<(Span, usize)>
 }
 
 // The parts from the host on, with the user part that stands before it.
+// Kept (5): a place in the text, from which each step reads on.
 fn with_host(s: &[u8], at: usize, secure: bool, user: Span) -> Option<SipUri>
     requires { (at ≤ length s.now) × (user.start + user.length ≤ length s.now) }
     ensures { result ≡ uri_from (of_uri (drop at s.now) (with_host secure (piece_in s.now user) at (drop at s.now))) }
@@ -236,6 +228,7 @@ fn in_brackets(value: &[u8], at: usize, end: usize) -> Option<Span>
 }
 
 // Where the n bytes from a place on stand without their blanks.
+// Kept (5): the callers count both; a span of them would be made at the call and taken apart here.
 fn trimmed_part(value: &[u8], at: usize, n: usize) -> Span
     requires { at + n ≤ length value.now }
     ensures { result ≡ span_of (trimmed_piece at (take n (drop at value.now))) }

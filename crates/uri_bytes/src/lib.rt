@@ -6,7 +6,7 @@ ghost use Rattle.text.specs.Text.{span, all};
 ghost use Rattle.uri_bytes.specs.Bytes.{ends_port, ends_host};
 ghost use Rattle.uri_bytes.specs.Classes.{in_class, set_of, in_set};
 
-use text::in_range;
+use text::{ByteClass, in_range, run_length};
 
 #[derive(Clone, Copy)]
 pub enum Class {
@@ -35,15 +35,7 @@ pub fn run(s: &[u8], k: Class) -> usize
     ensures value { result ≡ span (in_class k) s.now }
     ensures upper_bound { result ≤ length s.now }
 {
-    let set = set_of(k);
-    let mut i = 0;
-    while i < s.len() {
-        if !holds(set, s[i]) {
-            return i;
-        }
-        i += 1;
-    }
-    i
+    run_length(s, &set_of(k))
 }
 
 // Whether every byte is of the class.
@@ -68,6 +60,7 @@ pub fn ends_host(b: u8) -> bool
     b == b':' || ends_port(b)
 }
 
+// Kept (7): a table of five rows: the class names a row, in the word that the clauses cite (`in_class`).
 fn set_of(k: Class) -> ByteSet
     ensures { result ≡ set_of k }
 {
@@ -110,15 +103,17 @@ fn set_of(k: Class) -> ByteSet
     }
 }
 
-// Whether a byte is of a set.
-fn holds(set: ByteSet, b: u8) -> bool
-    ensures { result ≡ in_set set b }
-{
-    if in_range(b, set.low, set.high) {
-        return true;
+impl ByteClass for ByteSet {
+    ghost test = { λ set b. in_set set b };
+
+    // Kept (5): the parameters are the trait's.
+    fn has(&self, b: u8) -> bool {
+        if in_range(b, self.low, self.high) {
+            return true;
+        }
+        if b < 64 {
+            return (self.bits >> b) % 2 == 1;
+        }
+        in_range(b, self.from, self.to)
     }
-    if b < 64 {
-        return (set.bits >> b) % 2 == 1;
-    }
-    in_range(b, set.from, set.to)
 }

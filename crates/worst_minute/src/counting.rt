@@ -69,7 +69,7 @@ fn moved(run: &[u8], w: Window, at: usize) -> Window
     let mut from = w.from;
     let mut start = w.start;
     let mut refusals = w.refusals;
-    // A `while`, since the time decides where it ends, and no end of the bytes.
+    // Kept (3): the times decide where it ends; a `for` over the entries would have an end that is never reached.
     while MINUTE <= t - start {
         if run[from + 8] != 0 {
             refusals -= 1;

@@ -42,6 +42,7 @@ pub fn time_at(run: &[u8], at: usize) -> u64
 }
 
 // An entry over the bytes at a place.
+// Kept (1, 5): a number is any byte of the log, 0 or a cause; the place is one of the lent bytes, as for the writers of `codec`.
 pub fn write_entry(bytes: &mut [u8], at: usize, time: u64, number: u8)
     requires { at + 9 ≤ length bytes.old }
     ensures { bytes.new ≡ put_at at (entry_bytes (record { time = time; number = number })) bytes.old }

@@ -10,7 +10,7 @@ use Rattle.output.specs.Output.{fitted, leaves, written_from}
 use Rattle.route_set.specs.Routes.{routes_of}
 use Rattle.route_section.specs.Section.{section_in}
 use Rattle.record.specs.NumbersForm.{meaning}
-use Rattle.image_writer.specs.Parts.{Parts, parts_of, image_of}
+use Rattle.image_writer.specs.Parts.{Parts, ids_given, uris_given, image_of}
 use Rattle.creation_writing.specs.NewParts.{parts_for}
 use Rattle.creation_writing.proofs.ImageLaws.{parts_same, Begun, front_refused, front_begun, image_done}
 use Rattle.creation_writing.proofs.write_image.Goals as goal
@@ -18,16 +18,16 @@ use Rattle.creation_writing.proofs.write_image.Goals.{After-write_front, In_ok-n
 
 -- the parts of the image as the front was written from them, and that they are those of the contract
 abbrev parts : After-write_front → Parts
-parts c = parts_of (meaning c.args.numbers) c.args.we_are_uac c.is_secure-secure.result c.part-call_id.result.now c.part-local_tag.result.now c.part-remote_tag.result.now c.args.target.now c.args.local_uri.now c.args.remote_uri.now (section_in c.args.we_are_uac (routes_of rust_limits c.args.peer.now))
+parts c = record { numbers = meaning c.args.numbers; we_are_uac = c.args.we_are_uac; secure = c.is_secure.result; ids = ids_given c.args.id; uris = uris_given c.args.uris; routes = section_in c.args.we_are_uac (routes_of rust_limits c.args.peer.now) }
 
 abbrev parts-at-In_ok-n : In_ok-n → Parts
-parts-at-In_ok-n c = parts_of (meaning c.args.numbers) c.args.we_are_uac c.is_secure-secure.result c.part-call_id.result.now c.part-local_tag.result.now c.part-remote_tag.result.now c.args.target.now c.args.local_uri.now c.args.remote_uri.now (section_in c.args.we_are_uac (routes_of rust_limits c.args.peer.now))
+parts-at-In_ok-n c = record { numbers = meaning c.args.numbers; we_are_uac = c.args.we_are_uac; secure = c.is_secure.result; ids = ids_given c.args.id; uris = uris_given c.args.uris; routes = section_in c.args.we_are_uac (routes_of rust_limits c.args.peer.now) }
 
 abbrev asked : After-write_front → Parts
-asked c = parts_for c.args.we_are_uac (meaning c.args.numbers) c.args.id c.args.response.now c.args.target.now c.args.local_uri.now c.args.remote_uri.now (section_in c.args.we_are_uac (routes_of rust_limits c.args.peer.now))
+asked c = parts_for c.args.we_are_uac (meaning c.args.numbers) c.args.id c.args.uris (section_in c.args.we_are_uac (routes_of rust_limits c.args.peer.now))
 
 same : (c : After-write_front) → parts c ≡ asked c
-same c = parts_same c.args.we_are_uac (meaning c.args.numbers) c.args.id c.args.response.now c.args.target.now c.args.local_uri.now c.args.remote_uri.now (section_in c.args.we_are_uac (routes_of rust_limits c.args.peer.now)) c.is_secure-secure.ensures c.part-call_id.ensures c.part-local_tag.ensures c.part-remote_tag.ensures
+same c = parts_same c.args.we_are_uac (meaning c.args.numbers) c.args.id c.args.uris (section_in c.args.we_are_uac (routes_of rust_limits c.args.peer.now)) c.is_secure.ensures
 
 -- the front was written
 begun : (c : In_ok-n) → Begun (parts-at-In_ok-n c) c.args.size c.requires.size_value c.args.out.now c.in_ok-n.n c.write_front.new.free

@@ -1,19 +1,20 @@
 -- `dialog_changes::confirm` meets its contract: 3, then the numbers of the one record changed. Assumes nothing.
 use mathlib.Core.Path.{sym, ap, ◌∙◌}
+use Rattle.std.proofs.result.Match.{err_is}
 use Rattle.std.specs.Prelude.{Ok}
 use Rattle.record.specs.Rules.{confirm_step}
 use Rattle.dialog_changes.proofs.ImageUpdateLaws.{unread_ended, changed_ended}
 use Rattle.dialog_changes.proofs.confirm.Goals as goal
 
-pub returns-in_default : goal.returns-in_default
-returns-in_default c =
+pub returns-in_err-p : goal.returns-in_err-p
+returns-in_err-p c =
     let a = c.args in
-    let old : _ × _ = unread_ended a.bytes.now a.used (λ x. Ok (confirm_step x)) (sym c.in_default.is ∙ c.read_used.ensures) in
-    record { value = old.0; bytes_after = old.1 }
+    let old : _ × _ = unread_ended a.bytes.now a.used (λ x. Ok (confirm_step x)) (sym c.in_err-p.was ∙ c.read_used.ensures.value) in
+    record { value = err_is c.from_residual.result _ c.from_residual.ensures.1 ∙ old.0; bytes_after = old.1 }
 
 pub returns : goal.returns
 returns c =
     let a = c.args in
-    let old : _ × _ = changed_ended a.bytes.now a.used (λ x. Ok (confirm_step x)) (sym c.in-Ok.is ∙ c.read_used.ensures) (ap Ok (sym c.confirm.ensures))
-    (λ i. (c.slice_known-1.given i).fits) (c.update_numbers.ensures.value, c.update_numbers.ensures.bytes_after) in
+    let old : _ × _ = changed_ended a.bytes.now a.used (λ x. Ok (confirm_step x)) (sym c.in_ok-p.was ∙ c.read_used.ensures.value) (ap Ok (sym c.confirm.ensures))
+    (λ i. (c.slice_known-1.given i).fits) (c.revise_numbers.ensures.value, c.revise_numbers.ensures.bytes_after) in
     record { value = old.0; bytes_after = old.1 }

@@ -20,13 +20,13 @@ use Rattle.dialog_creation.proofs.create.Goals.{In_ok-check_texts, In_ok-check_f
 
 -- what was given, and the causes that were passed
 abbrev asked : In_ok-check_texts → Creation
-asked c = creation_of c.args.method.now c.args.request.now c.args.status c.args.response.now c.args.local_uri.now c.args.remote_uri.now
+asked c = creation_of c.args.c
 
 abbrev asked-at-In_ok-check_forms : In_ok-check_forms → Creation
-asked-at-In_ok-check_forms c = creation_of c.args.method.now c.args.request.now c.args.status c.args.response.now c.args.local_uri.now c.args.remote_uri.now
+asked-at-In_ok-check_forms c = creation_of c.args.c
 
 abbrev asked-at-In_ok-check_uris : In_ok-check_uris → Creation
-asked-at-In_ok-check_uris c = creation_of c.args.method.now c.args.request.now c.args.status c.args.response.now c.args.local_uri.now c.args.remote_uri.now
+asked-at-In_ok-check_uris c = creation_of c.args.c
 
 texts_clear : (c : In_ok-check_texts) → texts_cause rust_limits (asked c) ≡ None
 texts_clear c = passed (texts_cause rust_limits (asked c)) (sym c.check_texts.ensures ∙ c.in_ok-check_texts.was)
@@ -40,7 +40,7 @@ uris_clear c = passed (or_else (uri_cause (asked-at-In_ok-check_uris c).local_ur
 pub returns-in_err-check_texts : goal.returns-in_err-check_texts
 returns-in_err-check_texts c =
     let a = c.args in
-    let old : _ × _ = refusal a.out.now (texts_refused rust_limits (side_for a.we_are_uac) (creation_of a.method.now a.request.now a.status a.response.now a.local_uri.now a.remote_uri.now) (length a.out.now) (stopped (texts_cause rust_limits (creation_of a.method.now a.request.now a.status a.response.now a.local_uri.now a.remote_uri.now)) (sym c.check_texts.ensures ∙ c.in_err-check_texts.was))) in
+    let old : _ × _ = refusal a.out.now (texts_refused rust_limits (side_for a.we_are_uac) (creation_of a.c) (length a.out.now) (stopped (texts_cause rust_limits (creation_of a.c)) (sym c.check_texts.ensures ∙ c.in_err-check_texts.was))) in
     let p = err_from_is_err_and c.from_residual.result c.from_residual.ensures.1 in
     record { value = rw (p.1, p.2) old.0; out_after = old.1 }
 
@@ -54,7 +54,7 @@ returns-in_err-check_forms c =
 pub returns-in_err-check_uris : goal.returns-in_err-check_uris
 returns-in_err-check_uris c =
     let a = c.args in
-    let old : _ × _ = refusal a.out.now (uris_refused rust_limits (side_for a.we_are_uac) (asked (goal.at.returns-in_err-check_uris c).In_ok-check_texts) (length a.out.now) (texts_clear (goal.at.returns-in_err-check_uris c).In_ok-check_texts) (forms_clear (goal.at.returns-in_err-check_uris c).In_ok-check_forms) (stopped (or_else (uri_cause a.local_uri.now) (uri_cause a.remote_uri.now)) (sym c.check_uris.ensures ∙ c.in_err-check_uris.was))) in
+    let old : _ × _ = refusal a.out.now (uris_refused rust_limits (side_for a.we_are_uac) (asked (goal.at.returns-in_err-check_uris c).In_ok-check_texts) (length a.out.now) (texts_clear (goal.at.returns-in_err-check_uris c).In_ok-check_texts) (forms_clear (goal.at.returns-in_err-check_uris c).In_ok-check_forms) (stopped (or_else (uri_cause a.c.local_uri.now) (uri_cause a.c.remote_uri.now)) (sym c.check_uris.ensures ∙ c.in_err-check_uris.was))) in
     let p = err_from_is_err_and c.from_residual-in_err-check_uris.result c.from_residual-in_err-check_uris.ensures.1 in
     record { value = rw (p.1, p.2) old.0; out_after = old.1 }
 
@@ -62,6 +62,6 @@ pub returns : goal.returns
 returns c =
     let a = c.args in
     let old : _ × _ = subst (λ (o : Result (List ℕ) Refusal). (c.make.result ≡ written_from o) × (c.make.new.out ≡ leaves o a.out.now))
-    (sym (checks_passed a.we_are_uac a.method.now a.request.now a.status a.response.now a.local_uri.now a.remote_uri.now (length a.out.now) (texts_clear (goal.at.returns c).In_ok-check_texts) (forms_clear (goal.at.returns c).In_ok-check_forms) (uris_clear (goal.at.returns c).In_ok-check_uris)))
+    (sym (checks_passed a.we_are_uac a.c (length a.out.now) (texts_clear (goal.at.returns c).In_ok-check_texts) (forms_clear (goal.at.returns c).In_ok-check_forms) (uris_clear (goal.at.returns c).In_ok-check_uris)))
     (c.make.ensures.value, c.make.ensures.out_after) in
     record { value = old.0; out_after = old.1 }

@@ -1,14 +1,13 @@
 -- `dialog_requests::update_from_request` meets its contract: the causes of the texts, the reading, then the request at 0. Assumes nothing.
-use native.Mathlib.Omega.{arith}
 use mathlib.Core.Path.{sym, ◌∙◌}
 use lib.ListN.{length, take}
 use Rattle.std.proofs.result.Match.{err_is}
 use Rattle.limits.specs.Limits.{rust_limits}
 use Rattle.dialog_rules.specs.Updates.{kind_of, request_update}
-use Rattle.dialog_changes.proofs.ImageUpdateLaws.{one_used, used_refused}
+use Rattle.dialog_changes.proofs.ImageUpdateLaws.{place_read, used_refused}
 use Rattle.dialog_updates.specs.AtPlace.{stepped}
 use Rattle.dialog_updates.specs.Messages.{requested}
-use Rattle.dialog_updates.proofs.PlaceLaws.{stepped_one, refused_leaves, result_as}
+use Rattle.dialog_updates.proofs.PlaceLaws.{stepped_place, refused_leaves, result_as}
 use Rattle.dialog_updates.proofs.BlockLaws.{short_block}
 use Rattle.dialog_requests.proofs.RequestLaws.{long_method, bad_block, no_record, as_image}
 use Rattle.dialog_requests.proofs.update_from_request.Goals as goal
@@ -25,31 +24,22 @@ returns-in_err-check_block c =
     let old : _ × _ = refused_leaves a.bytes.now (requested rust_limits a.method.now a.block.now a.bytes.now a.used) (bad_block rust_limits a.method.now a.block.now a.bytes.now a.used (sym c.too_long.ensures ∙ c.if-too_long.false) (sym c.check_block.ensures ∙ c.in_err-check_block.was)) in
     record { value = err_is c.from_residual.result _ c.from_residual.ensures.1 ∙ old.0; bytes_after = old.1 }
 
-pub returns-in_default : goal.returns-in_default
-returns-in_default c =
+pub returns-in_err-p : goal.returns-in_err-p
+returns-in_err-p c =
     let a = c.args in
-    let old : _ × _ = refused_leaves a.bytes.now (requested rust_limits a.method.now a.block.now a.bytes.now a.used) (no_record rust_limits a.method.now a.block.now a.bytes.now a.used (sym c.too_long.ensures ∙ c.if-too_long.false) (sym c.check_block.ensures ∙ c.in_ok-check_block.was) (used_refused a.bytes.now a.used (sym c.in_default.is ∙ c.read_used.ensures))) in
-    record { value = old.0; bytes_after = old.1 }
+    let old : _ × _ = refused_leaves a.bytes.now (requested rust_limits a.method.now a.block.now a.bytes.now a.used) (no_record rust_limits a.method.now a.block.now a.bytes.now a.used (sym c.too_long.ensures ∙ c.if-too_long.false) (sym c.check_block.ensures ∙ c.in_ok-check_block.was) (used_refused a.bytes.now a.used (sym c.in_err-p.was ∙ c.read_used.ensures.value))) in
+    record { value = err_is c.from_residual-in_err-p.result _ c.from_residual-in_err-p.ensures.1 ∙ old.0; bytes_after = old.1 }
 
-pub request_at-requires-clause-used_in_bounds : goal.request_at-requires-clause-used_in_bounds
-request_at-requires-clause-used_in_bounds c =
-    let a = c.args in
-    let o = one_used a.bytes.now a.used c.in-Ok.r (sym c.in-Ok.is ∙ c.read_used.ensures) in
-    (o.fits, omega arith, short_block rust_limits a.block.now (sym c.check_block.ensures ∙ c.in_ok-check_block.was))
-
-pub request_at-requires-clause-bytes_value : goal.request_at-requires-clause-bytes_value
-request_at-requires-clause-bytes_value c =
-    let a = c.args in
-    let o = one_used a.bytes.now a.used c.in-Ok.r (sym c.in-Ok.is ∙ c.read_used.ensures) in
-    o.whole
+pub request_at-requires-clause-block_bound : goal.request_at-requires-clause-block_bound
+request_at-requires-clause-block_bound c = short_block rust_limits c.args.block.now (sym c.check_block.ensures ∙ c.in_ok-check_block.was)
 
 pub returns : goal.returns
 returns c =
     let a = c.args in
-    let o = one_used a.bytes.now a.used c.in-Ok.r (sym c.in-Ok.is ∙ c.read_used.ensures) in
+    let p = c.in_ok-p.p in
     let step = request_update rust_limits (kind_of a.method.now) a.block.now in
     let e = as_image rust_limits a.method.now a.block.now a.bytes.now a.used (sym c.too_long.ensures ∙ c.if-too_long.false) (sym c.check_block.ensures ∙ c.in_ok-check_block.was) in
-    let old : _ × _ = result_as a.bytes.now (requested rust_limits a.method.now a.block.now a.bytes.now a.used) (stepped step (length a.bytes.now) 0 (take a.used a.bytes.now)) c.request_at.result c.request_at.new.bytes
-    (e ∙ stepped_one a.bytes.now a.used c.in-Ok.r o (λ i. (c.slice_known-1.given i).fits) step)
+    let old : _ × _ = result_as a.bytes.now (requested rust_limits a.method.now a.block.now a.bytes.now a.used) (stepped step (length a.bytes.now) p.at (take p.used a.bytes.now)) c.request_at.result c.request_at.new.bytes
+    (e ∙ stepped_place a.bytes.now a.used p (place_read a.bytes.now a.used p (sym c.in_ok-p.was ∙ c.read_used.ensures.value)) (λ i. (c.slice_known-1.given i).fits) step)
     (c.request_at.ensures.value, c.request_at.ensures.bytes_after) in
     record { value = old.0; bytes_after = old.1 }

@@ -11,9 +11,9 @@ use Rattle.record.specs.Changes.{with_numbers, with_routes}
 use Rattle.record.specs.NumbersForm.{meaning}
 use Rattle.record.specs.Record.{Numbers, Record}
 use Rattle.image_edit.specs.Changes.{changed}
-use Rattle.image_edit.proofs.ImageCuts.{Held, held_used}
+use Rattle.image_edit.proofs.ImageCuts.{Held, stands_held}
 use Rattle.route_set.specs.Routes.{routes_of}
-use Rattle.dialog_rules.specs.Updates.{retargeted, confirms, routes_or, answered, response_update}
+use Rattle.dialog_rules.specs.Updates.{retargeted, confirms, routes_or, confirmed_by, answered, response_update}
 use Rattle.dialog_updates.specs.AtPlace.{stepped}
 use Rattle.dialog_updates.proofs.PlaceLaws.{numbers_read, stepped_given, result_as}
 use Rattle.dialog_responses.proofs.ResponseLaws.{confirming_step, other_step}
@@ -21,47 +21,39 @@ use Rattle.dialog_responses.proofs.response_at.Goals as goal
 use Rattle.dialog_responses.proofs.response_at.Goals.{Start}
 
 -- the record among the used bytes
-stood : (c : Start) (f : (i : ℕ) → get_or c.args.bytes.now i 0 < 256) → Held (take c.args.used c.args.bytes.now) c.args.at c.args.r
-stood c f =
-    let a = c.args in
-    held_used a.bytes.now a.used a.at f c.requires.used_in_bounds.0 c.requires.used_in_bounds.1 c.requires.bytes_value
+stood : (c : Start) (f : (i : ℕ) → get_or c.args.bytes.now i 0 < 256) → Held (take c.args.p.used c.args.bytes.now) c.args.p.at c.args.p.record
+stood c f = stands_held c.args.bytes.now c.args.p f c.requires.stands
 
 pub returns-then-confirming : goal.returns-then-confirming
 returns-then-confirming c =
     let a = c.args in
-    let s = take a.used a.bytes.now in
+    let s = take a.p.used a.bytes.now in
     let h = stood (goal.at.returns-then-confirming c).Start (λ i. (c.slice_known-1.given i).fits) in
-    let x = meaning c.answer-x.result in
+    let x = meaning c.confirmed_by-x.result in
     let block = a.block.now in
-    let numbers : meaning a.r.numbers ≡ h.value.numbers = numbers_read s a.at a.r h in
-    let is : x ≡ answered a.status block h.value.numbers = c.answer-x.ensures ∙ ap (answered a.status block) numbers in
+    let numbers : meaning a.p.record.numbers ≡ h.value.numbers = numbers_read s a.p.at a.p.record h in
+    let is : x ≡ answered a.status block h.value.numbers = c.confirmed_by-x.ensures ∙ ap (confirmed_by a.status) c.with_interval.ensures ∙ ap (answered a.status block) numbers in
     let test : confirms a.status h.value.numbers.state ≡ true = ap (λ (y : Numbers). confirms a.status y.state) (sym numbers) ∙ sym c.confirming.ensures ∙ c.if-confirming.true in
     let f : Record → Record = λ v. retargeted block (with_numbers x (with_routes (routes_or v.routes (routes_of rust_limits block)) v)) in
     let e : response_update rust_limits a.status block h.value ≡ f h.value = confirming_step rust_limits a.status block h.value test ∙ ap (λ (y : Numbers). retargeted block (with_numbers y (with_routes (routes_or h.value.routes (routes_of rust_limits block)) h.value))) (sym is) in
-    let old : _ × _ = result_as a.bytes.now (stepped (λ v. Ok (response_update rust_limits a.status block v)) (length a.bytes.now) a.at s) (fitted (length a.bytes.now) (changed f a.at s)) c.confirm_at.result c.confirm_at.new.bytes
-    (stepped_given s a.at a.r h (λ v. Ok (response_update rust_limits a.status block v)) (length a.bytes.now) f (ap Ok e))
+    let old : _ × _ = result_as a.bytes.now (stepped (λ v. Ok (response_update rust_limits a.status block v)) (length a.bytes.now) a.p.at s) (fitted (length a.bytes.now) (changed f a.p.at s)) c.confirm_at.result c.confirm_at.new.bytes
+    (stepped_given s a.p.at a.p.record h (λ v. Ok (response_update rust_limits a.status block v)) (length a.bytes.now) f (ap Ok e))
     (c.confirm_at.ensures.value, c.confirm_at.ensures.bytes_after) in
     record { value = old.0; bytes_after = old.1 }
-
-pub revise-requires-clause-used_in_bounds : goal.revise-requires-clause-used_in_bounds
-revise-requires-clause-used_in_bounds c = (c.requires.used_in_bounds.0, c.requires.used_in_bounds.1, omega (arith, c.requires.used_in_bounds.2))
-
-pub revise-requires-clause-bytes_value : goal.revise-requires-clause-bytes_value
-revise-requires-clause-bytes_value c = c.requires.bytes_value
 
 pub returns : goal.returns
 returns c =
     let a = c.args in
-    let s = take a.used a.bytes.now in
+    let s = take a.p.used a.bytes.now in
     let h = stood (goal.at.returns c).Start (λ i. (c.slice_known-1.given i).fits) in
-    let x = meaning c.answer-x.result in
+    let x = meaning c.confirmed_by-x.result in
     let block = a.block.now in
-    let numbers : meaning a.r.numbers ≡ h.value.numbers = numbers_read s a.at a.r h in
-    let is : x ≡ answered a.status block h.value.numbers = c.answer-x.ensures ∙ ap (answered a.status block) numbers in
+    let numbers : meaning a.p.record.numbers ≡ h.value.numbers = numbers_read s a.p.at a.p.record h in
+    let is : x ≡ answered a.status block h.value.numbers = c.confirmed_by-x.ensures ∙ ap (confirmed_by a.status) c.with_interval.ensures ∙ ap (answered a.status block) numbers in
     let test : confirms a.status h.value.numbers.state ≡ false = ap (λ (y : Numbers). confirms a.status y.state) (sym numbers) ∙ sym c.confirming.ensures ∙ c.if-confirming.false in
     let f : Record → Record = λ v. retargeted block (with_numbers x v) in
     let e : response_update rust_limits a.status block h.value ≡ f h.value = other_step rust_limits a.status block h.value test ∙ ap (λ (y : Numbers). retargeted block (with_numbers y h.value)) (sym is) in
-    let old : _ × _ = result_as a.bytes.now (stepped (λ v. Ok (response_update rust_limits a.status block v)) (length a.bytes.now) a.at s) (fitted (length a.bytes.now) (changed f a.at s)) c.revise.result c.revise.new.bytes
-    (stepped_given s a.at a.r h (λ v. Ok (response_update rust_limits a.status block v)) (length a.bytes.now) f (ap Ok e))
+    let old : _ × _ = result_as a.bytes.now (stepped (λ v. Ok (response_update rust_limits a.status block v)) (length a.bytes.now) a.p.at s) (fitted (length a.bytes.now) (changed f a.p.at s)) c.revise.result c.revise.new.bytes
+    (stepped_given s a.p.at a.p.record h (λ v. Ok (response_update rust_limits a.status block v)) (length a.bytes.now) f (ap Ok e))
     (c.revise.ensures.value, c.revise.ensures.bytes_after) in
     record { value = old.0; bytes_after = old.1 }

@@ -2,7 +2,6 @@
 use Prim.Native.Nat.{ℕ, ◌+◌}
 use native.Mathlib.Omega.{arith}
 use mathlib.Core.Path.{sym, ◌∙◌}
-use borrow.Author.Tests.{not-true, not-false}
 use Rattle.image.proofs.AnswerLaws.{IdsGot, ids_got, StateGot, state_got, UrisGot, uris_got, TailGot, tail_got}
 use Rattle.image.proofs.RecordLaws.{differs, agrees, record_short, no_map, no_state, no_uris, wrong_bit, no_tail, record_whole}
 use Rattle.image.proofs.read_record.Goals as goal
@@ -58,7 +57,7 @@ pub returns-then-bytes-at-lt2 : goal.returns-then-bytes-at-lt2
 returns-then-bytes-at-lt2 c = let a = c.args in record_short a.bytes.now a.at c.if-bytes-at-lt2.true
 
 pub returns-then-not-is_map : goal.returns-then-not-is_map
-returns-then-not-is_map c = let a = c.args in no_map a.bytes.now a.at c.read_two-map.ensures.bytes_value (sym c.is_map.ensures ∙ not-true c.is_map.result c.if-not-is_map.true-raw)
+returns-then-not-is_map c = let a = c.args in no_map a.bytes.now a.at c.read_two-map.ensures.bytes_value (cc)
 
 pub read_state-requires : goal.read_state-requires
 read_state-requires c = (ids c).got.within
@@ -89,4 +88,4 @@ returns-in_err-tail c =
 pub returns : goal.returns
 returns c =
     let a = c.args in
-    record_whole a.bytes.now a.at c.read_two-map.ensures.bytes_value (ids (goal.at.returns c).In_ok-ids) (state (goal.at.returns c).In_ok-state) (uris (goal.at.returns c).In_ok-uris) (sym c.is_map.ensures ∙ not-false c.is_map.result c.if-not-is_map.false-raw) (agrees (c.in_ok-state.secure) c.either.ensures c.if-secure-either.false) (tail (goal.at.returns c).In_ok-tail) c.placed.ensures
+    record_whole a.bytes.now a.at c.read_two-map.ensures.bytes_value (ids (goal.at.returns c).In_ok-ids) (state (goal.at.returns c).In_ok-state) (uris (goal.at.returns c).In_ok-uris) (cc) (agrees (c.in_ok-state.secure) c.either.ensures c.if-secure-either.false) (tail (goal.at.returns c).In_ok-tail) c.placed.ensures

@@ -9,7 +9,7 @@ use Rattle.methods.proofs.method_of.Goals.{After-same_text}
 
 -- the comparison is with the number's name
 compared : (c : After-same_text) → same c.args.s.now (name_of c.loop-number.number) ≡ c.same_text.result
-compared c = ap (same c.args.s.now) (sym c.name_of-name.ensures.bytes_value) ∙ sym c.same_text.ensures
+compared c = ap (same c.args.s.now) (sym c.name_of.ensures) ∙ sym c.same_text.ensures
 
 pub returns-then-same_text : goal.returns-then-same_text
 returns-then-same_text c =

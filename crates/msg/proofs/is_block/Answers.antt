@@ -1,43 +1,28 @@
 -- `msg::is_block` meets its contract: at each turn the block is one exactly where the rest is. Assumes nothing.
-use Prim.Native.Nat.{◌+◌, ◌-◌, ◌≤◌}
-use mathlib.Core.Path.{◌≡◌, sym, ◌∙◌}
-use lib.ListN.{length, take, drop}
-use Rattle.std.specs.Prelude.{Some}
-use Rattle.msg.specs.Block.{line_at}
-use Rattle.msg.proofs.LineLaws.{line_fits}
-use Rattle.msg.proofs.LookupLaws.{block_done, block_stop, block_next}
 use native.Mathlib.Omega.{arith}
+use mathlib.Core.Path.{refl, sym, ap, ◌∙◌}
+use Rattle.msg.specs.Lines.{line_in, lines_ahead}
+use Rattle.msg.proofs.LookupLaws.{Turn, turned, block_end, block_next}
 use Rattle.msg.proofs.is_block.Goals as goal
 use Rattle.msg.proofs.is_block.Goals.{In-Some}
 
--- the line that was read, in the block
-line_is : (c : In-Some) → line_at (take (length c.args.block.now - c.loop-at.at) (drop c.loop-at.at c.args.block.now)) ≡ Some (c.in-Some.n, c.in-Some.m)
-line_is c = sym c.read_line.ensures ∙ c.in-Some.is
+-- the line of this turn is the first that is left
+turn : (c : In-Some) → Turn c.args.block.now c.loop-line.end (line_in c.in-Some.line) (lines_ahead c.next.new.self)
+turn c = turned _ _ _ _ (c.loop-line.invariant.1 ∙ c.in-Some.ensures.steps)
 
--- it ends within the block
-inside : (c : In-Some) → c.loop-at.at + (c.in-Some.n + c.in-Some.m + 3) ≤ length c.args.block.now
-inside c = line_fits c.args.block.now c.loop-at.at _ _ (omega arith) (line_is c)
+pub loop-line-init : goal.loop-line-init
+loop-line-init c = (omega arith, ap lines_ahead (sym c.into_iter-line-iterator.ensures.into_iter_gives), refl)
 
-pub returns-in_default : goal.returns-in_default
-returns-in_default c =
-    let l = c.loop-at in
-    sym (l.invariant.1 ∙ block_stop _ l.at (omega arith) (sym c.read_line.ensures ∙ c.in_default.is))
-
-pub overflow_add-at : goal.overflow_add-at
-overflow_add-at c = omega (arith, inside c)
-
-pub overflow_add-at-in-loop-at : goal.overflow_add-at-in-loop-at
-overflow_add-at-in-loop-at c = omega (arith, inside c)
-
-pub overflow_add-at-in-loop-at-2 : goal.overflow_add-at-in-loop-at-2
-overflow_add-at-in-loop-at-2 c = omega (arith, inside c)
-
-pub loop-at-preserved : goal.loop-at-preserved
-loop-at-preserved c =
-    let l = c.loop-at in
-    (omega (arith, inside c), l.invariant.1 ∙ block_next _ l.at _ _ (line_is c))
+pub loop-line-preserved : goal.loop-line-preserved
+loop-line-preserved c =
+    let l = c.loop-line in
+    let t = turn (goal.at.loop-line-preserved c).In-Some in (
+      rw c.end-end.ensures (t.fits l.invariant.0),
+      rw c.end-end.ensures (sym t.others),
+      rw (c.end-end.ensures, t.next) (l.invariant.2 ∙ block_next _ l.end _ _ t.read),
+    )
 
 pub returns : goal.returns
 returns c =
-    let l = c.loop-at in
-    sym (l.invariant.1 ∙ block_done _ l.at (omega arith))
+    let l = c.loop-line in
+    sym (l.invariant.2 ∙ block_end _ l.end l.invariant.0 (l.invariant.1 ∙ c.in-None.ensures.steps.0))

@@ -1,11 +1,13 @@
-use Prim.Native.Nat.{◌-◌, ◌≤◌}
+use Prim.Native.Nat.{◌≤◌}
 use mathlib.Core.Path.{◌≡◌}
 use lib.ListN.{length, drop}
 use Rattle.msg.specs.Block.{lines_after, is_block}
+use Rattle.msg.specs.Lines.{lines_ahead}
+use Rattle.msg.proofs.LookupLaws.{lines_left}
 use Rattle.msg.proofs.is_block.Given as goal
 
-abbrev pub invariant-loop-at : goal.invariant-loop-at
-invariant-loop-at l = (l.at ≤ length l.block) × (is_block l.block ≡ lines_after 0 (drop l.at l.block))
-
-abbrev pub decreases-loop-at : goal.decreases-loop-at
-decreases-loop-at l = length l.block - l.at
+abbrev pub invariant-loop-line : goal.invariant-loop-line
+invariant-loop-line l =
+    (l.end ≤ length l.block)
+    × (lines_left l.block l.end ≡ lines_ahead l.line-iterator)
+    × (is_block l.block ≡ lines_after 0 (drop l.end l.block))

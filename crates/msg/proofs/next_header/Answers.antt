@@ -7,7 +7,7 @@ use Rattle.limits.specs.Limits.{rust_limits}
 use Rattle.limits.specs.Outcome.{refuse_by}
 use Rattle.text.specs.Answers.{next_of}
 use Rattle.msg.specs.Block.{lookup_from, block_cause, first_named, lines_since, lines_of, stop_of, found_of}
-use Rattle.msg.proofs.LookupLaws.{long_name, short_name, no_stop, line_stop}
+use Rattle.msg.proofs.LookupLaws.{long_name, short_name, stop_answer}
 use Rattle.msg.proofs.next_header.Goals as goal
 use Rattle.msg.proofs.next_header.Goals.{After-find_from, In_ok-check_block}
 
@@ -28,8 +28,8 @@ pub returns-in_err-check_block : goal.returns-in_err-check_block
 unfolding lookup_from
 returns-in_err-check_block c = rw (short_name rust_limits c.args.block.now _ (sym c.too_long.ensures ∙ c.if-too_long.false), stopped (block_cause rust_limits c.args.block.now) (sym c.check_block.ensures ∙ c.in_err-check_block.was)) (search rules)
 
-pub returns-in_default : goal.returns-in_default
-returns-in_default c = rw (clear (goal.at.returns-in_default c).In_ok-check_block, no_stop (first_named c.args.name.now (lines_since c.args.from (lines_of c.args.block.now))) (since (goal.at.returns-in_default c).After-find_from ∙ c.in_default.is))
-
 pub returns : goal.returns
-returns c = line_stop (first_named c.args.name.now (lines_since c.args.from (lines_of c.args.block.now))) _ _ (since (goal.at.returns c).After-find_from ∙ c.in-Some.is) ∙ ap next_of (sym (clear (goal.at.returns c).In_ok-check_block))
+returns c =
+    ap Ok (sym (since (goal.at.returns c).After-find_from))
+    ∙ stop_answer (first_named c.args.name.now (lines_since c.args.from (lines_of c.args.block.now)))
+    ∙ ap next_of (sym (clear (goal.at.returns c).In_ok-check_block))

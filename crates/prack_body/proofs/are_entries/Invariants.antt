@@ -1,13 +1,8 @@
-use Prim.Native.Nat.{◌+◌, ◌-◌, ◌*◌, ◌≤◌}
-use mathlib.Core.Path.{◌≡◌}
-use lib.ListN.{drop}
+use Rattle.std.proofs.Common.{◌≡◌, ◌+◌, ◌-◌, ◌*◌, drop}
 use Rattle.codec.specs.Codec.{read_all}
 use Rattle.prack_body.specs.Layout.{pending_form}
 use Rattle.prack_body.specs.Places.{is_read}
 use Rattle.prack_body.proofs.are_entries.Given as goal
 
 abbrev pub invariant-loop-read : goal.invariant-loop-read
-invariant-loop-read l = (l.read ≤ l.count) × ((l.at ≡ l.first + l.read * 20) × (is_read (read_all pending_form l.count (drop l.first l.bytes)) ≡ is_read (read_all pending_form (l.count - l.read) (drop l.at l.bytes))))
-
-abbrev pub decreases-loop-read : goal.decreases-loop-read
-decreases-loop-read l = l.count - l.read
+invariant-loop-read l = is_read (read_all pending_form l.count (drop l.first l.bytes)) ≡ is_read (read_all pending_form (l.count - l.read) (drop (l.first + l.read * 20) l.bytes))

@@ -14,41 +14,39 @@ use Rattle.record.specs.NumbersForm.{meaning}
 use Rattle.image_writer.specs.Parts.{numbers_bytes}
 use Rattle.image_writer.proofs.FieldLaws.{refused_large, accepted}
 use Rattle.image_edit.specs.Changes.{changed}
-use Rattle.image_edit.proofs.ImageCuts.{Held, held_used}
+use Rattle.image_edit.proofs.ImageCuts.{Held, stands_held}
 use Rattle.route_set.specs.Routes.{routes_of}
 use Rattle.route_section.specs.Section.{route_texts}
 use Rattle.routes_edit.specs.Rerouted.{renewed_by}
-use Rattle.routes_edit.proofs.RoutesLaws.{Measured, measured, in_order, used_after_lem}
+use Rattle.routes_edit.proofs.RoutesLaws.{PeerRead, measured, in_order, used_after_lem}
 use native.Mathlib.Omega.{arith}
 use Rattle.record_renewal.proofs.revise_numbers_and_routes.Goals as goal
 use Rattle.record_renewal.proofs.revise_numbers_and_routes.Goals.{Start}
 
 -- the record among the used bytes, and the routes that were measured
-stood : (c : Start) (f : (i : ℕ) → get_or c.args.bytes.now i 0 < 256) → Held (take c.args.used c.args.bytes.now) c.args.at c.args.r
-stood c f =
-    let a = c.args in
-    held_used a.bytes.now a.used a.at f c.requires.used_in_bounds.0 c.requires.used_in_bounds.1 c.requires.bytes_value
+stood : (c : Start) (f : (i : ℕ) → get_or c.args.bytes.now i 0 < 256) → Held (take c.args.p.used c.args.bytes.now) c.args.p.at c.args.p.record
+stood c f = stands_held c.args.bytes.now c.args.p f c.requires.stands
 
-read : (c : Start) → Measured c.args.block.now c.args.count c.args.size
-read c = measured c.args.block.now c.args.count c.args.size c.requires.block_value
+read : (c : Start) → PeerRead c.args.peer.block.now c.args.peer.count c.args.peer.size
+read c = measured c.args.peer.block.now c.args.peer.count c.args.peer.size c.requires.measured.1
 
 -- what the change makes of the record
-becomes : (c : Start) (f : (i : ℕ) → get_or c.args.bytes.now i 0 < 256) → renewed_by (meaning c.args.numbers) (routes_of rust_limits c.args.block.now) (stood c f).value ≡ with_numbers (meaning c.args.numbers) (with_routes (route_texts true (read c).pieces) (stood c f).value)
+becomes : (c : Start) (f : (i : ℕ) → get_or c.args.bytes.now i 0 < 256) → renewed_by (meaning c.args.numbers) (routes_of rust_limits c.args.peer.block.now) (stood c f).value ≡ with_numbers (meaning c.args.numbers) (with_routes (route_texts true (read c).pieces) (stood c f).value)
 becomes c f = ap (λ (o : Result (List Piece) Refusal). renewed_by (meaning c.args.numbers) o (stood c f).value) (read c).is
 
 -- its places in their order
-within : (c : Start) (f : (i : ℕ) → get_or c.args.bytes.now i 0 < 256) → (c.args.r.uris.end ≤ c.args.r.end) × (c.args.r.end ≤ c.args.used)
+within : (c : Start) (f : (i : ℕ) → get_or c.args.bytes.now i 0 < 256) → (c.args.p.record.uris.end ≤ c.args.p.record.end) × (c.args.p.record.end ≤ c.args.p.used)
 within c f =
     let a = c.args in
-    let o = in_order (take a.used a.bytes.now) a.at a.r (stood c f) (renewed_by (meaning a.numbers) (routes_of rust_limits a.block.now)) (meaning a.numbers) (route_texts true (read c).pieces) (becomes c f) in
-    (o.2, omega (arith, o.3, length-take-le a.used a.bytes.now c.requires.used_in_bounds.0))
+    let o = in_order (take a.p.used a.bytes.now) a.p.at a.p.record (stood c f) (renewed_by (meaning a.numbers) (routes_of rust_limits a.peer.block.now)) (meaning a.numbers) (route_texts true (read c).pieces) (becomes c f) in
+    (o.2, omega (arith, o.3, length-take-le a.p.used a.bytes.now c.requires.stands.0))
 
 -- the new used length
-sized : (c : Start) (f : (i : ℕ) → get_or c.args.bytes.now i 0 < 256) → length (changed (renewed_by (meaning c.args.numbers) (routes_of rust_limits c.args.block.now)) c.args.at (take c.args.used c.args.bytes.now)) ≡ c.args.used - (c.args.r.end - c.args.r.uris.end) + (length (numbers_bytes (meaning c.args.numbers)) + c.args.size)
+sized : (c : Start) (f : (i : ℕ) → get_or c.args.bytes.now i 0 < 256) → length (changed (renewed_by (meaning c.args.numbers) (routes_of rust_limits c.args.peer.block.now)) c.args.p.at (take c.args.p.used c.args.bytes.now)) ≡ c.args.p.used - (c.args.p.record.end - c.args.p.record.uris.end) + (length (numbers_bytes (meaning c.args.numbers)) + c.args.peer.size)
 sized c f =
     let a = c.args in
-    let u = used_after_lem (take a.used a.bytes.now) a.at a.r (stood c f) (renewed_by (meaning a.numbers) (routes_of rust_limits a.block.now)) (meaning a.numbers) (route_texts true (read c).pieces) (becomes c f) in
-    omega (arith, u, length-take-le a.used a.bytes.now c.requires.used_in_bounds.0, (read c).size_is)
+    let u = used_after_lem (take a.p.used a.bytes.now) a.p.at a.p.record (stood c f) (renewed_by (meaning a.numbers) (routes_of rust_limits a.peer.block.now)) (meaning a.numbers) (route_texts true (read c).pieces) (becomes c f) in
+    omega (arith, u, length-take-le a.p.used a.bytes.now c.requires.stands.0, (read c).size_is)
 
 pub overflow_sub-old : goal.overflow_sub-old
 overflow_sub-old c = (within (goal.at.overflow_sub-old c).Start (λ i. (c.slice_known-1.given i).fits)).0
@@ -57,29 +55,17 @@ pub overflow_sub-result : goal.overflow_sub-result
 overflow_sub-result c = omega (arith, within (goal.at.overflow_sub-result c).Start (λ i. (c.slice_known-1.given i).fits))
 
 pub overflow_add-result : goal.overflow_add-result
-overflow_add-result c = omega (arith, within (goal.at.overflow_add-result c).Start (λ i. (c.slice_known-1.given i).fits), (c.numbers_size.ensures.upper_bound), c.requires.used_in_bounds.0, c.requires.used_in_bounds.3)
+overflow_add-result c = omega (arith, within (goal.at.overflow_add-result c).Start (λ i. (c.slice_known-1.given i).fits), (c.numbers_size.ensures.upper_bound), c.requires.stands.0, c.requires.size_bound)
 
 pub overflow_add-result-2 : goal.overflow_add-result-2
-overflow_add-result-2 c = omega (arith, within (goal.at.overflow_add-result-2 c).Start (λ i. (c.slice_known-1.given i).fits), (c.numbers_size.ensures.upper_bound), c.requires.used_in_bounds.0, c.requires.used_in_bounds.3)
+overflow_add-result-2 c = omega (arith, within (goal.at.overflow_add-result-2 c).Start (λ i. (c.slice_known-1.given i).fits), (c.numbers_size.ensures.upper_bound), c.requires.stands.0, c.requires.size_bound)
 
 pub returns-then-bytes-result : goal.returns-then-bytes-result
 returns-then-bytes-result c =
     let a = c.args in
     let s : c.numbers_size.result ≡ length (numbers_bytes (meaning a.numbers)) = c.numbers_size.ensures.value in
-    let old : _ × _ = refused_large (changed (renewed_by (meaning a.numbers) (routes_of rust_limits a.block.now)) a.at (take a.used a.bytes.now)) a.bytes.now (omega (arith, c.if-bytes-result.true, s, sized (goal.at.returns-then-bytes-result c).Start (λ i. (c.slice_known-1.given i).fits))) in
+    let old : _ × _ = refused_large (changed (renewed_by (meaning a.numbers) (routes_of rust_limits a.peer.block.now)) a.p.at (take a.p.used a.bytes.now)) a.bytes.now (omega (arith, c.if-bytes-result.true, s, sized (goal.at.returns-then-bytes-result c).Start (λ i. (c.slice_known-1.given i).fits))) in
     record { value = old.0; bytes_after = old.1 }
-
-pub change_numbers_and_routes-requires-clause-used_in_bounds : goal.change_numbers_and_routes-requires-clause-used_in_bounds
-change_numbers_and_routes-requires-clause-used_in_bounds c =
-    (c.requires.used_in_bounds.0, c.requires.used_in_bounds.1, c.requires.used_in_bounds.2)
-
-pub change_numbers_and_routes-requires-clause-bytes_value : goal.change_numbers_and_routes-requires-clause-bytes_value
-change_numbers_and_routes-requires-clause-bytes_value c =
-    c.requires.bytes_value
-
-pub change_numbers_and_routes-requires-clause-block_value : goal.change_numbers_and_routes-requires-clause-block_value
-change_numbers_and_routes-requires-clause-block_value c =
-    c.requires.block_value
 
 pub change_numbers_and_routes-requires-clause-bytes_in_bounds : goal.change_numbers_and_routes-requires-clause-bytes_in_bounds
 change_numbers_and_routes-requires-clause-bytes_in_bounds c =
@@ -91,5 +77,5 @@ pub returns : goal.returns
 returns c =
     let a = c.args in
     let s : c.numbers_size.result ≡ length (numbers_bytes (meaning a.numbers)) = c.numbers_size.ensures.value in
-    let old : _ × _ = accepted (changed (renewed_by (meaning a.numbers) (routes_of rust_limits a.block.now)) a.at (take a.used a.bytes.now)) a.bytes.now (omega (arith, c.if-bytes-result.false, s, sized (goal.at.returns c).Start (λ i. (c.slice_known-1.given i).fits))) c.change_numbers_and_routes.ensures.value (c.change_numbers_and_routes.ensures.bytes_after) in
+    let old : _ × _ = accepted (changed (renewed_by (meaning a.numbers) (routes_of rust_limits a.peer.block.now)) a.p.at (take a.p.used a.bytes.now)) a.bytes.now (omega (arith, c.if-bytes-result.false, s, sized (goal.at.returns c).Start (λ i. (c.slice_known-1.given i).fits))) c.change_numbers_and_routes.ensures.value (c.change_numbers_and_routes.ensures.bytes_after) in
     record { value = old.0; bytes_after = old.1 }

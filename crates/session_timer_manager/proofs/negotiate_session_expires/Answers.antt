@@ -20,4 +20,4 @@ pub returns : goal.returns
 unfolding negotiated
 returns c =
     let least = c.joint_minimum-least in
-    rw (c.smaller.ensures, c.larger.ensures, ← least.ensures, le-ltb c.args.requested least.result (omega arith), c.in-Some.is)
+    rw (c.min.ensures, c.max.ensures, ← least.ensures, le-ltb c.args.requested least.result (omega arith), c.in-Some.is)

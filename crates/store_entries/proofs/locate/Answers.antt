@@ -10,7 +10,7 @@ use Rattle.store_entries.proofs.locate.Goals as goal
 use Rattle.store_entries.proofs.locate.Goals.{In-Ok, Start}
 
 abbrev name : Start → Ident
-name c = ident c.args.call_id.now c.args.local_tag.now c.args.remote_tag.now
+name c = ident c.args.id.call_id.now c.args.id.local_tag.now c.args.id.remote_tag.now
 
 -- the store was read
 store : (c : In-Ok) → Kept c.args.bytes.now c.args.used
@@ -33,11 +33,11 @@ returns-in_default-search_id-clause-value c =
 pub returns-clause-value : goal.returns-clause-value
 returns-clause-value c =
     let at = c.in-Some.at in
-    let r = c.in-Some.r in
+    let r = c.in-Some.record in
     one c.args.bytes.now c.args.used (name (goal.at.returns-clause-value c).Start) (store (goal.at.returns-clause-value c).In-Ok) at r (sym c.in-Some.is ∙ c.search_id.ensures.value)
 
 pub returns-clause-ready : goal.returns-clause-ready
 returns-clause-ready c =
     let at = c.in-Some.at in
-    let r = c.in-Some.r in
+    let r = c.in-Some.record in
     ready c.args.bytes.now c.args.used (store (goal.at.returns-clause-ready c).In-Ok) at r (subst (Stands (take c.args.used c.args.bytes.now)) c.in-Some.is (c.search_id.ensures.stands))

@@ -1,58 +1,57 @@
 -- `store_ids::ids_size` meets its contract: the number is how many bytes the identifiers passed take. Assumes nothing.
-use Prim.Native.Nat.{ℕ}
-use mathlib.Core.Path.{sym, ap, ◌∙◌}
-use mathlib.Core.List.{List}
-use lib.ListN.{length}
-use Rattle.codec.proofs.CodecLaws.{Bytes, bytes_all}
-use Rattle.record_walk.specs.Walk.{At}
-use Rattle.store_ids.proofs.IdentifierLaws.{More, done, stands, next, measure, measured, small}
+use Prim.Native.Nat.{ℕ, ◌+◌}
 use native.Mathlib.Omega.{arith}
+use mathlib.Core.Path.{sym, ap, subst, ◌∙◌}
+use lib.ListN.{length}
+use Rattle.codec.proofs.CodecLaws.{bytes_all}
+use Rattle.image.specs.declared.sections.IdsAt.{IdsAt}
+use Rattle.store.specs.Identifiers.{IdsRead}
+use Rattle.record_walk.proofs.Walks.{Given, begun, given, ended}
+use Rattle.dialog_manager.proofs.SearchLaws.{stored_whole}
+use Rattle.store_ids.proofs.IdentifierLaws.{More, Measured, done, next, measure, measured, small}
 use Rattle.store_ids.proofs.ids_size.Goals as goal
-use Rattle.store_ids.proofs.ids_size.Goals.{After-ids_at-ids, In-loop-at}
+use Rattle.store_ids.proofs.ids_size.Goals.{In-Some}
 
--- the bytes, and that they are bytes
-abbrev s : In-loop-at → List ℕ
-s c = c.args.bytes.now
+-- the walk's turn
+taken : (c : In-Some) → Given c.args.bytes.now c.loop-at.at-iterator c.in-Some.at c.next.new.self
+taken c = given c.args.bytes.now c.loop-at.at-iterator c.loop-at.invariant.0 c.in-Some.ensures.steps
 
-known-at-After-ids_at-ids : (c : After-ids_at-ids) → Bytes (c.args.bytes.now)
-known-at-After-ids_at-ids c = bytes_all (c.args.bytes.now) (λ i. (c.type_inv.bytes i).fits)
-
--- a record stands where the turn begins
-here : (c : In-loop-at) → At (c.args.bytes.now) c.loop-at.at
-here c = let g = c.loop-at in stands (c.args.bytes.now) g.at g.invariant.passed c.loop-at-test.true
+-- the number so far, where the record stands
+now : (c : In-Some) → Measured c.args.bytes.now c.in-Some.at c.loop-at.n
+now c = subst (λ (at : ℕ). Measured c.args.bytes.now at c.loop-at.n) (sym (taken c).from) c.loop-at.invariant.1
 
 -- its identifier is that of the turn
-adds : (c : After-ids_at-ids) → More (c.args.bytes.now) c.loop-at.at c.loop-at.invariant.passed c.ids_at-ids.result
-adds c =
-    let g = c.loop-at in
-    next (c.args.bytes.now) g.at g.invariant.passed c.loop-at-test.true c.ids_at-ids.result (known-at-After-ids_at-ids c) c.ids_at-ids.ensures
+adds : (c : In-Some) (i : IdsAt) → IdsRead c.args.bytes.now c.in-Some.at i → More c.args.bytes.now c.in-Some.at (now c).passed i
+adds c i e = next c.args.bytes.now c.in-Some.at (now c).passed (taken c).more i (bytes_all c.args.bytes.now (λ i. (c.type_inv.bytes i).fits)) e
+
+pub new-at-items-requires : goal.new-at-items-requires
+new-at-items-requires c = stored_whole c.args.bytes.now c.requires
 
 pub loop-at-init : goal.loop-at-init
-loop-at-init c = let s = c.args.bytes.now in measure s (bytes_all s (λ i. (c.type_inv.bytes i).fits)) c.requires
+loop-at-init c =
+    let s = c.args.bytes.now in
+    let b = begun s _ _ c.into_iter-at-iterator.ensures.into_iter_gives c.new-at-items.ensures.bytes c.new-at-items.ensures.at in
+    (b.0, subst (λ (at : ℕ). Measured s at 0) (sym b.1) (measure s (bytes_all s (λ i. (c.type_inv.bytes i).fits)) c.requires))
 
 pub ids_at-ids-requires : goal.ids_at-ids-requires
-ids_at-ids-requires c = here c
+ids_at-ids-requires c = (taken c).here
 
 pub id_size-n-requires : goal.id_size-n-requires
-id_size-n-requires c = (adds c).short
+id_size-n-requires c = (adds (goal.at.id_size-n-requires c).In-Some c.ids_at-ids.result c.ids_at-ids.ensures).short
 
 pub overflow_add-n : goal.overflow_add-n
 overflow_add-n c =
-    let g = c.loop-at in
-    omega (arith, small (c.args.bytes.now) g.at g.n g.invariant c.ids_at-ids.result (adds (goal.at.overflow_add-n c).After-ids_at-ids) c.id_size-n.ensures)
-
-pub record_end-at-requires : goal.record_end-at-requires
-record_end-at-requires c = here (goal.at.record_end-at-requires c).In-loop-at
-
-pub loop-at-smaller : goal.loop-at-smaller
-loop-at-smaller c = let m = adds (goal.at.loop-at-smaller c).After-ids_at-ids in omega (arith, c.record_end-at.ensures, m.moves, m.after.here)
+    let i = (goal.at.overflow_add-n c).In-Some in
+    omega (arith, small c.args.bytes.now c.in-Some.at c.loop-at.n (now i) c.ids_at-ids.result (adds i c.ids_at-ids.result c.ids_at-ids.ensures) c.id_size-n.ensures)
 
 pub loop-at-preserved : goal.loop-at-preserved
 loop-at-preserved c =
-    let g = c.loop-at in
-    measured (c.args.bytes.now) g.at g.n g.invariant c.ids_at-ids.result (adds (goal.at.loop-at-preserved c).After-ids_at-ids) c.id_size-n.ensures c.record_end-at.ensures
+    let i = (goal.at.loop-at-preserved c).In-Some in
+    ((taken i).same, measured c.args.bytes.now c.in-Some.at c.loop-at.n (now i) c.ids_at-ids.result (adds i c.ids_at-ids.result c.ids_at-ids.ensures) c.id_size-n.ensures (taken i).ends)
 
 pub returns : goal.returns
 returns c =
-    let g = c.loop-at in
-    g.invariant.size ∙ ap length (sym (done c.args.bytes.now g.at g.invariant.passed c.loop-at-test.false))
+    let s = c.args.bytes.now in
+    let r = c.loop-at.at-iterator in
+    let m = c.loop-at.invariant.1 in
+    m.size ∙ ap length (sym (done s r.at m.passed (ended s r c.loop-at.invariant.0 c.next.new.self c.in-None.ensures.steps)))

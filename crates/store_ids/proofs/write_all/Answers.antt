@@ -1,64 +1,62 @@
 -- `store_ids::write_all` meets its contract: the front of the output is the identifiers passed, the bytes after it are what they were. Assumes nothing.
 use Prim.Native.Nat.{ℕ}
-use mathlib.Core.Path.{sym, ap, ◌∙◌}
+use mathlib.Core.Path.{sym, ap, subst, ◌∙◌}
 use mathlib.Core.List.{List}
 use Rattle.edit.specs.Edit.{over}
-use Rattle.codec.proofs.CodecLaws.{Bytes, bytes_all}
-use Rattle.record_walk.specs.Walk.{At}
-use Rattle.store_ids.proofs.IdentifierLaws.{More, done, stands, next, fill, free, filled}
-use native.Mathlib.Omega.{arith}
+use Rattle.codec.proofs.CodecLaws.{bytes_all}
+use Rattle.image.specs.declared.sections.IdsAt.{IdsAt}
+use Rattle.store.specs.Identifiers.{IdsRead}
+use Rattle.record_walk.proofs.Walks.{Given, begun, given, ended}
+use Rattle.dialog_manager.proofs.SearchLaws.{stored_whole}
+use Rattle.store_ids.proofs.IdentifierLaws.{More, Filled, done, next, fill, free, filled}
 use Rattle.store_ids.proofs.write_all.Goals as goal
-use Rattle.store_ids.proofs.write_all.Goals.{After-ids_at-ids, In-loop-at}
+use Rattle.store_ids.proofs.write_all.Goals.{In-Some}
 
-known-at-After-ids_at-ids : (c : After-ids_at-ids) → Bytes (c.args.bytes.now)
-known-at-After-ids_at-ids c = bytes_all (c.args.bytes.now) (λ i. (c.type_inv.bytes i).fits)
+-- the walk's turn
+taken : (c : In-Some) → Given c.args.bytes.now c.loop-at.at-iterator c.in-Some.at c.next.new.self
+taken c = given c.args.bytes.now c.loop-at.at-iterator c.loop-at.invariant.0 c.in-Some.ensures.steps
 
--- a record stands where the turn begins
-here : (c : In-loop-at) → At (c.args.bytes.now) c.loop-at.at
-here c = let g = c.loop-at in stands (c.args.bytes.now) g.at g.invariant.passed c.loop-at-test.true
+-- the output so far, where the record stands
+now : (c : In-Some) → Filled c.args.bytes.now c.args.out.now c.in-Some.at c.loop-at.to c.loop-at.out
+now c = subst (λ (at : ℕ). Filled c.args.bytes.now c.args.out.now at c.loop-at.to c.loop-at.out) (sym (taken c).from) c.loop-at.invariant.1
 
 -- its identifier is that of the turn
-adds : (c : After-ids_at-ids) → More (c.args.bytes.now) c.loop-at.at c.loop-at.invariant.passed c.ids_at-ids.result
-adds c =
-    let g = c.loop-at in
-    next (c.args.bytes.now) g.at g.invariant.passed c.loop-at-test.true c.ids_at-ids.result (known-at-After-ids_at-ids c) c.ids_at-ids.ensures
+adds : (c : In-Some) (i : IdsAt) → IdsRead c.args.bytes.now c.in-Some.at i → More c.args.bytes.now c.in-Some.at (now c).passed i
+adds c i e = next c.args.bytes.now c.in-Some.at (now c).passed (taken c).more i (bytes_all c.args.bytes.now (λ i. (c.type_inv.bytes i).fits)) e
+
+pub new-at-items-requires : goal.new-at-items-requires
+new-at-items-requires c = stored_whole c.args.bytes.now c.requires.stored
 
 pub loop-at-init : goal.loop-at-init
-loop-at-init c = let a = c.args in fill a.bytes.now a.out.now (bytes_all a.bytes.now (λ i. (c.type_inv.bytes i).fits)) c.requires.stored
+loop-at-init c =
+    let s = c.args.bytes.now in
+    let out = c.args.out.now in
+    let b = begun s _ _ c.into_iter-at-iterator.ensures.into_iter_gives c.new-at-items.ensures.bytes c.new-at-items.ensures.at in
+    (b.0, subst (λ (at : ℕ). Filled s out at 0 out) (sym b.1) (fill s out (bytes_all s (λ i. (c.type_inv.bytes i).fits)) c.requires.stored))
 
 pub ids_at-ids-requires : goal.ids_at-ids-requires
-ids_at-ids-requires c = here c
+ids_at-ids-requires c = (taken c).here
 
 pub write_id-to-requires-clause-ids_within : goal.write_id-to-requires-clause-ids_within
-write_id-to-requires-clause-ids_within c =
-    let m = adds (goal.at.write_id-to-requires-clause-ids_within c).After-ids_at-ids in
-    m.within
+write_id-to-requires-clause-ids_within c = (adds (goal.at.write_id-to-requires-clause-ids_within c).In-Some c.ids_at-ids.result c.ids_at-ids.ensures).within
 
 pub write_id-to-requires-clause-ids_short : goal.write_id-to-requires-clause-ids_short
-write_id-to-requires-clause-ids_short c =
-    let m = adds (goal.at.write_id-to-requires-clause-ids_short c).After-ids_at-ids in
-    m.short
+write_id-to-requires-clause-ids_short c = (adds (goal.at.write_id-to-requires-clause-ids_short c).In-Some c.ids_at-ids.result c.ids_at-ids.ensures).short
 
 pub write_id-to-requires-clause-ids_in_bounds : goal.write_id-to-requires-clause-ids_in_bounds
 write_id-to-requires-clause-ids_in_bounds c =
-    let g = c.loop-at in
-    let m = adds (goal.at.write_id-to-requires-clause-ids_in_bounds c).After-ids_at-ids in
-    free (c.args.bytes.now) (c.args.out.now) g.at g.to g.out g.invariant c.requires.bytes_in_bounds c.ids_at-ids.result m
-
-pub record_end-at-requires : goal.record_end-at-requires
-record_end-at-requires c = here (goal.at.record_end-at-requires c).In-loop-at
-
-pub loop-at-smaller : goal.loop-at-smaller
-loop-at-smaller c = let m = adds (goal.at.loop-at-smaller c).After-ids_at-ids in omega (arith, c.record_end-at.ensures, m.moves, m.after.here)
+    let i = (goal.at.write_id-to-requires-clause-ids_in_bounds c).In-Some in
+    free c.args.bytes.now c.args.out.now c.in-Some.at c.loop-at.to c.loop-at.out (now i) c.requires.bytes_in_bounds c.ids_at-ids.result (adds i c.ids_at-ids.result c.ids_at-ids.ensures)
 
 pub loop-at-preserved : goal.loop-at-preserved
 loop-at-preserved c =
     let w = c.write_id-to.ensures in
-    let g = c.loop-at in
-    filled (c.args.bytes.now) (c.args.out.now) g.at g.to g.out g.invariant c.requires.bytes_in_bounds c.ids_at-ids.result (adds (goal.at.loop-at-preserved c).After-ids_at-ids) c.record_end-at.ensures w.value (w.out_after)
+    let i = (goal.at.loop-at-preserved c).In-Some in
+    ((taken i).same, filled c.args.bytes.now c.args.out.now c.in-Some.at c.loop-at.to c.loop-at.out (now i) c.requires.bytes_in_bounds c.ids_at-ids.result (adds i c.ids_at-ids.result c.ids_at-ids.ensures) (taken i).ends w.value w.out_after)
 
 pub returns : goal.returns
 returns c =
-    let g = c.loop-at in
-    let a = c.args in
-    g.invariant.are ∙ ap (λ (t : List ℕ). over t a.out.now) (sym (done a.bytes.now g.at g.invariant.passed c.loop-at-test.false))
+    let s = c.args.bytes.now in
+    let r = c.loop-at.at-iterator in
+    let m = c.loop-at.invariant.1 in
+    m.are ∙ ap (λ (t : List ℕ). over t c.args.out.now) (sym (done s r.at m.passed (ended s r c.loop-at.invariant.0 c.next.new.self c.in-None.ensures.steps)))

@@ -3,8 +3,8 @@ use native.Mathlib.Omega.{arith}
 use mathlib.Core.Path.{sym, ap, ◌∙◌}
 use Rattle.std.specs.Prelude.{Option}
 use Rattle.dialog_rules.proofs.PlacedLaws.{Asked, asked, not_asked}
-use Rattle.dialog_id.specs.Ident.{Ident}
-use Rattle.store_entries.specs.Entries.{spot_named, standing_of}
+use Rattle.dialog_id.specs.Ident.{Ident, ident}
+use Rattle.store_entries.specs.Entries.{spot_in, spot_named, standing_of}
 use Rattle.store_requests.proofs.RequestLaws.{named_is, named_none}
 use Rattle.store_requests.proofs.locate_named.Goals as goal
 use Rattle.store_requests.proofs.locate_named.Goals.{In-Some}
@@ -16,11 +16,11 @@ request_asked c = asked c.args.block.now c.in-Some.i (sym c.in-Some.is ∙ c.req
 pub returns-in_default-clause-value : goal.returns-in_default-clause-value
 returns-in_default-clause-value c =
     let n = not_asked _ (sym c.in_default.is ∙ c.request_id_in.ensures) in
-    c.nowhere.ensures.value ∙ ap (λ (o : Option Ident). standing_of (spot_named o c.args.bytes.now c.args.used)) (sym (named_none c.args.block.now n))
+    c.nowhere.ensures.value ∙ ap (λ (o : Option Ident). standing_of c.args.used (spot_named o c.args.bytes.now c.args.used)) (sym (named_none c.args.block.now n))
 
-pub locate_parts-requires : goal.locate_parts-requires
-locate_parts-requires c =
-    let q = request_asked (goal.at.locate_parts-requires c).In-Some in
+pub texts-named-requires : goal.texts-named-requires
+texts-named-requires c =
+    let q = request_asked (goal.at.texts-named-requires c).In-Some in
     let a = q.placed.call_id.fits in
     let l = q.placed.local_tag.fits in
     let r = q.placed.remote_tag.fits in
@@ -29,4 +29,6 @@ locate_parts-requires c =
 pub returns-clause-value : goal.returns-clause-value
 returns-clause-value c =
     let a = c.args in
-    c.locate_parts.ensures.value ∙ ap (λ (o : Option Ident). standing_of (spot_named o a.bytes.now a.used)) (sym (named_is a.block.now c.in-Some.i (request_asked (goal.at.returns-clause-value c).In-Some)))
+    c.locate.ensures.value
+    ∙ ap (λ (k : Ident). standing_of a.used (spot_in (ident k.call_id k.remote_tag k.local_tag) a.bytes.now a.used)) c.texts-named.ensures
+    ∙ ap (λ (o : Option Ident). standing_of a.used (spot_named o a.bytes.now a.used)) (sym (named_is a.block.now c.in-Some.i (request_asked (goal.at.returns-clause-value c).In-Some)))

@@ -59,41 +59,43 @@ returns-then-too_long-clause-used_value c =
     let a = c.args in
     second_second (request_long a.method.now a.block.now a.bytes.now a.used (sym c.too_long.ensures ∙ c.if-too_long.true))
 
-pub request_by-requires-clause-used_in_bounds : goal.request_by-requires-clause-used_in_bounds
-request_by-requires-clause-used_in_bounds c =
+pub request_by-requires-clause-stands : goal.request_by-requires-clause-stands
+request_by-requires-clause-stands c = subst (Ready c.args.bytes.now) c.in_ok-p.was c.locate_named.ensures.ready
+
+pub request_by-requires-clause-block_value : goal.request_by-requires-clause-block_value
+request_by-requires-clause-block_value c =
     let a = c.args in
-    let w = subst (Ready a.bytes.now a.used) c.in_ok-at.was (c.locate_named.ensures.ready) in
-    (w.0.0, w.0.1, short_block rust_limits a.block.now (checked (goal.at.request_by-requires-clause-used_in_bounds c).In_ok-t), ap (λ (x : HeaderTable). x.cseq) (table (goal.at.request_by-requires-clause-used_in_bounds c).In_ok-t), ap (λ (x : HeaderTable). x.contact) (table (goal.at.request_by-requires-clause-used_in_bounds c).In_ok-t))
+    (short_block rust_limits a.block.now (checked (goal.at.request_by-requires-clause-block_value c).In_ok-t), ap (λ (x : HeaderTable). x.cseq) (table (goal.at.request_by-requires-clause-block_value c).In_ok-t), ap (λ (x : HeaderTable). x.contact) (table (goal.at.request_by-requires-clause-block_value c).In_ok-t))
 
 pub returns-clause-value : goal.returns-clause-value
 returns-clause-value c =
     let a = c.args in
-    first (request_done a.method.now a.block.now a.bytes.now a.used (short (goal.at.returns-clause-value c).In_ok-t) (good (goal.at.returns-clause-value c).In_ok-t) (bytes_all a.bytes.now (λ i. (c.slice_known-1.given i).fits)) c.in_ok-at.at c.in_ok-at.r (sym c.in_ok-at.was ∙ c.locate_named.ensures.value) c.request_by.result c.request_by.new.bytes (c.request_by.ensures.value, c.request_by.ensures.bytes_after))
+    first (request_done a.method.now a.block.now a.bytes.now a.used (short (goal.at.returns-clause-value c).In_ok-t) (good (goal.at.returns-clause-value c).In_ok-t) (bytes_all a.bytes.now (λ i. (c.slice_known-1.given i).fits)) c.in_ok-p.p (sym c.in_ok-p.was ∙ c.locate_named.ensures.value) c.request_by.result c.request_by.new.bytes (c.request_by.ensures.value, c.request_by.ensures.bytes_after))
 
 pub returns-clause-bytes_after : goal.returns-clause-bytes_after
 returns-clause-bytes_after c =
     let a = c.args in
-    second_first (request_done a.method.now a.block.now a.bytes.now a.used (short (goal.at.returns-clause-bytes_after c).In_ok-t) (good (goal.at.returns-clause-bytes_after c).In_ok-t) (bytes_all a.bytes.now (λ i. (c.slice_known-1.given i).fits)) c.in_ok-at.at c.in_ok-at.r (sym c.in_ok-at.was ∙ c.locate_named.ensures.value) c.request_by.result c.request_by.new.bytes (c.request_by.ensures.value, c.request_by.ensures.bytes_after))
+    second_first (request_done a.method.now a.block.now a.bytes.now a.used (short (goal.at.returns-clause-bytes_after c).In_ok-t) (good (goal.at.returns-clause-bytes_after c).In_ok-t) (bytes_all a.bytes.now (λ i. (c.slice_known-1.given i).fits)) c.in_ok-p.p (sym c.in_ok-p.was ∙ c.locate_named.ensures.value) c.request_by.result c.request_by.new.bytes (c.request_by.ensures.value, c.request_by.ensures.bytes_after))
 
 pub returns-clause-used_value : goal.returns-clause-used_value
 returns-clause-used_value c =
     let a = c.args in
-    second_second (request_done a.method.now a.block.now a.bytes.now a.used (short (goal.at.returns-clause-used_value c).In_ok-t) (good (goal.at.returns-clause-used_value c).In_ok-t) (bytes_all a.bytes.now (λ i. (c.slice_known-1.given i).fits)) c.in_ok-at.at c.in_ok-at.r (sym c.in_ok-at.was ∙ c.locate_named.ensures.value) c.request_by.result c.request_by.new.bytes (c.request_by.ensures.value, c.request_by.ensures.bytes_after))
+    second_second (request_done a.method.now a.block.now a.bytes.now a.used (short (goal.at.returns-clause-used_value c).In_ok-t) (good (goal.at.returns-clause-used_value c).In_ok-t) (bytes_all a.bytes.now (λ i. (c.slice_known-1.given i).fits)) c.in_ok-p.p (sym c.in_ok-p.was ∙ c.locate_named.ensures.value) c.request_by.result c.request_by.new.bytes (c.request_by.ensures.value, c.request_by.ensures.bytes_after))
 
-pub returns-in_err-at-clause-value : goal.returns-in_err-at-clause-value
-returns-in_err-at-clause-value c =
+pub returns-in_err-p-clause-value : goal.returns-in_err-p-clause-value
+returns-in_err-p-clause-value c =
     let a = c.args in
-    err_is c.from_residual-in_err-at.result _ c.from_residual-in_err-at.ensures.1 ∙ first (request_turned a.method.now a.block.now a.bytes.now a.used (short (goal.at.returns-in_err-at-clause-value c).In_ok-t) (good (goal.at.returns-in_err-at-clause-value c).In_ok-t) (sym c.in_err-at.was ∙ c.locate_named.ensures.value))
+    err_is c.from_residual-in_err-p.result _ c.from_residual-in_err-p.ensures.1 ∙ first (request_turned a.method.now a.block.now a.bytes.now a.used (short (goal.at.returns-in_err-p-clause-value c).In_ok-t) (good (goal.at.returns-in_err-p-clause-value c).In_ok-t) (sym c.in_err-p.was ∙ c.locate_named.ensures.value))
 
-pub returns-in_err-at-clause-bytes_after : goal.returns-in_err-at-clause-bytes_after
-returns-in_err-at-clause-bytes_after c =
+pub returns-in_err-p-clause-bytes_after : goal.returns-in_err-p-clause-bytes_after
+returns-in_err-p-clause-bytes_after c =
     let a = c.args in
-    second_first (request_turned a.method.now a.block.now a.bytes.now a.used (short (goal.at.returns-in_err-at-clause-bytes_after c).In_ok-t) (good (goal.at.returns-in_err-at-clause-bytes_after c).In_ok-t) (sym c.in_err-at.was ∙ c.locate_named.ensures.value))
+    second_first (request_turned a.method.now a.block.now a.bytes.now a.used (short (goal.at.returns-in_err-p-clause-bytes_after c).In_ok-t) (good (goal.at.returns-in_err-p-clause-bytes_after c).In_ok-t) (sym c.in_err-p.was ∙ c.locate_named.ensures.value))
 
-pub returns-in_err-at-clause-used_value : goal.returns-in_err-at-clause-used_value
-returns-in_err-at-clause-used_value c =
+pub returns-in_err-p-clause-used_value : goal.returns-in_err-p-clause-used_value
+returns-in_err-p-clause-used_value c =
     let a = c.args in
-    ap (λ (r : Result ℕ Refusal). used_after r a.used) (err_is c.from_residual-in_err-at.result _ c.from_residual-in_err-at.ensures.1) ∙ second_second (request_turned a.method.now a.block.now a.bytes.now a.used (short (goal.at.returns-in_err-at-clause-used_value c).In_ok-t) (good (goal.at.returns-in_err-at-clause-used_value c).In_ok-t) (sym c.in_err-at.was ∙ c.locate_named.ensures.value))
+    ap (λ (r : Result ℕ Refusal). used_after r a.used) (err_is c.from_residual-in_err-p.result _ c.from_residual-in_err-p.ensures.1) ∙ second_second (request_turned a.method.now a.block.now a.bytes.now a.used (short (goal.at.returns-in_err-p-clause-used_value c).In_ok-t) (good (goal.at.returns-in_err-p-clause-used_value c).In_ok-t) (sym c.in_err-p.was ∙ c.locate_named.ensures.value))
 
 pub returns-in_err-t-clause-value : goal.returns-in_err-t-clause-value
 returns-in_err-t-clause-value c =

@@ -47,7 +47,7 @@ returns-then-used-eq-RUN_ROOM c =
     let p = c.max-t.ensures in
     let f = c.if-used-eq-RUN_ROOM.true in
     wrote a.bytes.now (drops v a.bytes.now a.used h b (read (goal.at.returns-then-used-eq-RUN_ROOM c).In-Some) p f) (drops_length v a.bytes.now a.used h b (read (goal.at.returns-then-used-eq-RUN_ROOM c).In-Some) p f)
-    (drops_bytes v a.bytes.now a.used h b (read (goal.at.returns-then-used-eq-RUN_ROOM c).In-Some) p f c.move_left.ensures c.write_entry.ensures) in
+    (drops_bytes v a.bytes.now a.used h b (read (goal.at.returns-then-used-eq-RUN_ROOM c).In-Some) p f c.shift.ensures c.write_entry.ensures) in
     record { value = old.0; bytes_after = old.1 }
 
 pub returns-then-bytes-used-lt-ENTRY_SIZE : goal.returns-then-bytes-used-lt-ENTRY_SIZE

@@ -12,10 +12,10 @@ use Rattle.dialog_id.proofs.DialogId.new.Goals.{In_ok-check_lengths, Start}
 
 -- the three texts
 abbrev id : Start → Ident
-id c = ident c.args.call_id.now c.args.local_tag.now c.args.remote_tag.now
+id c = ident c.args.id.call_id.now c.args.id.local_tag.now c.args.id.remote_tag.now
 
 abbrev id-at-In_ok-check_lengths : In_ok-check_lengths → Ident
-id-at-In_ok-check_lengths c = ident c.args.call_id.now c.args.local_tag.now c.args.remote_tag.now
+id-at-In_ok-check_lengths c = ident c.args.id.call_id.now c.args.id.local_tag.now c.args.id.remote_tag.now
 
 -- past the lengths, the causes of the three parts
 abbrev parts_of : Ident → Type 0

@@ -24,17 +24,17 @@ abbrev s-at-In-Ok : In-Ok → List ℕ
 s-at-In-Ok c = c.args.bytes.now
 
 abbrev q : Start → Reading
-q c = let a = c.args in getting a.call_id.now a.local_tag.now a.remote_tag.now
+q c = let a = c.args in getting a.id.call_id.now a.id.local_tag.now a.id.remote_tag.now
 
 abbrev q-at-In_ok-check_lengths : In_ok-check_lengths → Reading
-q-at-In_ok-check_lengths c = let a = c.args in getting a.call_id.now a.local_tag.now a.remote_tag.now
+q-at-In_ok-check_lengths c = let a = c.args in getting a.id.call_id.now a.id.local_tag.now a.id.remote_tag.now
 
 -- no text is too long
 clear : (c : In_ok-check_lengths) → reading_cause rust_limits (q-at-In_ok-check_lengths c) ≡ None
 clear c =
     let a = c.args in
-    get_cause rust_limits a.call_id.now a.local_tag.now a.remote_tag.now
-    ∙ passed (ident_cause rust_limits (ident a.call_id.now a.local_tag.now a.remote_tag.now)) (sym c.check_lengths.ensures ∙ c.in_ok-check_lengths.was)
+    get_cause rust_limits a.id.call_id.now a.id.local_tag.now a.id.remote_tag.now
+    ∙ passed (ident_cause rust_limits (ident a.id.call_id.now a.id.local_tag.now a.id.remote_tag.now)) (sym c.check_lengths.ensures ∙ c.in_ok-check_lengths.was)
 
 store : (c : In-Ok) → Kept (s-at-In-Ok c) c.args.used
 store c = kept (s-at-In-Ok c) c.args.used (sym c.count.ensures ∙ c.in-Ok.is)
@@ -43,7 +43,7 @@ pub returns-in_err-check_lengths : goal.returns-in_err-check_lengths
 returns-in_err-check_lengths c =
     let a = c.args in
     ap answer_in (err_is c.from_residual.result _ c.from_residual.ensures.1) ∙ arguments_refuse rust_limits (length (s (goal.at.returns-in_err-check_lengths c).Start)) (q (goal.at.returns-in_err-check_lengths c).Start) (s (goal.at.returns-in_err-check_lengths c).Start) a.used (bytes_all c.args.bytes.now (λ i. (c.type_inv.bytes i).fits))
-    (get_cause rust_limits a.call_id.now a.local_tag.now a.remote_tag.now ∙ stopped (ident_cause rust_limits (ident a.call_id.now a.local_tag.now a.remote_tag.now)) (sym c.check_lengths.ensures ∙ c.in_err-check_lengths.was))
+    (get_cause rust_limits a.id.call_id.now a.id.local_tag.now a.id.remote_tag.now ∙ stopped (ident_cause rust_limits (ident a.id.call_id.now a.id.local_tag.now a.id.remote_tag.now)) (sym c.check_lengths.ensures ∙ c.in_err-check_lengths.was))
 
 pub returns-in_default : goal.returns-in_default
 returns-in_default c =
@@ -59,4 +59,4 @@ pub returns : goal.returns
 returns c =
     let a = c.args in
     replies rust_limits (length (s (goal.at.returns c).Start)) (q (goal.at.returns c).Start) (s (goal.at.returns c).Start) a.used (bytes_all c.args.bytes.now (λ i. (c.type_inv.bytes i).fits)) (clear (goal.at.returns c).In_ok-check_lengths) (store (goal.at.returns c).In-Ok) (answer_in c.place_of.result)
-    (c.place_of.ensures ∙ get_reply (s (goal.at.returns c).Start) a.used (store (goal.at.returns c).In-Ok) a.call_id.now a.local_tag.now a.remote_tag.now)
+    (c.place_of.ensures ∙ get_reply (s (goal.at.returns c).Start) a.used (store (goal.at.returns c).In-Ok) a.id.call_id.now a.id.local_tag.now a.id.remote_tag.now)

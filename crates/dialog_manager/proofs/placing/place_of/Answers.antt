@@ -10,7 +10,7 @@ use Rattle.dialog_manager.proofs.placing.place_of.Goals as goal
 use Rattle.dialog_manager.proofs.placing.place_of.Goals.{In-Some, Start}
 
 abbrev test : Start → Record → Bool
-test c = named c.args.call_id.now c.args.local_tag.now c.args.remote_tag.now
+test c = named c.args.id.call_id.now c.args.id.local_tag.now c.args.id.remote_tag.now
 
 known : (c : In-Some) → Bytes (c.args.bytes.now)
 known c = bytes_all (c.args.bytes.now) (λ i. (c.type_inv.bytes i).fits)

@@ -1,6 +1,10 @@
--- `placing::place_of_request` meets its contract: the parts that are lent are those that the spans name. Assumes nothing.
-use native.Mathlib.Nat.{add-sub_cancel_left}
+-- `placing::place_of_request` meets its contract: the texts that are looked for are those of the parts, the tags swapped. Assumes nothing.
+use mathlib.Core.Path.{ap, ◌∙◌}
+use Rattle.record.specs.Store.{decode_all}
+use Rattle.dialog_id.specs.Ident.{Ident}
+use Rattle.dialog_manager.specs.Search.{named}
+use Rattle.dialog_manager.specs.Lookups.{place_in}
 use Rattle.dialog_manager.proofs.placing.place_of_request.Goals as goal
 
 pub returns : goal.returns
-returns c = rw (← add-sub_cancel_left c.args.i.call_id.start c.args.i.call_id.length, ← add-sub_cancel_left c.args.i.remote_tag.start c.args.i.remote_tag.length, ← add-sub_cancel_left c.args.i.local_tag.start c.args.i.local_tag.length) c.place_of.ensures
+returns c = c.place_of.ensures ∙ ap (λ (i : Ident). place_in (named i.call_id i.remote_tag i.local_tag) (decode_all c.args.bytes.now)) c.texts-named.ensures

@@ -1,11 +1,6 @@
-use Prim.Native.Nat.{◌-◌}
 use mathlib.Core.Path.{◌≡◌}
-use lib.ListN.{length}
-use Rattle.distinct.specs.Pairs.{WholeFrom, alone_from}
+use Rattle.distinct.specs.Pairs.{alone_from}
 use Rattle.distinct.proofs.pairs.is_alone.Given as goal
 
 abbrev pub invariant-loop-q : goal.invariant-loop-q
-invariant-loop-q l = WholeFrom l.bytes l.q × (alone_from l.bytes l.p l.from ≡ alone_from l.bytes l.p l.q)
-
-abbrev pub decreases-loop-q : goal.decreases-loop-q
-decreases-loop-q l = length l.bytes - l.q
+invariant-loop-q l = (l.q-iterator.bytes.now ≡ l.bytes) × (alone_from l.bytes l.p l.fn.others.at ≡ alone_from l.bytes l.p l.q-iterator.at)

@@ -1,13 +1,9 @@
-use Prim.Native.Nat.{◌+◌, ◌-◌}
 use mathlib.Core.Path.{◌≡◌}
-use lib.ListN.{length}
 use Rattle.text.specs.Text.{is, split}
-use Rattle.text.proofs.Words.{left}
+use Rattle.text.specs.Segments.{pieces_left}
+use Rattle.text.proofs.SegmentLaws.{texts}
 use Rattle.headers.specs.SessionExpires.{refresher_in}
 use Rattle.headers.proofs.session_timer.find_refresher.Given as goal
 
-abbrev pub invariant-loop-at : goal.invariant-loop-at
-invariant-loop-at l = refresher_in (split (is 59) l.parts) ≡ refresher_in (left (is 59) l.parts l.at)
-
-abbrev pub decreases-loop-at : goal.decreases-loop-at
-decreases-loop-at l = length l.parts + 1 - l.at
+abbrev pub invariant-loop-p : goal.invariant-loop-p
+invariant-loop-p l = refresher_in (split (is 59) l.parts) ≡ refresher_in (texts (pieces_left (split (is 59)) l.p-iterator.text.now l.p-iterator.at))

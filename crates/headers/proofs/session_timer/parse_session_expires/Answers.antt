@@ -6,7 +6,7 @@ use Rattle.limits.proofs.Laws.{passed, stopped}
 use Rattle.limits.specs.Limits.{rust_limits}
 use Rattle.text.specs.Answers.{value_cause}
 use Rattle.headers.specs.SessionExpires.{session_expires, parse_expires, expires_answer}
-use Rattle.headers.proofs.ExpiresLaws.{no_interval, some_interval}
+use Rattle.headers.proofs.ExpiresLaws.{answer_is}
 use Rattle.headers.proofs.session_timer.parse_session_expires.Goals as goal
 use Rattle.headers.proofs.session_timer.parse_session_expires.Goals.{In_ok-check_value}
 
@@ -19,8 +19,5 @@ pub returns-in_err-check_value : goal.returns-in_err-check_value
 unfolding parse_expires
 returns-in_err-check_value c = rw (stopped (value_cause rust_limits c.args.value.now) (sym c.check_value.ensures ∙ c.in_err-check_value.was)) (search rules)
 
-pub returns-in_default : goal.returns-in_default
-returns-in_default c = no_interval (session_expires c.args.value.now) (sym c.read_expires.ensures ∙ c.in_default.is) ∙ ap expires_answer (sym (clear (goal.at.returns-in_default c).In_ok-check_value))
-
 pub returns : goal.returns
-returns c = some_interval (session_expires c.args.value.now) _ _ (sym c.read_expires.ensures ∙ c.in-Some.is) ∙ ap expires_answer (sym (clear (goal.at.returns c).In_ok-check_value))
+returns c = ap Ok c.read_expires.ensures ∙ sym (answer_is _) ∙ ap expires_answer (sym (clear (goal.at.returns c).In_ok-check_value))

@@ -6,7 +6,7 @@ use Rattle.limits.proofs.Laws.{passed, stopped}
 use Rattle.limits.specs.Limits.{rust_limits}
 use Rattle.msg.specs.Block.{block_cause}
 use Rattle.headers.specs.SessionExpires.{expires_named, block_expires, expires_answer}
-use Rattle.headers.proofs.ExpiresLaws.{no_interval, some_interval}
+use Rattle.headers.proofs.ExpiresLaws.{answer_is}
 use Rattle.headers.proofs.session_timer.session_expires.Goals as goal
 use Rattle.headers.proofs.session_timer.session_expires.Goals.{In_ok-check_block}
 
@@ -19,8 +19,5 @@ pub returns-in_err-check_block : goal.returns-in_err-check_block
 unfolding block_expires
 returns-in_err-check_block c = rw (stopped (block_cause rust_limits c.args.block.now) (sym c.check_block.ensures ∙ c.in_err-check_block.was)) (search rules)
 
-pub returns-in_default : goal.returns-in_default
-returns-in_default c = no_interval (expires_named c.args.block.now) (sym c.expires_named.ensures ∙ c.in_default.is) ∙ ap expires_answer (sym (clear (goal.at.returns-in_default c).In_ok-check_block))
-
 pub returns : goal.returns
-returns c = some_interval (expires_named c.args.block.now) _ _ (sym c.expires_named.ensures ∙ c.in-Some.is) ∙ ap expires_answer (sym (clear (goal.at.returns c).In_ok-check_block))
+returns c = ap Ok c.expires_named.ensures ∙ sym (answer_is _) ∙ ap expires_answer (sym (clear (goal.at.returns c).In_ok-check_block))

@@ -1,12 +1,8 @@
-use Prim.Native.Nat.{◌+◌, ◌-◌}
 use mathlib.Core.Path.{◌≡◌}
-use lib.ListN.{length}
-use Rattle.headers.specs.Tag.{tag_of}
-use Rattle.headers.proofs.TagLaws.{tag_from}
+use Rattle.text.specs.Segments.{pieces_left}
+use Rattle.headers.specs.Tag.{tag_segments, tag_of}
+use Rattle.headers.proofs.TagLaws.{tag_among}
 use Rattle.headers.proofs.tag.find_tag.Given as goal
 
-abbrev pub invariant-loop-at : goal.invariant-loop-at
-invariant-loop-at l = tag_of l.value ≡ tag_from l.value l.at
-
-abbrev pub decreases-loop-at : goal.decreases-loop-at
-decreases-loop-at l = length l.value + 1 - l.at
+abbrev pub invariant-loop-g : goal.invariant-loop-g
+invariant-loop-g l = tag_of l.value ≡ tag_among (pieces_left tag_segments l.g-iterator.text.now l.g-iterator.at)

@@ -2,10 +2,9 @@
 use native.Mathlib.Omega.{arith}
 use mathlib.Core.Path.{sym, ◌∙◌}
 use lib.ListN.{drop}
-use borrow.Author.Tests.{not-true, not-false}
 use Rattle.record.specs.Record.{uri_text}
 use Rattle.image.proofs.AnswerLaws.{UriGot, uri_got, uri_not}
-use Rattle.image.proofs.RouteLaws.{turn, stop, done, routes_absent, routes_none, no_count, many, start}
+use Rattle.image.proofs.RouteLaws.{turn, stop, done, routes_none, no_count, many, start}
 use Rattle.image.proofs.parts.read_routes.Goals as goal
 use Rattle.image.proofs.parts.read_routes.Goals.{In_ok-t}
 
@@ -13,37 +12,25 @@ use Rattle.image.proofs.parts.read_routes.Goals.{In_ok-t}
 route : (c : In_ok-t) → UriGot (c.args.bytes.now) c.loop-read.end c.in_ok-t.t c.in_ok-t.field-0-1
 route c = uri_got (c.args.bytes.now) c.loop-read.end c.loop-read.invariant.1.0 (sym c.read_uri_text.ensures ∙ c.in_ok-t.was)
 
-pub returns-then-not-stands : goal.returns-then-not-stands
-returns-then-not-stands c = let a = c.args in routes_absent a.bytes.now a.at (not-true a.stands c.if-not-stands.true-raw)
-
 pub returns-then-bytes-at : goal.returns-then-bytes-at
 returns-then-bytes-at c =
     let a = c.args in
-    routes_none a.bytes.now a.at (not-false a.stands c.if-not-stands.false-raw) c.if-bytes-at.true
-
-pub bounds-bytes-at : goal.bounds-bytes-at
-bounds-bytes-at c = omega arith
+    routes_none a.bytes.now a.at c.if-bytes-at.true
 
 pub returns-then-count-eq0 : goal.returns-then-count-eq0
 returns-then-count-eq0 c =
     let a = c.args in
-    no_count a.bytes.now a.at (not-false a.stands c.if-not-stands.false-raw) (omega arith) c.wide-count.ensures.0 c.if-count-eq0.true
+    no_count a.bytes.now a.at (omega arith) c.wide-count.ensures.0 c.if-count-eq0.true
 
 pub returns-then-count-gt-MOST_ROUTES : goal.returns-then-count-gt-MOST_ROUTES
 returns-then-count-gt-MOST_ROUTES c =
     let a = c.args in
-    many a.bytes.now a.at (not-false a.stands c.if-not-stands.false-raw) (omega arith) c.wide-count.ensures.0 c.if-count-gt-MOST_ROUTES.true
-
-pub overflow_add-end : goal.overflow_add-end
-overflow_add-end c = omega arith
+    many a.bytes.now a.at (omega arith) c.wide-count.ensures.0 c.if-count-gt-MOST_ROUTES.true
 
 pub loop-read-init : goal.loop-read-init
 loop-read-init c =
     let a = c.args in
-    (omega arith, (omega arith, start a.bytes.now a.at (not-false a.stands c.if-not-stands.false-raw) (omega arith) c.wide-count.ensures.0 (omega arith) c.if-count-gt-MOST_ROUTES.false))
-
-pub read_uri_text-requires : goal.read_uri_text-requires
-read_uri_text-requires c = c.loop-read.invariant.1.0
+    (omega arith, (omega arith, start a.bytes.now a.at (omega arith) c.wide-count.ensures.0 (omega arith) c.if-count-gt-MOST_ROUTES.false))
 
 pub returns-in_err-t : goal.returns-in_err-t
 returns-in_err-t c =
@@ -51,12 +38,6 @@ returns-in_err-t c =
 
 pub overflow_add-end-in-loop-read : goal.overflow_add-end-in-loop-read
 overflow_add-end-in-loop-read c = omega (arith, (route (goal.at.overflow_add-end-in-loop-read c).In_ok-t).got.within)
-
-pub overflow_add-read : goal.overflow_add-read
-overflow_add-read c = omega arith
-
-pub loop-read-smaller : goal.loop-read-smaller
-loop-read-smaller c = omega arith
 
 pub loop-read-preserved : goal.loop-read-preserved
 loop-read-preserved c =

@@ -18,13 +18,13 @@ abbrev end-1-at-In_ok-remote_tag : In_ok-remote_tag → ℕ
 end-1-at-In_ok-remote_tag c = (c.in_ok-call_id.call_id).start + (c.in_ok-call_id.call_id).length
 
 first : (c : In_ok-call_id) → IdGot (stands 0 c.args.map) c.args.bytes.now c.args.at (c.in_ok-call_id.call_id)
-first c = id_told c.args.bytes.now c.args.at c.bit.ensures c.requires c.read_id.ensures c.in_ok-call_id.was
+first c = id_told c.args.bytes.now c.args.at c.bit.ensures c.requires c.read_part.ensures c.in_ok-call_id.was
 
 first-at-In_ok-local_tag : (c : In_ok-local_tag) → IdGot (stands 0 c.args.map) c.args.bytes.now c.args.at (c.in_ok-call_id.call_id)
-first-at-In_ok-local_tag c = id_told c.args.bytes.now c.args.at c.bit.ensures c.requires c.read_id.ensures c.in_ok-call_id.was
+first-at-In_ok-local_tag c = id_told c.args.bytes.now c.args.at c.bit.ensures c.requires c.read_part.ensures c.in_ok-call_id.was
 
 first-at-In_ok-remote_tag : (c : In_ok-remote_tag) → IdGot (stands 0 c.args.map) c.args.bytes.now c.args.at (c.in_ok-call_id.call_id)
-first-at-In_ok-remote_tag c = id_told c.args.bytes.now c.args.at c.bit.ensures c.requires c.read_id.ensures c.in_ok-call_id.was
+first-at-In_ok-remote_tag c = id_told c.args.bytes.now c.args.at c.bit.ensures c.requires c.read_part.ensures c.in_ok-call_id.was
 
 abbrev end-2 : In_ok-local_tag → ℕ
 end-2 c = (c.in_ok-local_tag.local_tag).start + (c.in_ok-local_tag.local_tag).length
@@ -33,35 +33,35 @@ abbrev end-2-at-In_ok-remote_tag : In_ok-remote_tag → ℕ
 end-2-at-In_ok-remote_tag c = (c.in_ok-local_tag.local_tag).start + (c.in_ok-local_tag.local_tag).length
 
 second : (c : In_ok-local_tag) → IdGot (stands 1 c.args.map) c.args.bytes.now (end-1-at-In_ok-local_tag c) (c.in_ok-local_tag.local_tag)
-second c = id_told c.args.bytes.now (end-1-at-In_ok-local_tag c) c.bit-2.ensures (first-at-In_ok-local_tag c).got.within c.read_id-2.ensures c.in_ok-local_tag.was
+second c = id_told c.args.bytes.now (end-1-at-In_ok-local_tag c) c.bit-2.ensures (first-at-In_ok-local_tag c).got.within c.read_part-2.ensures c.in_ok-local_tag.was
 
 second-at-In_ok-remote_tag : (c : In_ok-remote_tag) → IdGot (stands 1 c.args.map) c.args.bytes.now (end-1-at-In_ok-remote_tag c) (c.in_ok-local_tag.local_tag)
-second-at-In_ok-remote_tag c = id_told c.args.bytes.now (end-1-at-In_ok-remote_tag c) c.bit-2.ensures (first-at-In_ok-remote_tag c).got.within c.read_id-2.ensures c.in_ok-local_tag.was
+second-at-In_ok-remote_tag c = id_told c.args.bytes.now (end-1-at-In_ok-remote_tag c) c.bit-2.ensures (first-at-In_ok-remote_tag c).got.within c.read_part-2.ensures c.in_ok-local_tag.was
 
 third : (c : In_ok-remote_tag) → IdGot (stands 2 c.args.map) c.args.bytes.now (end-2-at-In_ok-remote_tag c) (c.in_ok-remote_tag.remote_tag)
-third c = id_told c.args.bytes.now (end-2-at-In_ok-remote_tag c) c.bit-3.ensures (second-at-In_ok-remote_tag c).got.within c.read_id-3.ensures c.in_ok-remote_tag.was
+third c = id_told c.args.bytes.now (end-2-at-In_ok-remote_tag c) c.bit-3.ensures (second-at-In_ok-remote_tag c).got.within c.read_part-3.ensures c.in_ok-remote_tag.was
 
 pub overflow_add-call_id : goal.overflow_add-call_id
 overflow_add-call_id c = omega (arith, (first (goal.at.overflow_add-call_id c).In_ok-call_id).got.within)
 
-pub read_id-requires-2 : goal.read_id-requires-2
-read_id-requires-2 c = (first (goal.at.read_id-requires-2 c).In_ok-call_id).got.within
+pub read_part-requires-2 : goal.read_part-requires-2
+read_part-requires-2 c = (first (goal.at.read_part-requires-2 c).In_ok-call_id).got.within
 
 pub returns-in_err-local_tag : goal.returns-in_err-local_tag
 returns-in_err-local_tag c =
     let a = c.args in
-    c.from_residual-in_err-local_tag.ensures ∙ ids_none_2 a.map a.bytes.now a.at (first (goal.at.returns-in_err-local_tag c).In_ok-call_id) (id_none a.bytes.now (end-1 (goal.at.returns-in_err-local_tag c).In_ok-call_id) c.bit-2.ensures c.read_id-2.ensures c.in_err-local_tag.was)
+    c.from_residual-in_err-local_tag.ensures ∙ ids_none_2 a.map a.bytes.now a.at (first (goal.at.returns-in_err-local_tag c).In_ok-call_id) (id_none a.bytes.now (end-1 (goal.at.returns-in_err-local_tag c).In_ok-call_id) c.bit-2.ensures c.read_part-2.ensures c.in_err-local_tag.was)
 
 pub overflow_add-local_tag : goal.overflow_add-local_tag
 overflow_add-local_tag c = omega (arith, (second (goal.at.overflow_add-local_tag c).In_ok-local_tag).got.within)
 
-pub read_id-requires-3 : goal.read_id-requires-3
-read_id-requires-3 c = (second (goal.at.read_id-requires-3 c).In_ok-local_tag).got.within
+pub read_part-requires-3 : goal.read_part-requires-3
+read_part-requires-3 c = (second (goal.at.read_part-requires-3 c).In_ok-local_tag).got.within
 
 pub returns-in_err-remote_tag : goal.returns-in_err-remote_tag
 returns-in_err-remote_tag c =
     let a = c.args in
-    c.from_residual-in_err-remote_tag.ensures ∙ ids_none_3 a.map a.bytes.now a.at (first (goal.at.returns-in_err-remote_tag c).In_ok-call_id) (second (goal.at.returns-in_err-remote_tag c).In_ok-local_tag) (id_none a.bytes.now (end-2 (goal.at.returns-in_err-remote_tag c).In_ok-local_tag) c.bit-3.ensures c.read_id-3.ensures c.in_err-remote_tag.was)
+    c.from_residual-in_err-remote_tag.ensures ∙ ids_none_3 a.map a.bytes.now a.at (first (goal.at.returns-in_err-remote_tag c).In_ok-call_id) (second (goal.at.returns-in_err-remote_tag c).In_ok-local_tag) (id_none a.bytes.now (end-2 (goal.at.returns-in_err-remote_tag c).In_ok-local_tag) c.bit-3.ensures c.read_part-3.ensures c.in_err-remote_tag.was)
 
 pub overflow_add-result : goal.overflow_add-result
 overflow_add-result c = omega (arith, (third (goal.at.overflow_add-result c).In_ok-remote_tag).got.within)

@@ -9,8 +9,7 @@ use Rattle.image_writer.proofs.sections.write_ids.Goals as goal
 abbrev part : List ℕ → List ℕ
 part t = (id_text (is_filled t)).write t
 
-pub returns : goal.returns
-returns c =
+pub returns-clause-out_after : goal.returns-clause-out_after
+returns-clause-out_after c =
     let a = c.args in
-    let old : _ × _ = wrote_three a.at (part a.call_id.now) (part a.local_tag.now) (part a.remote_tag.now) a.out.now (omega arith) (c.write_id-a.ensures.value, c.write_id-a.ensures.out_after) (c.write_id-b.ensures.value, c.write_id-b.ensures.out_after) (c.write_id.ensures.value, c.write_id.ensures.out_after) in
-    record { value = old.0; out_after = old.1 }
+    (wrote_three a.at (part a.id.call_id.now) (part a.id.local_tag.now) (part a.id.remote_tag.now) a.out.now (omega arith) (c.write_id-a.ensures.value, c.write_id-a.ensures.out_after) (c.write_id-b.ensures.value, c.write_id-b.ensures.out_after) (c.write_id.ensures.value, c.write_id.ensures.out_after)).1

@@ -1,76 +1,62 @@
 -- `msg::read_headers` meets its contract: at each turn the block is one exactly where the rest is, and its table is that of the
 -- lines read, completed by the lines left. Assumes nothing.
-use Prim.Native.Nat.{◌+◌, ◌-◌, ◌≤◌}
-use mathlib.Core.Path.{◌≡◌, refl, sym, ap, ◌∙◌}
-use lib.ListN.{length, take, drop, length-take, length-drop}
-use lib.Seq.{length-take-le}
-use borrow.Author.Tests.{ltb-false}
-use Rattle.std.specs.Prelude.{Some}
-use Rattle.text.proofs.Runs.{part_length}
-use Rattle.msg.specs.Block.{line_at, lines_of, block_cause}
-use Rattle.msg.specs.declared.table.HeaderTable.{HeaderTable}
-use Rattle.msg.proofs.LineLaws.{line_fits, line_length}
-use Rattle.msg.proofs.LookupLaws.{left_done, block_done, block_stop, block_next}
-use Rattle.msg.proofs.TableLaws.{table_after, table_start, table_end, left_noted, left_skipped}
 use native.Mathlib.Omega.{arith}
+use mathlib.Core.Path.{◌≡◌, refl, sym, ap, ◌∙◌}
+use lib.ListN.{length}
+use lib.Dec.{eqb}
+use borrow.Author.Tests.{eq-eqb, ne_eqb}
+use Rattle.msg.specs.Block.{block_cause, is_block}
+use Rattle.msg.specs.Lines.{line_in, lines_ahead}
+use Rattle.msg.proofs.LookupLaws.{Turn, turned, block_end, block_next}
+use Rattle.msg.proofs.TableLaws.{table_after, table_start, table_end, table_noted, table_skip}
 use Rattle.msg.proofs.table.read_headers.Goals as goal
-use Rattle.msg.proofs.table.read_headers.Goals.{In-Some, then-k-lt8, else-k-lt8}
+use Rattle.msg.proofs.table.read_headers.Goals.{In-Some, In-None, then-k-lt8, else-k-lt8}
 
--- the line that was read, in the block
-line_is : (c : In-Some) → line_at (take (length c.args.block.now - c.loop-at.at) (drop c.loop-at.at c.args.block.now)) ≡ Some (c.in-Some.n, c.in-Some.m)
-line_is c = sym c.read_line.ensures ∙ c.in-Some.is
+-- the line of this turn is the first that is left
+turn : (c : In-Some) → Turn c.args.block.now c.loop-line.end (line_in c.in-Some.line) (lines_ahead c.next.new.self)
+turn c = turned _ _ _ _ (c.loop-line.invariant.1 ∙ c.in-Some.ensures.steps)
 
--- it ends within the block
-inside : (c : In-Some) → c.loop-at.at + (c.in-Some.n + c.in-Some.m + 3) ≤ length c.args.block.now
-inside c = line_fits c.args.block.now c.loop-at.at _ _ (omega arith) (line_is c)
-
--- the block is no longer than it may be
-short : (c : In-Some) → length c.args.block.now ≤ 8192
-short c = ltb-false _ _ (sym c.too_long.ensures ∙ c.if-too_long.false)
+-- at the end of the lines the block is one exactly where its bytes end too
+whole : (c : In-None) → is_block c.args.block.now ≡ eqb c.loop-line.end (length c.args.block.now)
+whole c =
+    let l = c.loop-line in
+    l.invariant.2 ∙ block_end _ l.end l.invariant.0 (l.invariant.1 ∙ c.in-None.ensures.steps.0)
 
 pub returns-then-too_long : goal.returns-then-too_long
 unfolding block_cause
 returns-then-too_long c = rw (sym c.too_long.ensures ∙ c.if-too_long.true)
 
-pub loop-at-init : goal.loop-at-init
-loop-at-init c = (omega arith, refl, sym (ap (λ (x : HeaderTable). table_after x (lines_of c.args.block.now)) c.empty_table-t.ensures ∙ table_start c.empty_table-t.result _))
+pub loop-line-init : goal.loop-line-init
+loop-line-init c =
+    let e = c.into_iter-line-iterator.ensures.into_iter_gives in (
+      omega arith,
+      ap lines_ahead (sym e),
+      refl,
+      rw (c.empty_table-t.ensures, e) (sym (table_start c.empty_table-t.result _)),
+    )
 
-pub returns-in_default : goal.returns-in_default
-unfolding block_cause
-returns-in_default c =
-    let l = c.loop-at in
-    rw (sym c.too_long.ensures ∙ c.if-too_long.false, l.invariant.1 ∙ block_stop _ l.at (omega arith) (sym c.read_line.ensures ∙ c.in_default.is))
-
-pub slice_bounds-slot_of-end : goal.slice_bounds-slot_of-end
-slice_bounds-slot_of-end c = sym (length-take-le _ _ (simp (length-take, length-drop) (omega (arith, inside c))))
-
-pub line_found-requires : goal.line_found-requires
-line_found-requires c =
-    let p = part_length c.before.args.block.now c.loop-at.at in
-    (omega (arith, line_length _ _ _ (line_is (goal.at.line_found-requires c).In-Some)), omega (arith, short (goal.at.line_found-requires c).In-Some))
-
-pub overflow_add-at : goal.overflow_add-at
-overflow_add-at c = omega (arith, inside (goal.at.overflow_add-at c).In-Some)
-
-pub overflow_add-at-in-loop-at : goal.overflow_add-at-in-loop-at
-overflow_add-at-in-loop-at c = omega (arith, inside (goal.at.overflow_add-at-in-loop-at c).In-Some)
-
-pub overflow_add-at-in-loop-at-2 : goal.overflow_add-at-in-loop-at-2
-overflow_add-at-in-loop-at-2 c = omega (arith, inside (goal.at.overflow_add-at-in-loop-at-2 c).In-Some)
-
-pub loop-at-preserved : goal.loop-at-preserved
-loop-at-preserved c =
-    let l = c.loop-at in (
-      omega (arith, inside (goal.at.loop-at-preserved c).In-Some),
-      l.invariant.1 ∙ block_next _ l.at _ _ (line_is (goal.at.loop-at-preserved c).In-Some),
-      l.invariant.2 ∙ elim c.if-k-lt8.branch [
-        | then-k-lt8 w ↦ left_noted _ l.at l.t _ _ (line_is (goal.at.loop-at-preserved c).In-Some) _ w.line_found.result c.if-k-lt8.t c.slot_of-k.ensures w.line_found.ensures (w.t-is ∙ w.note-t.ensures)
-        | else-k-lt8 w ↦ left_skipped _ l.at l.t _ _ (line_is (goal.at.loop-at-preserved c).In-Some) _ c.if-k-lt8.t c.slot_of-k.ensures w.if-k-lt8.false w.t-is
+pub loop-line-preserved : goal.loop-line-preserved
+loop-line-preserved c =
+    let l = c.loop-line in
+    let t = turn (goal.at.loop-line-preserved c).In-Some in (
+      rw c.end-end.ensures (t.fits l.invariant.0),
+      rw c.end-end.ensures (sym t.others),
+      rw (c.end-end.ensures, t.next) (l.invariant.2 ∙ block_next _ l.end _ _ t.read),
+      l.invariant.3 ∙ ap (table_after l.t) c.in-Some.ensures.steps ∙ elim c.if-k-lt8.branch [
+        | then-k-lt8 w ↦ table_noted l.t _ _ _ _ _ c.slot_of-k.ensures w.found.ensures (w.t-is ∙ w.note-t.ensures)
+        | else-k-lt8 w ↦ rw w.t-is (table_skip l.t _ _ (rw (sym c.slot_of-k.ensures) w.if-k-lt8.false))
       ],
     )
+
+pub returns-then-end-block : goal.returns-then-end-block
+unfolding block_cause
+returns-then-end-block c =
+    let d : c.loop-line.end ≡ length c.args.block.now → ⊥ = (λ (x : c.loop-line.end ≡ length c.args.block.now). omega arith) in
+    rw (sym c.too_long.ensures ∙ c.if-too_long.false, whole (goal.at.returns-then-end-block c).In-None ∙ ne_eqb _ _ d)
 
 pub returns : goal.returns
 unfolding block_cause
 returns c =
-    let l = c.loop-at in
-    rw (sym c.too_long.ensures ∙ c.if-too_long.false, l.invariant.1 ∙ block_done _ l.at (omega arith), l.invariant.2 ∙ ap (table_after l.t) (left_done _ l.at (omega arith)) ∙ table_end l.t)
+    let l = c.loop-line in
+    let d : l.end ≡ length c.args.block.now = omega (arith, l.invariant.0) in
+    rw (sym c.too_long.ensures ∙ c.if-too_long.false, whole (goal.at.returns c).In-None ∙ eq-eqb _ _ d, l.invariant.3 ∙ ap (table_after l.t) c.in-None.ensures.steps.0 ∙ table_end l.t)

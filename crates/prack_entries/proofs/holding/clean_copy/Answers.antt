@@ -5,12 +5,12 @@ use lib.Seq.{length-take-le}
 use Rattle.codec.proofs.CodecLaws.{Bytes, bytes_all}
 use Rattle.prack_body.proofs.BodyLaws.{holds_size}
 use Rattle.prack_entries.specs.Places.{Sought}
-use Rattle.prack_entries.specs.declared.finding.Slot.TheVariants as slots
-use Rattle.prack_entries.proofs.SlotLaws.{Found, found, broken_not}
+use Rattle.std.specs.Prelude.{Ok}
+use Rattle.prack_entries.proofs.SlotLaws.{Found, found}
 use Rattle.prack_entries.proofs.HoldLaws.{renamed, copied, begun}
 use native.Mathlib.Omega.{arith}
 use Rattle.prack_entries.proofs.holding.clean_copy.Goals as goal
-use Rattle.prack_entries.proofs.holding.clean_copy.Goals.{In-Held}
+use Rattle.prack_entries.proofs.holding.clean_copy.Goals.{In-Ok}
 
 -- the parts of what several clauses say together
 first2 : {A B : Type 0} → A × B → A
@@ -19,51 +19,43 @@ first2 p = p.0
 second2 : {A B : Type 0} → A × B → B
 second2 p = p.1
 
-known-at-In-Held : (c : In-Held) → Bytes (c.args.bytes.now)
-known-at-In-Held c = bytes_all (c.args.bytes.now) (λ i. (c.type_inv.bytes i).fits)
+known-at-In-Ok : (c : In-Ok) → Bytes (c.args.bytes.now)
+known-at-In-Ok c = bytes_all (c.args.bytes.now) (λ i. (c.type_inv.bytes i).fits)
 
 -- a text of which it is the slot, and what is known of it
-abbrev I : In-Held → List ℕ
+abbrev I : In-Ok → List ℕ
 I c = c.requires.1.0
 
-abbrev S : (c : In-Held) → Sought (I c) (c.args.bytes.now) (c.args.used) (slots.Held (c.in-Held.t))
-S c = renamed c.requires.1.1 c.in-Held.is
+abbrev S : (c : In-Ok) → Sought (I c) (c.args.bytes.now) (c.args.used) (Ok c.in-Ok.t)
+S c = renamed c.requires.1.1 c.in-Ok.is
 
-F : (c : In-Held) → Found (I c) (c.args.bytes.now) (c.args.used) (c.in-Held.t) (S c).list
-F c = found (I c) (c.args.bytes.now) (c.args.used) (c.in-Held.t) (known-at-In-Held c) (S c)
+F : (c : In-Ok) → Found (I c) (c.args.bytes.now) (c.args.used) (c.in-Ok.t) (S c).list
+F c = found (I c) (c.args.bytes.now) (c.args.used) (c.in-Ok.t) (known-at-In-Ok c) (S c)
 
 pub load-n-requires : goal.load-n-requires
 load-n-requires c =
-    ((F (goal.at.load-n-requires c).In-Held).text_inside, omega (arith, (F (goal.at.load-n-requires c).In-Held).end_within, length-take-le (c.args.used) (c.args.bytes.now) (S (goal.at.load-n-requires c).In-Held).within), omega (arith, (F (goal.at.load-n-requires c).In-Held).body_short, c.requires.0))
+    ((F (goal.at.load-n-requires c).In-Ok).text_inside, omega (arith, (F (goal.at.load-n-requires c).In-Ok).end_within, length-take-le (c.args.used) (c.args.bytes.now) (S (goal.at.load-n-requires c).In-Ok).within), omega (arith, (F (goal.at.load-n-requires c).In-Ok).body_short, c.requires.0))
 
 pub clean-requires : goal.clean-requires
 clean-requires c =
-    (omega (arith, (F (goal.at.clean-requires c).In-Held).body_long, c.load-n.ensures.value), (omega (arith, (F (goal.at.clean-requires c).In-Held).body_short, c.load-n.ensures.value), omega (arith, c.load-n.auto.body, c.requires.0)))
+    (omega (arith, (F (goal.at.clean-requires c).In-Ok).body_long, c.load-n.ensures.value), (omega (arith, (F (goal.at.clean-requires c).In-Ok).body_short, c.load-n.ensures.value), omega (arith, c.load-n.auto.body, c.requires.0)))
 
-pub returns-in-Held-clause-lower_bound : goal.returns-in-Held-clause-lower_bound
-returns-in-Held-clause-lower_bound c =
+pub returns-in-Ok-clause-lower_bound : goal.returns-in-Ok-clause-lower_bound
+returns-in-Ok-clause-lower_bound c =
     let a = c.args in
-    let k = copied (c.args.bytes.now) (c.args.used) a.time (bytes_all (c.args.bytes.now) (λ i. (c.type_inv.bytes i).fits)) c.in-Held.is (c.load-n.ensures.holds) c.clean.ensures in
-    holds_size (k (I (goal.at.returns-in-Held-clause-lower_bound c).In-Held) c.requires.1.1)
+    let k = copied (c.args.bytes.now) (c.args.used) a.time (bytes_all (c.args.bytes.now) (λ i. (c.type_inv.bytes i).fits)) c.in-Ok.is (c.load-n.ensures.holds) c.clean.ensures in
+    holds_size (k (I (goal.at.returns-in-Ok-clause-lower_bound c).In-Ok) c.requires.1.1)
 
-pub returns-in-Held-clause-by_index : goal.returns-in-Held-clause-by_index
-returns-in-Held-clause-by_index c =
+pub returns-in-Ok-clause-by_index : goal.returns-in-Ok-clause-by_index
+returns-in-Ok-clause-by_index c =
     let a = c.args in
-    let k = copied (c.args.bytes.now) (c.args.used) a.time (bytes_all (c.args.bytes.now) (λ i. (c.type_inv.bytes i).fits)) c.in-Held.is (c.load-n.ensures.holds) c.clean.ensures in
+    let k = copied (c.args.bytes.now) (c.args.used) a.time (bytes_all (c.args.bytes.now) (λ i. (c.type_inv.bytes i).fits)) c.in-Ok.is (c.load-n.ensures.holds) c.clean.ensures in
     λ id w h. k id w
 
-pub returns-in-Free-clause-lower_bound : goal.returns-in-Free-clause-lower_bound
-returns-in-Free-clause-lower_bound c = holds_size (c.begin.ensures [] (omega arith))
+pub returns-in-Err-clause-lower_bound : goal.returns-in-Err-clause-lower_bound
+returns-in-Err-clause-lower_bound c = holds_size (c.begin.ensures [] (omega arith))
 
-pub returns-in-Free-clause-by_index : goal.returns-in-Free-clause-by_index
-returns-in-Free-clause-by_index c =
+pub returns-in-Err-clause-by_index : goal.returns-in-Err-clause-by_index
+returns-in-Err-clause-by_index c =
     let a = c.args in
-    begun (c.args.bytes.now) (c.args.used) a.time (bytes_all (c.args.bytes.now) (λ i. (c.type_inv.bytes i).fits)) c.in-Free.is c.begin.ensures
-
-pub returns-in-Broken-clause-lower_bound : goal.returns-in-Broken-clause-lower_bound
-returns-in-Broken-clause-lower_bound c =
-    absurd (broken_not c.requires.1.0 (c.args.bytes.now) (c.args.used) (renamed c.requires.1.1 c.in-Broken.is))
-
-pub returns-in-Broken-clause-by_index : goal.returns-in-Broken-clause-by_index
-returns-in-Broken-clause-by_index c =
-    absurd (broken_not c.requires.1.0 (c.args.bytes.now) (c.args.used) (renamed c.requires.1.1 c.in-Broken.is))
+    begun (c.args.bytes.now) (c.args.used) a.time (bytes_all (c.args.bytes.now) (λ i. (c.type_inv.bytes i).fits)) c.in-Err.is c.begin.ensures

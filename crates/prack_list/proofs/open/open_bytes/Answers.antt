@@ -11,7 +11,7 @@ use Rattle.prack_list.proofs.open.open_bytes.Goals.{else-body-i-eq0, then-body-i
 
 pub put_open-to-requires : goal.put_open-to-requires
 put_open-to-requires c =
-    let r = c.requires.1 in
+    let r = c.requires in
     let x = next_entry r.1.0 c.loop-i.i (omega arith) in
     (omega arith, omega (arith, open_room (c.loop-i.invariant.1.1 r.0 r.1.0) x c.if-body-i-eq0.true, r.1.1, c.loop-i.invariant.1.0))
 

@@ -1,4 +1,4 @@
-use Prim.Native.Nat.{◌+◌, ◌-◌, ◌*◌, ◌≤◌}
+use Prim.Native.Nat.{◌+◌, ◌*◌, ◌≤◌}
 use mathlib.Core.Path.{◌≡◌}
 use lib.ListN.{length}
 use Rattle.prack_body.specs.Lists.{Tracked, entries_of, open_in}
@@ -8,7 +8,4 @@ use Rattle.prack_list.proofs.OpenLaws.{opened}
 use Rattle.prack_list.proofs.open.open_size.Given as goal
 
 abbrev pub invariant-loop-i : goal.invariant-loop-i
-invariant-loop-i l = (l.i ≤ l.count) × ((l.size ≤ l.i * 6) × ((t : Tracked) → Holds l.body l.n t → l.size + length (opened l.i (entries_of t.list)) ≡ length (open_bytes (open_in t.list))))
-
-abbrev pub decreases-loop-i : goal.decreases-loop-i
-decreases-loop-i l = l.count - l.i
+invariant-loop-i l = (l.i ≤ l.count) × ((l.size ≤ l.i * 6) × ((t : Tracked) → Holds l.body (length l.body) t → l.size + length (opened l.i (entries_of t.list)) ≡ length (open_bytes (open_in t.list))))

@@ -10,4 +10,4 @@ pub returns-then-count-lt-MAX_PENDING_PRACK_PER_DIALOG-clause-kept : goal.return
 returns-then-count-lt-MAX_PENDING_PRACK_PER_DIALOG-clause-kept c = λ t h. room_some h c.if-n-lt-ENTRIES_AT.false refl c.if-count-lt-MAX_PENDING_PRACK_PER_DIALOG.true
 
 pub returns-clause-kept : goal.returns-clause-kept
-returns-clause-kept c = λ t h. room_full h refl c.if-count-lt-MAX_PENDING_PRACK_PER_DIALOG.false c.requires.1 c.move_left.ensures
+returns-clause-kept c = λ t h. room_full h refl c.if-count-lt-MAX_PENDING_PRACK_PER_DIALOG.false c.requires.1 c.shift.ensures

@@ -7,5 +7,5 @@ use Rattle.prack_list.proofs.pushing.write_entry.Goals as goal
 pub returns : goal.returns
 returns c =
     let a = c.args in
-    let old : _ × _ = wrote_entry a.at a.rseq a.cseq a.method a.code a.time a.out.now (omega arith) (c.write_four-a.ensures.value, c.write_four-a.ensures.out_after) (c.write_four-b.ensures.value, c.write_four-b.ensures.out_after) (refl, c.put.ensures) (c.write_two-d.ensures.value, c.write_two-d.ensures.out_after) (refl, c.put-2.ensures) (c.write_eight.ensures.value, c.write_eight.ensures.out_after) in
+    let old : _ × _ = wrote_entry a.at a.response.rseq a.response.cseq a.response.method a.response.code a.response.time a.out.now (omega arith) (c.write_four-a.ensures.value, c.write_four-a.ensures.out_after) (c.write_four-b.ensures.value, c.write_four-b.ensures.out_after) (refl, c.put.ensures) (c.write_two-d.ensures.value, c.write_two-d.ensures.out_after) (refl, c.put-2.ensures) (c.write_eight.ensures.value, c.write_eight.ensures.out_after) in
     record { value = old.0; out_after = old.1 }

@@ -6,7 +6,6 @@ use Prim.Native.Nat.{ℕ, ◌+◌, ◌-◌}
 use lib.ListN.{length, take, drop}
 use Rattle.edit.specs.Edit.{put_at}
 use Rattle.record_gaps.proofs.MoveLaws.{left_first, right_first}
-use native.Mathlib.Omega.{arith}
 use Rattle.record_gaps.proofs.gaps.open_gaps.Goals as goal
 use Rattle.record_gaps.proofs.gaps.open_gaps.Goals.{Joined-to-from, else-to-from, then-to-from}
 
@@ -15,26 +14,26 @@ abbrev opened : Joined-to-from → List ℕ
 opened c =
     let a = c.args in
     let s = a.bytes.now in
-    put_at (a.a + a.new_a) (take (a.b - (a.a + a.old_a)) (drop (a.a + a.old_a) s)) (put_at (a.a + a.new_a + (a.b - (a.a + a.old_a)) + a.new_b) (take (a.used - (a.b + a.old_b)) (drop (a.b + a.old_b) s)) s)
+    put_at (a.a.at + a.a.new_length) (take (a.b.at - (a.a.at + a.a.old_length)) (drop (a.a.at + a.a.old_length) s)) (put_at (a.a.at + a.a.new_length + (a.b.at - (a.a.at + a.a.old_length)) + a.b.new_length) (take (a.used - (a.b.at + a.b.old_length)) (drop (a.b.at + a.b.old_length) s)) s)
 
 joined : (c : Joined-to-from) → (c.if-to-from.bytes ≡ opened c) × (length c.if-to-from.bytes ≡ length c.args.bytes.now)
 joined c =
     let a = c.args in
     let s = a.bytes.now in
-    let from = a.a + a.old_a in
-    let m = a.b - from in
-    let to = a.a + a.new_a in
-    let behind = a.b + a.old_b in
-    let end = to + m + a.new_b in
+    let from = a.a.at + a.a.old_length in
+    let m = a.b.at - from in
+    let to = a.a.at + a.a.new_length in
+    let behind = a.b.at + a.b.old_length in
+    let end = to + m + a.b.new_length in
     let n = a.used - behind in
     elim c.if-to-from.branch [
       | then-to-from w ↦ (
-        w.bytes-is ∙ w.shift.ensures ∙ left_first s from to m behind end n (omega arith) (omega arith) (omega arith) (omega arith) w.move_left.new.bytes (omega (arith, w.if-to-from.true)) w.move_left.ensures,
-        ap length w.bytes-is ∙ w.shift.auto.bytes ∙ w.move_left.auto.bytes,
+        w.bytes-is ∙ w.shift-then-to-from.ensures ∙ left_first s from to m behind end n (omega arith) (omega arith) (omega arith) (omega arith) w.shift.new.bytes (omega (arith, w.if-to-from.true)) w.shift.ensures,
+        ap length w.bytes-is ∙ w.shift-then-to-from.auto.bytes ∙ w.shift.auto.bytes,
       )
       | else-to-from w ↦ (
-        w.bytes-is ∙ w.move_right.ensures ∙ right_first s from to m behind end n (omega arith) (omega arith) (omega arith) (omega arith) w.shift-else-to-from.new.bytes (omega (arith, w.if-to-from.false)) w.shift-else-to-from.ensures,
-        ap length w.bytes-is ∙ w.move_right.auto.bytes ∙ w.shift-else-to-from.auto.bytes,
+        w.bytes-is ∙ w.shift-else-to-from-2.ensures ∙ right_first s from to m behind end n (omega arith) (omega arith) (omega arith) (omega arith) w.shift-else-to-from.new.bytes (omega (arith, w.if-to-from.false)) w.shift-else-to-from.ensures,
+        ap length w.bytes-is ∙ w.shift-else-to-from-2.auto.bytes ∙ w.shift-else-to-from.auto.bytes,
       )
     ]
 

@@ -6,7 +6,7 @@ use Rattle.limits.proofs.Laws.{passed, stopped}
 use Rattle.limits.specs.Limits.{rust_limits}
 use Rattle.text.specs.Answers.{value_cause, next_of}
 use Rattle.route_set.specs.Parts.{element_from, next_header_value}
-use Rattle.route_set.proofs.PartLaws.{no_element, some_element}
+use Rattle.route_set.proofs.PartLaws.{part_answer}
 use Rattle.route_set.proofs.parts.next_header_value.Goals as goal
 use Rattle.route_set.proofs.parts.next_header_value.Goals.{In_ok-check_value}
 
@@ -21,8 +21,5 @@ returns-in_err-check_value c =
     let p = err_from_is_err_and c.from_residual.result c.from_residual.ensures.1 in
     rw (p.1, p.2, stopped (value_cause rust_limits c.args.value.now) (sym c.check_value.ensures ∙ c.in_err-check_value.was))
 
-pub returns-in_default : goal.returns-in_default
-returns-in_default c = no_element (element_from c.args.value.now c.args.from) (sym c.next_part.ensures ∙ c.in_default.is) ∙ ap next_of (sym (clear (goal.at.returns-in_default c).In_ok-check_value))
-
 pub returns : goal.returns
-returns c = some_element (element_from c.args.value.now c.args.from) _ _ (sym c.next_part.ensures ∙ c.in-Some.is) ∙ ap next_of (sym (clear (goal.at.returns c).In_ok-check_value))
+returns c = ap Ok c.next_part.ensures ∙ part_answer (element_from c.args.value.now c.args.from) ∙ ap next_of (sym (clear (goal.at.returns c).In_ok-check_value))

@@ -7,7 +7,7 @@ use Rattle.limits.specs.Limits.{rust_limits}
 use Rattle.text.specs.Answers.{lookup_of}
 use Rattle.msg.specs.Block.{block_cause}
 use Rattle.route_set.specs.Routes.{contact, contact_of}
-use Rattle.route_set.proofs.ElementLaws.{no_contact, some_contact}
+use Rattle.route_set.proofs.ElementLaws.{contact_answer}
 use Rattle.route_set.proofs.routes.read_contact.Goals as goal
 use Rattle.route_set.proofs.routes.read_contact.Goals.{In_ok-check_block}
 
@@ -22,8 +22,5 @@ returns-in_err-check_block c =
     let p = err_from_is_err_and c.from_residual.result c.from_residual.ensures.1 in
     rw (p.1, p.2, stopped (block_cause rust_limits c.args.block.now) (sym c.check_block.ensures ∙ c.in_err-check_block.was))
 
-pub returns-in_default : goal.returns-in_default
-returns-in_default c = no_contact (contact_of c.args.block.now) (sym c.find_contact.ensures ∙ c.in_default.is) ∙ ap lookup_of (sym (clear (goal.at.returns-in_default c).In_ok-check_block))
-
 pub returns : goal.returns
-returns c = some_contact (contact_of c.args.block.now) _ (sym c.find_contact.ensures ∙ c.in-Some.is) ∙ ap lookup_of (sym (clear (goal.at.returns c).In_ok-check_block))
+returns c = ap Ok c.find_contact.ensures ∙ contact_answer (contact_of c.args.block.now) ∙ ap lookup_of (sym (clear (goal.at.returns c).In_ok-check_block))

@@ -18,14 +18,10 @@ returns-in_err-check_block c =
     let p = err_from_is_err_and c.from_residual.result c.from_residual.ensures.1 in
     rw (p.1, p.2) (ap count_of (sym (count_stopped c.args.block.now _ (stopped (block_cause rust_limits c.args.block.now) (sym c.check_block.ensures ∙ c.in_err-check_block.was)))))
 
-pub returns-in-All : goal.returns-in-All
-returns-in-All c = ap count_of (sym (said (goal.at.returns-in-All c).After-scan_routes ∙ ap number_in c.in-All.is))
+pub returns-in_err-n : goal.returns-in_err-n
+returns-in_err-n c =
+    let p = err_from_is_err_and c.from_residual-in_err-n.result c.from_residual-in_err-n.ensures.1 in
+    rw (p.1, p.2) (ap count_of (sym (said (goal.at.returns-in_err-n c).After-scan_routes ∙ ap number_in c.in_err-n.was)))
 
-pub returns-in-Route : goal.returns-in-Route
-returns-in-Route c = ap count_of (sym (said (goal.at.returns-in-Route c).After-scan_routes ∙ ap number_in c.in-Route.is))
-
-pub returns-in-TooMany : goal.returns-in-TooMany
-returns-in-TooMany c = ap count_of (sym (said (goal.at.returns-in-TooMany c).After-scan_routes ∙ ap number_in c.in-TooMany.is))
-
-pub returns-in-TooLong : goal.returns-in-TooLong
-returns-in-TooLong c = ap count_of (sym (said (goal.at.returns-in-TooLong c).After-scan_routes ∙ ap number_in c.in-TooLong.is))
+pub returns : goal.returns
+returns c = ap count_of (sym (said (goal.at.returns c).After-scan_routes ∙ ap number_in c.in_ok-n.was))

@@ -11,13 +11,13 @@ returns-clause-returns c =
     let a = c.args in
     let l = ran rust_limits len a.store.now a.used in
     let e = c.is_empty.ensures.value in
-    let g = c.give_empty.ensures in
-    record { bytes_are = c.is_empty.ensures.bytes_value; used_is = c.is_empty.ensures.used_value; number_is = g.value ∙ (ap number_in e ∙ empty_number l.answer) }
+    let g = c.give_flag.ensures in
+    record { bytes_are = c.is_empty.ensures.bytes_value; used_is = c.is_empty.ensures.used_value; number_is = g.number_is ∙ (ap number_in e ∙ empty_number l.answer) }
 
 pub returns-clause-empty_after : goal.returns-clause-empty_after
 returns-clause-empty_after c =
     let a = c.args in
     let l = ran rust_limits len a.store.now a.used in
     let e = c.is_empty.ensures.value in
-    let g = c.give_empty.ensures in
-    empty_given l.answer _ _ _ e (g.empty_after)
+    let g = c.give_flag.ensures in
+    empty_given l.answer _ _ _ e g.left_is

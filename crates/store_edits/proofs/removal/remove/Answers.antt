@@ -20,29 +20,29 @@ second2 p = p.1
 pub replace-requires : goal.replace-requires
 replace-requires c =
     let a = c.args in
-    let w = removes rust_limits (length a.bytes.now) a.call_id.now a.local_tag.now a.remote_tag.now a.bytes.now a.used (bytes_all a.bytes.now (λ i. (c.slice_known-1.given i).fits)) c.in_ok-at.at c.in_ok-at.n (ap answer_in (sym c.in_ok-at.was) ∙ c.get.ensures) in
+    let w = removes rust_limits (length a.bytes.now) a.id.call_id.now a.id.local_tag.now a.id.remote_tag.now a.bytes.now a.used (bytes_all a.bytes.now (λ i. (c.slice_known-1.given i).fits)) c.in_ok-at.at c.in_ok-at.n (ap answer_in (sym c.in_ok-at.was) ∙ c.get.ensures) in
     (w.inside, w.within, omega (arith, w.within))
 
 pub returns-clause-value : goal.returns-clause-value
 returns-clause-value c =
     let a = c.args in
-    let w = removes rust_limits (length a.bytes.now) a.call_id.now a.local_tag.now a.remote_tag.now a.bytes.now a.used (bytes_all a.bytes.now (λ i. (c.slice_known-1.given i).fits)) c.in_ok-at.at c.in_ok-at.n (ap answer_in (sym c.in_ok-at.was) ∙ c.get.ensures) in
+    let w = removes rust_limits (length a.bytes.now) a.id.call_id.now a.id.local_tag.now a.id.remote_tag.now a.bytes.now a.used (bytes_all a.bytes.now (λ i. (c.slice_known-1.given i).fits)) c.in_ok-at.at c.in_ok-at.n (ap answer_in (sym c.in_ok-at.was) ∙ c.get.ensures) in
     let r = c.replace.ensures in
     ap Ok r.value ∙ w.answer
 
 pub returns-clause-bytes_after : goal.returns-clause-bytes_after
 returns-clause-bytes_after c =
     let a = c.args in
-    let w = removes rust_limits (length a.bytes.now) a.call_id.now a.local_tag.now a.remote_tag.now a.bytes.now a.used (bytes_all a.bytes.now (λ i. (c.slice_known-1.given i).fits)) c.in_ok-at.at c.in_ok-at.n (ap answer_in (sym c.in_ok-at.was) ∙ c.get.ensures) in
+    let w = removes rust_limits (length a.bytes.now) a.id.call_id.now a.id.local_tag.now a.id.remote_tag.now a.bytes.now a.used (bytes_all a.bytes.now (λ i. (c.slice_known-1.given i).fits)) c.in_ok-at.at c.in_ok-at.n (ap answer_in (sym c.in_ok-at.was) ∙ c.get.ensures) in
     let r = c.replace.ensures in
     (r.bytes_after) ∙ w.bytes
 
 pub returns-in_err-at-clause-value : goal.returns-in_err-at-clause-value
 returns-in_err-at-clause-value c =
     let a = c.args in
-    err_is c.from_residual.result _ c.from_residual.ensures.1 ∙ first2 (turned_back (refuses rust_limits (length a.bytes.now) a.call_id.now a.local_tag.now a.remote_tag.now a.bytes.now a.used (bytes_all a.bytes.now (λ i. (c.slice_known-1.given i).fits)) _ (ap answer_in (sym c.in_err-at.was) ∙ c.get.ensures)))
+    err_is c.from_residual.result _ c.from_residual.ensures.1 ∙ first2 (turned_back (refuses rust_limits (length a.bytes.now) a.id.call_id.now a.id.local_tag.now a.id.remote_tag.now a.bytes.now a.used (bytes_all a.bytes.now (λ i. (c.slice_known-1.given i).fits)) _ (ap answer_in (sym c.in_err-at.was) ∙ c.get.ensures)))
 
 pub returns-in_err-at-clause-bytes_after : goal.returns-in_err-at-clause-bytes_after
 returns-in_err-at-clause-bytes_after c =
     let a = c.args in
-    second2 (turned_back (refuses rust_limits (length a.bytes.now) a.call_id.now a.local_tag.now a.remote_tag.now a.bytes.now a.used (bytes_all a.bytes.now (λ i. (c.slice_known-1.given i).fits)) _ (ap answer_in (sym c.in_err-at.was) ∙ c.get.ensures)))
+    second2 (turned_back (refuses rust_limits (length a.bytes.now) a.id.call_id.now a.id.local_tag.now a.id.remote_tag.now a.bytes.now a.used (bytes_all a.bytes.now (λ i. (c.slice_known-1.given i).fits)) _ (ap answer_in (sym c.in_err-at.was) ∙ c.get.ensures)))

@@ -31,12 +31,13 @@ pub staying-n-requires : goal.staying-n-requires
 staying-n-requires c =
     let l = c.loop-at in stands c.args.bytes.now c.args.used l.bytes l.at l.to l.invariant c.loop-at-test.true
 
-pub move_left-requires : goal.move_left-requires
-move_left-requires c =
+pub shift-requires : goal.shift-requires
+shift-requires c =
     let l = c.loop-at in
     let t = next c.args.bytes.now c.args.used l.bytes l.at l.to l.invariant c.loop-at-test.true c.record_end-end.result c.record_end-end.ensures in
     let f = few c.args.bytes.now c.args.used l.bytes l.at l.to c.record_end-end.result c.staying-n.result t c.staying-n.ensures in
-    (l.invariant.below, omega (arith, f, l.invariant.within, same_long c.args.bytes.now c.args.used l.bytes l.at l.to l.invariant))
+    let m = same_long c.args.bytes.now c.args.used l.bytes l.at l.to l.invariant in
+    (omega (arith, f, l.invariant.within, m), omega (arith, f, l.invariant.below, l.invariant.within, m))
 
 pub overflow_add-to : goal.overflow_add-to
 overflow_add-to c =
@@ -55,7 +56,7 @@ pub loop-at-preserved : goal.loop-at-preserved
 loop-at-preserved c =
     let l = c.loop-at in
     let t = next c.args.bytes.now c.args.used l.bytes l.at l.to l.invariant c.loop-at-test.true c.record_end-end.result c.record_end-end.ensures in
-    t.again c.staying-n.result c.move_left.new.bytes c.staying-n.ensures c.move_left.ensures
+    t.again c.staying-n.result c.shift.new.bytes c.staying-n.ensures c.shift.ensures
 
 pub returns-clause-value : goal.returns-clause-value
 returns-clause-value c =

@@ -1,11 +1,7 @@
-use Prim.Native.Nat.{◌-◌}
-use lib.ListN.{length}
-use Rattle.dialog_id.specs.Ident.{ident}
+use mathlib.Core.Path.{◌≡◌}
+use Rattle.dialog_id.specs.IdTexts.{ident_of}
 use Rattle.store_puts.proofs.EarlyLaws.{Counting}
 use Rattle.store_puts.proofs.early.early_others.Given as goal
 
 abbrev pub invariant-loop-at : goal.invariant-loop-at
-invariant-loop-at l = Counting (ident l.call_id l.local_tag l.remote_tag) l.bytes l.at l.n
-
-abbrev pub decreases-loop-at : goal.decreases-loop-at
-decreases-loop-at l = length l.bytes - l.at
+invariant-loop-at l = (l.at-iterator.bytes.now ≡ l.bytes) × Counting (ident_of l.id) l.bytes l.at-iterator.at l.n

@@ -1,14 +1,15 @@
 -- `puts::put` meets its contract: 3 of the store and of the image, 16, then the image by its state and identifier. Assumes nothing.
-use Prim.Native.Nat.{◌<◌}
-use mathlib.Core.Path.{◌≡◌, sym, ◌∙◌}
+use mathlib.Core.Path.{◌≡◌, sym, subst, ◌∙◌}
 use lib.ListN.{length}
 use Rattle.std.specs.Prelude.{Ok}
 use Rattle.limits.specs.Limits.{rust_limits}
 use Rattle.dialog_rules.specs.OneImage.{one_record}
 use Rattle.dialog.specs.Readings.{image_answer}
+use Rattle.dialog_id.specs.Ident.{Ident}
 use Rattle.dialog_manager.specs.Search.{IdsWithin}
 use Rattle.dialog_manager.proofs.LookupLaws.{Kept, kept}
 use Rattle.store.specs.Counting.{records_held, count_answer}
+use Rattle.store_puts.specs.Puts.{Named}
 use Rattle.store_puts.proofs.PutLaws.{store_unread, not_one, too_many, full, open_to, texts_within, image_named}
 use Rattle.store_edits.proofs.RemoveLaws.{turned_back}
 use native.Mathlib.Omega.{arith}
@@ -33,9 +34,6 @@ one c = sym c.in-Ok-read_image.is ∙ c.read_image.ensures
 
 texts : (c : In-Ok-read_image) → IdsWithin c.args.image.now (c.in-Ok-read_image.r).ids
 texts c = texts_within c.args.image.now (c.in-Ok-read_image.r) (one c)
-
-small : (c : In-Ok-read_image) → length c.args.image.now < 18446744073709551616
-small c = omega arith
 
 pub returns-in_default-clause-value : goal.returns-in_default-clause-value
 returns-in_default-clause-value c =
@@ -71,22 +69,15 @@ returns-then-n-ge-MAX_CONFIRMED_DIALOGS-clause-bytes_after c =
     let t = image_named a.image.now (c.in-Ok-read_image.r) (one (goal.at.returns-then-n-ge-MAX_CONFIRMED_DIALOGS-clause-bytes_after c).In-Ok-read_image) (λ i. (c.type_inv.image i).fits) in
     (second2 (turned_back (too_many rust_limits (length a.bytes.now) a.image.now a.bytes.now a.used (store (goal.at.returns-then-n-ge-MAX_CONFIRMED_DIALOGS-clause-bytes_after c).In-Ok) t.value t.one f)))
 
-pub overflow_add-a : goal.overflow_add-a
-overflow_add-a c = omega (arith, (texts (goal.at.overflow_add-a c).In-Ok-read_image).0, small (goal.at.overflow_add-a c).In-Ok-read_image)
-
-pub slice_bounds-put_named-end : goal.slice_bounds-put_named-end
-slice_bounds-put_named-end c = (texts (goal.at.slice_bounds-put_named-end c).In-Ok-read_image).0
-
-pub slice_bounds-put_named-end-2 : goal.slice_bounds-put_named-end-2
-slice_bounds-put_named-end-2 c = (texts (goal.at.slice_bounds-put_named-end-2 c).In-Ok-read_image).1
-
-pub slice_bounds-put_named-end-3 : goal.slice_bounds-put_named-end-3
-slice_bounds-put_named-end-3 c = (texts (goal.at.slice_bounds-put_named-end-3 c).In-Ok-read_image).2
+pub ids_texts-id-requires : goal.ids_texts-id-requires
+ids_texts-id-requires c = texts (goal.at.ids_texts-id-requires c).In-Ok-read_image
 
 pub put_named-requires-clause-named : goal.put_named-requires-clause-named
 put_named-requires-clause-named c =
     let a = c.args in
-    image_named a.image.now (c.in-Ok-read_image.r) (one (goal.at.put_named-requires-clause-named c).In-Ok-read_image) (λ i. (c.type_inv.image i).fits)
+    let r = c.in-Ok-read_image.r in
+    subst (λ (i : Ident). Named a.image.now r.numbers.state i.call_id i.local_tag i.remote_tag) (sym c.ids_texts-id.ensures)
+    (image_named a.image.now r (one (goal.at.put_named-requires-clause-named c).In-Ok-read_image) (λ i. (c.type_inv.image i).fits))
 
 pub put_named-requires-clause-fact : goal.put_named-requires-clause-fact
 put_named-requires-clause-fact c =

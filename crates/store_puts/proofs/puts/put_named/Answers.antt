@@ -21,25 +21,25 @@ second2 p = p.1
 pub returns-then-is_crowded-clause-value : goal.returns-then-is_crowded-clause-value
 returns-then-is_crowded-clause-value c =
     let a = c.args in
-    (first2 (turned_back (crowded rust_limits (length a.bytes.now) a.image.now a.bytes.now a.used a.state a.call_id.now a.local_tag.now a.remote_tag.now c.requires.named c.requires.fact (sym c.is_crowded.ensures ∙ c.if-is_crowded.true))))
+    (first2 (turned_back (crowded rust_limits (length a.bytes.now) a.image.now a.bytes.now a.used a.state a.id.call_id.now a.id.local_tag.now a.id.remote_tag.now c.requires.named c.requires.fact (sym c.is_crowded.ensures ∙ c.if-is_crowded.true))))
 
 pub returns-then-is_crowded-clause-bytes_after : goal.returns-then-is_crowded-clause-bytes_after
 returns-then-is_crowded-clause-bytes_after c =
     let a = c.args in
-    (second2 (turned_back (crowded rust_limits (length a.bytes.now) a.image.now a.bytes.now a.used a.state a.call_id.now a.local_tag.now a.remote_tag.now c.requires.named c.requires.fact (sym c.is_crowded.ensures ∙ c.if-is_crowded.true))))
+    (second2 (turned_back (crowded rust_limits (length a.bytes.now) a.image.now a.bytes.now a.used a.state a.id.call_id.now a.id.local_tag.now a.id.remote_tag.now c.requires.named c.requires.fact (sym c.is_crowded.ensures ∙ c.if-is_crowded.true))))
 
 pub returns-in_default-clause-value : goal.returns-in_default-clause-value
 returns-in_default-clause-value c =
     let a = c.args in
     let b : Bytes a.bytes.now = bytes_all a.bytes.now (λ i. (c.slice_known-1.given i).fits) in
-    let w = added_new rust_limits (length a.bytes.now) a.image.now a.bytes.now a.used a.state a.call_id.now a.local_tag.now a.remote_tag.now c.requires.named c.requires.fact b (sym c.is_crowded.ensures ∙ c.if-is_crowded.false) (sym c.in_default.is ∙ c.search_id.ensures.value) in
+    let w = added_new rust_limits (length a.bytes.now) a.image.now a.bytes.now a.used a.state a.id.call_id.now a.id.local_tag.now a.id.remote_tag.now c.requires.named c.requires.fact b (sym c.is_crowded.ensures ∙ c.if-is_crowded.false) (sym c.in_default.is ∙ c.search_id.ensures.value) in
     c.add.ensures.value ∙ w.answer
 
 pub returns-in_default-clause-bytes_after : goal.returns-in_default-clause-bytes_after
 returns-in_default-clause-bytes_after c =
     let a = c.args in
     let b : Bytes a.bytes.now = bytes_all a.bytes.now (λ i. (c.slice_known-1.given i).fits) in
-    let w = added_new rust_limits (length a.bytes.now) a.image.now a.bytes.now a.used a.state a.call_id.now a.local_tag.now a.remote_tag.now c.requires.named c.requires.fact b (sym c.is_crowded.ensures ∙ c.if-is_crowded.false) (sym c.in_default.is ∙ c.search_id.ensures.value) in
+    let w = added_new rust_limits (length a.bytes.now) a.image.now a.bytes.now a.used a.state a.id.call_id.now a.id.local_tag.now a.id.remote_tag.now c.requires.named c.requires.fact b (sym c.is_crowded.ensures ∙ c.if-is_crowded.false) (sym c.in_default.is ∙ c.search_id.ensures.value) in
     c.add.ensures.bytes_after ∙ w.bytes
 
 pub overflow_sub-r : goal.overflow_sub-r
@@ -63,7 +63,7 @@ returns-clause-value c =
     let a = c.args in
     let b : Bytes a.bytes.now = bytes_all a.bytes.now (λ i. (c.slice_known-1.given i).fits) in
     let h : Stands (take a.used a.bytes.now) (Some (c.in-Some.at, c.in-Some.r)) = subst (Stands (take a.used a.bytes.now)) c.in-Some.is c.search_id.ensures.stands in
-    let w = replaced_old rust_limits (length a.bytes.now) a.image.now a.bytes.now a.used a.state a.call_id.now a.local_tag.now a.remote_tag.now c.requires.named c.requires.fact b (sym c.is_crowded.ensures ∙ c.if-is_crowded.false) c.in-Some.at c.in-Some.r h (sym c.in-Some.is ∙ c.search_id.ensures.value) in
+    let w = replaced_old rust_limits (length a.bytes.now) a.image.now a.bytes.now a.used a.state a.id.call_id.now a.id.local_tag.now a.id.remote_tag.now c.requires.named c.requires.fact b (sym c.is_crowded.ensures ∙ c.if-is_crowded.false) c.in-Some.at c.in-Some.r h (sym c.in-Some.is ∙ c.search_id.ensures.value) in
     c.replace_image.ensures.value ∙ w.answer
 
 pub returns-clause-bytes_after : goal.returns-clause-bytes_after
@@ -71,5 +71,5 @@ returns-clause-bytes_after c =
     let a = c.args in
     let b : Bytes a.bytes.now = bytes_all a.bytes.now (λ i. (c.slice_known-1.given i).fits) in
     let h : Stands (take a.used a.bytes.now) (Some (c.in-Some.at, c.in-Some.r)) = subst (Stands (take a.used a.bytes.now)) c.in-Some.is c.search_id.ensures.stands in
-    let w = replaced_old rust_limits (length a.bytes.now) a.image.now a.bytes.now a.used a.state a.call_id.now a.local_tag.now a.remote_tag.now c.requires.named c.requires.fact b (sym c.is_crowded.ensures ∙ c.if-is_crowded.false) c.in-Some.at c.in-Some.r h (sym c.in-Some.is ∙ c.search_id.ensures.value) in
+    let w = replaced_old rust_limits (length a.bytes.now) a.image.now a.bytes.now a.used a.state a.id.call_id.now a.id.local_tag.now a.id.remote_tag.now c.requires.named c.requires.fact b (sym c.is_crowded.ensures ∙ c.if-is_crowded.false) c.in-Some.at c.in-Some.r h (sym c.in-Some.is ∙ c.search_id.ensures.value) in
     c.replace_image.ensures.bytes_after ∙ w.bytes

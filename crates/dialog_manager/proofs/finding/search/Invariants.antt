@@ -1,0 +1,6 @@
+use mathlib.Core.Path.{◌≡◌}
+use Rattle.dialog_manager.proofs.SearchLaws.{Left}
+use Rattle.dialog_manager.proofs.finding.search.Given as goal
+
+abbrev pub invariant-loop-at : goal.invariant-loop-at
+invariant-loop-at g l = (l.at-iterator.bytes.now ≡ l.bytes) × Left (g.W.Wanted.test l.wanted) l.bytes l.at-iterator.at

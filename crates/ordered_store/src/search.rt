@@ -1,0 +1,111 @@
+// The entries of a store's used bytes, of any kind: how many there are, and where the one of a key stands or would go.
+ghost use Rattle.std.specs.Prelude.{◌≡◌, ◌≤◌, length, drop};
+ghost use Rattle.ordered_store.specs.Entries.{Key, decode_entries};
+ghost use Rattle.ordered_store.specs.Layout.{Layout, Lawful, places_read, found_of, found_for};
+ghost use Rattle.ordered_store.specs.Order.{key_order, is_before};
+ghost use Rattle.ordered_store.specs.Places.{Stored, count_of};
+ghost use Rattle.ordered_store.specs.Slot.{slot_read};
+
+use limits::Refusal;
+use std::cmp::Ordering;
+
+// An entry of a store, by the places of its parts.
+pub trait Entry: Copy {
+    ghost Value: { Type 0 };
+
+    ghost layout: { Layout Value Self };
+
+    // The entry that begins at a place.
+    fn read(bytes: &[u8], at: usize) -> Option<Self>
+        requires { at ≤ length bytes.now }
+        ensures { result ≡ places_read layout at (layout.form.read (drop at bytes.now)) };
+
+    // The place after it.
+    fn end(self) -> usize
+        ensures { result ≡ layout.end_of self };
+
+    // Whether its key is before that of another.
+    fn ascends(self, next: Self, bytes: &[u8]) -> bool
+        requires within { layout.Within bytes.now self }
+        requires within_2 { layout.Within bytes.now next }
+        ensures { result ≡ is_before (key_order (layout.key_at bytes.now self) (layout.key_at bytes.now next)) };
+}
+
+// An entry whose key is asked for as a K.
+pub trait KeyedBy<K>: Entry {
+    ghost texts: { K → Key };
+
+    // Its key against one that is asked for.
+    fn compare(self, bytes: &[u8], key: K) -> Ordering
+        requires { Self.layout.Within bytes.now self }
+        ensures { result ≡ key_order (Self.layout.key_at bytes.now self) (texts key) };
+}
+
+// Of lent bytes of which so many are used: the entry of a key, or the place where it would go; 3.
+// Kept (5, 6): a C caller lends bytes and says how many are used.
+pub fn find<K: Copy, E: KeyedBy<K>>(
+    key: K,
+    bytes: &[u8],
+    used: usize,
+) -> Result<Result<E, usize>, Refusal>
+    requires { Lawful E.layout }
+    ensures { result ≡ found_for E.layout (E.texts key) bytes.now used }
+{
+    if bytes.len() < used {
+        return Err(Refusal::BadStore);
+    }
+    let Some(_) = count_entries::<E>(&bytes[..used]) else {
+        return Err(Refusal::BadStore);
+    };
+    search(key, &bytes[..used])
+}
+
+// The entries from the front to the end, each before the next.
+pub fn count_entries<E: Entry>(bytes: &[u8]) -> Option<usize>
+    requires { Lawful E.layout }
+    ensures { result ≡ count_of (decode_entries E.layout.form E.layout.key_of bytes.now) }
+{
+    if bytes.len() == 0 {
+        return Some(0);
+    }
+    let first = E::read(bytes, 0)?;
+    let mut last = first;
+    let mut n = 1;
+    // Kept (3): nothing is counted; the next place is where the entry that was read ends, and an iterator of entries would hold this loop.
+    while last.end() < bytes.len() {
+        let e = E::read(bytes, last.end())?;
+        if !last.ascends(e, bytes) {
+            return None;
+        }
+        last = e;
+        n += 1;
+    }
+    Some(n)
+}
+
+// The first entry whose key isn't before the one asked for. The bytes are those of a store that was read.
+fn search<K: Copy, E: KeyedBy<K>>(key: K, bytes: &[u8]) -> Result<Result<E, usize>, Refusal>
+    requires lawful { Lawful E.layout }
+    requires stored { Stored E.layout.form E.layout.key_of bytes.now }
+    ensures { result ≡ found_of E.layout (slot_read E.layout.form E.layout.key_of (E.texts key) (decode_entries E.layout.form E.layout.key_of bytes.now)) }
+{
+    let mut at = 0;
+    // Kept (3): as in `count_entries`.
+    while at < bytes.len() {
+        let Some(e) = E::read(bytes, at) else {
+            return Err(Refusal::BadStore);
+        };
+        match e.compare(bytes, key) {
+            Ordering::Less => {
+                at = e.end();
+            }
+            Ordering::Equal => {
+                return Ok(Ok(e));
+            }
+            Ordering::Greater => {
+                return Ok(Err(at));
+            }
+        }
+    }
+    Ok(Err(at))
+}

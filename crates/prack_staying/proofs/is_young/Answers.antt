@@ -1,8 +1,0 @@
--- `prack_staying::is_young` meets its contract. Assumes nothing.
-use mathlib.Core.Path.{◌∙◌}
-use Rattle.prack_body.proofs.BodyLaws.{flag_at, time_at_lem}
-use Rattle.prack_staying.proofs.TestLaws.{young}
-use Rattle.prack_staying.proofs.is_young.Goals as goal
-
-pub returns : goal.returns
-returns c = let a = c.args in λ p rest f e. rw (c.elapsed.ensures, time_at_lem a.body.now a.at p rest e f c.read_eight-since.ensures) (young a.time p (λ z. c.if-body-at-eq1.false (flag_at a.body.now a.at p rest e ∙ z)))

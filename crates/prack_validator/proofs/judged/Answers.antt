@@ -1,0 +1,120 @@
+-- `judged` meets its contract: what is held is cleaned, the PRACK held against it, and the store written, whatever the verdict. Assumes nothing.
+use Rattle.std.proofs.Common.{◌≡◌, ℕ, List, None, Result, sym, ap, ◌∙◌, rules, false, ◌++◌, length, take, drop}
+use Rattle.std.proofs.result.Match.{err_is}
+use Rattle.limits.specs.Limits.{rust_limits}
+use Rattle.limits.specs.declared.Refusal.{Refusal}
+use Rattle.limits.proofs.Laws.{passed, stopped}
+use Rattle.text.specs.Answers.{too_long}
+use Rattle.msg.specs.Block.{block_cause}
+use Rattle.output.specs.Output.{fitted}
+use Rattle.codec.proofs.CodecLaws.{Bytes, bytes_all}
+use Rattle.rack.specs.declared.RAck.{RAck}
+use Rattle.ordered_store.specs.Entries.{set_entry}
+use Rattle.prack_body.specs.Lists.{Tracked}
+use Rattle.prack_body.specs.Body.{body_of, Holds}
+use Rattle.prack_body.proofs.BodyLaws.{alone, put_back}
+use Rattle.prack_body.specs.declared.TrackedAt.{TrackedAt}
+use Rattle.prack_entries.specs.Entries.{key_of, encode_tracked, clean_for}
+use Rattle.prack_entries.specs.Places.{Sought}
+use Rattle.prack_entries.proofs.SlotLaws.{sought}
+use Rattle.prack_validator.specs.Validator.{validate, action_cause, judged_for, marked_for, rack_value, ran}
+use Rattle.prack_validator.specs.Answers.{validated_or}
+use Rattle.prack_validator.specs.declared.Validated.{Validated}
+use Rattle.prack_validator.proofs.OperationLaws.{long_cause_lem, rest_cause, short, left_by, by_arguments, by_store, by_fitting, validate_decides, clean_id}
+use Rattle.prack_validator.proofs.AnswerLaws.{validated_kept, validated_taken, set_taken, set_refused}
+use Rattle.prack_validator.proofs.judged.Goals as goal
+use Rattle.prack_validator.proofs.judged.Goals.{After-clean_copy-n, After-hold_against-verdict, In_ok-check_block, In_ok-slot}
+
+-- what is held, with the response marked that the PRACK acknowledges: the store with it
+module _ (id block bytes : List ℕ) (time used : ℕ) {slot : Result TrackedAt ℕ} (s : Sought id bytes used slot) where
+  abbrev marked : Tracked
+  marked = marked_for rust_limits id block time s.list
+
+  abbrev verdict : Result RAck Refusal
+  verdict = judged_for rust_limits id block time s.list
+
+  abbrev stored : Result (List ℕ) Refusal
+  stored = fitted (length bytes) (encode_tracked rust_limits (set_entry key_of marked s.list))
+
+  settled : action_cause rust_limits (validate id block time) ≡ None → ran rust_limits (validate id block time) bytes used ≡ left_by bytes used (rack_value verdict) stored
+  settled clear = by_fitting bytes used (validate id block time) clear s (set_entry key_of marked s.list) (rack_value verdict) (validate_decides id s.list block time)
+
+known : (c : In_ok-slot) → Bytes c.args.bytes.now
+known c = bytes_all c.args.bytes.now (λ n. search rules)
+
+not_long : (c : In_ok-check_block) → too_long rust_limits c.args.id.now ≡ false
+not_long c = sym c.too_long.ensures ∙ c.if-too_long.false
+
+clear : (c : In_ok-check_block) → action_cause rust_limits (validate c.args.id.now c.args.block.now c.args.time) ≡ None
+clear c = rest_cause (validate c.args.id.now c.args.block.now c.args.time) (not_long c) ∙ passed (block_cause rust_limits c.args.block.now) (sym c.check_block.ensures ∙ c.in_ok-check_block.was)
+
+-- the bytes are a store's
+abbrev S : (c : In_ok-slot) → Sought c.args.id.now c.args.bytes.now c.args.used c.in_ok-slot.slot
+S c = sought c.args.id.now c.args.bytes.now c.args.used c.in_ok-slot.slot (sym c.find.ensures ∙ c.in_ok-slot.was)
+
+same : (c : In_ok-slot) → (marked c.args.id.now c.args.block.now c.args.bytes.now c.args.time c.args.used (S c)).id ≡ c.args.id.now
+same c = clean_id (known c) (S c) c.args.time
+
+copied : (c : After-clean_copy-n) (s : Sought c.args.id.now c.args.bytes.now c.args.used c.in_ok-slot.slot) → Holds c.clean_copy-n.new.body c.clean_copy-n.result (clean_for rust_limits c.args.time c.args.id.now s.list)
+copied c s = c.clean_copy-n.ensures.by_index c.args.id.now s (short c.args.id.now (sym c.too_long.ensures ∙ c.if-too_long.false))
+
+pub returns-then-too_long : goal.returns-then-too_long
+returns-then-too_long c =
+    let a = validate c.args.id.now c.args.block.now c.args.time in
+    let old : _ × _ = validated_kept c.args.bytes.now c.args.used (by_arguments c.args.bytes.now c.args.used a (long_cause_lem a (sym c.too_long.ensures ∙ c.if-too_long.true))) in
+    record { value = old.0; bytes_after = old.1 }
+
+pub returns-in_err-check_block : goal.returns-in_err-check_block
+returns-in_err-check_block c =
+    let a = validate c.args.id.now c.args.block.now c.args.time in
+    let e = err_is c.from_residual.result _ c.from_residual.ensures.1 in
+    let old : _ × _ = validated_kept c.args.bytes.now c.args.used (by_arguments c.args.bytes.now c.args.used a
+    (rest_cause a (sym c.too_long.ensures ∙ c.if-too_long.false) ∙ stopped (block_cause rust_limits c.args.block.now) (sym c.check_block.ensures ∙ c.in_err-check_block.was))) in
+    record { value = ap (λ (r : Result Validated Refusal). validated_or r c.args.used) e ∙ old.0; bytes_after = old.1 }
+
+pub returns-in_err-slot : goal.returns-in_err-slot
+returns-in_err-slot c =
+    let a = validate c.args.id.now c.args.block.now c.args.time in
+    let e = err_is c.from_residual-in_err-slot.result _ c.from_residual-in_err-slot.ensures.1 in
+    let old : _ × _ = validated_kept c.args.bytes.now c.args.used (by_store c.args.bytes.now c.args.used a (clear (goal.at.returns-in_err-slot c).In_ok-check_block) c.args.id.now (sym c.find.ensures ∙ c.in_err-slot.was)) in
+    record { value = ap (λ (r : Result Validated Refusal). validated_or r c.args.used) e ∙ old.0; bytes_after = old.1 }
+
+pub hold_against-verdict-requires : goal.hold_against-verdict-requires
+hold_against-verdict-requires c =
+    let s = S (goal.at.hold_against-verdict-requires c).In_ok-slot in
+    (clean_for rust_limits c.args.time c.args.id.now s.list, alone (copied (goal.at.hold_against-verdict-requires c).After-clean_copy-n s))
+
+-- what is held now is the marked body
+changed : (c : After-hold_against-verdict) (s : Sought c.args.id.now c.args.bytes.now c.args.used c.in_ok-slot.slot)
+    → take c.clean_copy-n.result (c.hold_against-verdict.new.body ++ drop c.clean_copy-n.result c.clean_copy-n.new.body) ≡ body_of (marked c.args.id.now c.args.block.now c.args.bytes.now c.args.time c.args.used s)
+changed c s =
+    let h = c.clean_copy-n.ensures.by_index c.args.id.now s (short c.args.id.now (sym c.too_long.ensures ∙ c.if-too_long.false)) in
+    put_back (drop c.clean_copy-n.result c.clean_copy-n.new.body) h (c.hold_against-verdict.ensures.holds (clean_for rust_limits c.args.time c.args.id.now s.list) (alone h)) c.hold_against-verdict.auto.body
+
+pub returns-in_err-kept : goal.returns-in_err-kept
+returns-in_err-kept c =
+    let s = S (goal.at.returns-in_err-kept c).In_ok-slot in
+    let m = marked c.args.id.now c.args.block.now c.args.bytes.now c.args.time c.args.used s in
+    let i = same (goal.at.returns-in_err-kept c).In_ok-slot in
+    let b = changed (goal.at.returns-in_err-kept c).After-hold_against-verdict s in
+    let e = err_is c.from_residual-in_err-kept.result _ c.from_residual-in_err-kept.ensures.1 in
+    let old : _ × _ = validated_kept c.set.new.bytes c.args.used (set_refused c.args.bytes.now c.args.used (rack_value (verdict c.args.id.now c.args.block.now c.args.bytes.now c.args.time c.args.used s))
+    (stored c.args.id.now c.args.block.now c.args.bytes.now c.args.time c.args.used s)
+    (settled c.args.id.now c.args.block.now c.args.bytes.now c.args.time c.args.used s (clear (goal.at.returns-in_err-kept c).In_ok-check_block))
+    (c.set.ensures.value s m i b) (c.set.ensures.bytes_after s m i b) c.in_err-kept.was) in
+    record { value = ap (λ (r : Result Validated Refusal). validated_or r c.args.used) e ∙ old.0; bytes_after = old.1 }
+
+pub returns : goal.returns
+returns c =
+    let s = S (goal.at.returns c).In_ok-slot in
+    let m = marked c.args.id.now c.args.block.now c.args.bytes.now c.args.time c.args.used s in
+    let i = same (goal.at.returns c).In_ok-slot in
+    let b = changed (goal.at.returns c).After-hold_against-verdict s in
+    let h = copied (goal.at.returns c).After-clean_copy-n s in
+    let v = verdict c.args.id.now c.args.block.now c.args.bytes.now c.args.time c.args.used s in
+    let old : _ × _ = validated_taken c.args.bytes.now c.args.used v (set_taken c.args.bytes.now c.args.used (rack_value v)
+    (stored c.args.id.now c.args.block.now c.args.bytes.now c.args.time c.args.used s)
+    (settled c.args.id.now c.args.block.now c.args.bytes.now c.args.time c.args.used s (clear (goal.at.returns c).In_ok-check_block))
+    (c.set.ensures.value s m i b) (c.set.ensures.bytes_after s m i b) c.in_ok-kept.was)
+    (c.hold_against-verdict.ensures.value (clean_for rust_limits c.args.time c.args.id.now s.list) (alone h)) in
+    record { value = old.0; bytes_after = old.1 }
