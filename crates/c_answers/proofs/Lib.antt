@@ -1,1 +1,2 @@
 pub mod ReturnLaws
+pub mod SpanLaws

@@ -119,6 +119,23 @@ part_after (Err cause) old = old
 abbrev pub PartGives : Result Span Refusal → PartNumbers → ℕ → PartNumbers → Type 0
 PartGives answer old r left = Gives (number_in answer) (part_after answer old) r left
 
+-- ---- three texts
+
+pub record SpansNumbers : Type 0 where
+  pub first : ℕ
+  pub first_length : ℕ
+  pub second : ℕ
+  pub second_length : ℕ
+  pub third : ℕ
+  pub third_length : ℕ
+
+abbrev pub spans_after : Result (Span × Span × Span) Refusal → SpansNumbers → SpansNumbers
+spans_after (Ok (a, b, c)) old = record { first = a.start; first_length = a.length; second = b.start; second_length = b.length; third = c.start; third_length = c.length }
+spans_after (Err cause) old = old
+
+abbrev pub SpansGives : Result (Span × Span × Span) Refusal → SpansNumbers → ℕ → SpansNumbers → Type 0
+SpansGives answer old r left = Gives (number_in answer) (spans_after answer old) r left
+
 -- ---- the three parts of an identifier
 
 pub record IdNumbers : Type 0 where
@@ -147,11 +164,15 @@ pub record UriNumbers : Type 0 where
   pub has_port : ℕ
   pub port : ℕ
 
+-- where the user part stands; one that is absent is said to stand, empty, at the host
+abbrev pub user_of : SipUri → Span
+user_of u = unwrap_or u.user (record { start = u.host.start; length = 0 })
+
 abbrev pub uri_after : Result SipUri Refusal → UriNumbers → UriNumbers
 uri_after (Ok u) old = record {
   secure = from_bool u.secure;
-  user = u.user.start;
-  user_length = u.user.length;
+  user = (user_of u).start;
+  user_length = (user_of u).length;
   host = u.host.start;
   host_length = u.host.length;
   has_port = from_bool (is_some u.port);

@@ -4,7 +4,7 @@
 ghost use Rattle.std.specs.Prelude.{◌≡◌};
 ghost use Rattle.limits.specs.Outcome.{number_in};
 ghost use Rattle.limits.specs.Refusal.{number_of};
-ghost use Rattle.c_answers.specs.Given.{refresher_number, least_after, ValueGives, FlagGives, WithUsedGives, WithLeastGives, LookupGives, NextGives, PartGives, IdGives, UriGives, ExpiresGives, MethodLookupGives, RackGives, ValidatedGives};
+ghost use Rattle.c_answers.specs.Given.{refresher_number, least_after, ValueGives, FlagGives, WithUsedGives, WithLeastGives, LookupGives, NextGives, PartGives, SpansGives, IdGives, UriGives, ExpiresGives, MethodLookupGives, RackGives, ValidatedGives};
 
 use dialog_id::DialogId;
 use headers::Refresher;
@@ -14,9 +14,9 @@ use text::Span;
 use uri::SipUri;
 
 // Whether a text, a number or an interval was found, as it is handed over.
-const FOUND: u8 = 1;
+pub const FOUND: u8 = 1;
 
-const NOTHING: u8 = 0;
+pub const NOTHING: u8 = 0;
 
 pub fn check_number(c: Result<(), Refusal>) -> u8
     ensures { result ≡ number_in c }
@@ -74,13 +74,12 @@ pub fn give_with_used<T: Copy>(
 pub fn give_with_least<T: Copy>(answer: Result<T, Refusal>, value: &mut T, least: &mut u64) -> u8
     ensures { WithLeastGives answer (record { value = value.old; least = least.old }) result (record { value = value.new; least = least.new }) }
 {
-    match answer {
-        Ok(given) => {
-            *value = given;
-            0
-        }
-        Err(x) => give_least(x, least),
-    }
+    let given = match answer {
+        Ok(given) => given,
+        Err(x) => return give_least(x, least),
+    };
+    *value = given;
+    0
 }
 
 pub fn give_lookup(
@@ -144,6 +143,32 @@ pub fn give_part(answer: Result<Span, Refusal>, place: &mut usize, length: &mut 
     }
 }
 
+// Where three texts lie.
+pub fn give_spans(
+    answer: Result<(Span, Span, Span), Refusal>,
+    first: &mut usize,
+    first_length: &mut usize,
+    second: &mut usize,
+    second_length: &mut usize,
+    third: &mut usize,
+    third_length: &mut usize,
+) -> u8
+    ensures { SpansGives answer (record { first = first.old; first_length = first_length.old; second = second.old; second_length = second_length.old; third = third.old; third_length = third_length.old }) result (record { first = first.new; first_length = first_length.new; second = second.new; second_length = second_length.new; third = third.new; third_length = third_length.new }) }
+{
+    match answer {
+        Ok((a, b, c)) => {
+            *first = a.start;
+            *first_length = a.length;
+            *second = b.start;
+            *second_length = b.length;
+            *third = c.start;
+            *third_length = c.length;
+            0
+        }
+        Err(x) => x.number(),
+    }
+}
+
 pub fn give_id(
     answer: Result<DialogId, Refusal>,
     call: &mut usize,
@@ -155,18 +180,16 @@ pub fn give_id(
 ) -> u8
     ensures { IdGives answer (record { call = call.old; call_length = call_length.old; local = local.old; local_length = local_length.old; remote = remote.old; remote_length = remote_length.old }) result (record { call = call.new; call_length = call_length.new; local = local.new; local_length = local_length.new; remote = remote.new; remote_length = remote_length.new }) }
 {
-    match answer {
-        Ok(i) => {
-            *call = i.call_id.start;
-            *call_length = i.call_id.length;
-            *local = i.local_tag.start;
-            *local_length = i.local_tag.length;
-            *remote = i.remote_tag.start;
-            *remote_length = i.remote_tag.length;
-            0
-        }
-        Err(x) => x.number(),
-    }
+    let parts = answer.map(|i| (i.call_id, i.local_tag, i.remote_tag));
+    give_spans(
+        parts,
+        call,
+        call_length,
+        local,
+        local_length,
+        remote,
+        remote_length,
+    )
 }
 
 pub fn give_uri(
@@ -183,9 +206,13 @@ pub fn give_uri(
 {
     match answer {
         Ok(u) => {
+            let part = u.user.unwrap_or(Span {
+                start: u.host.start,
+                length: 0,
+            });
             *secure = u8::from(u.secure);
-            *user = u.user.start;
-            *user_length = u.user.length;
+            *user = part.start;
+            *user_length = part.length;
             *host = u.host.start;
             *host_length = u.host.length;
             *has_port = u8::from(u.port.is_some());
@@ -270,15 +297,10 @@ pub fn give_validated(answer: Result<u64, Refusal>, least: &mut u64) -> u8
 }
 
 // 0 none, 1 uac, 2 uas.
-// Kept (4): a `From` would have to stand in the crate of the enum, and a cast would hand over the order of its variants.
 pub fn refresher_number(r: Option<Refresher>) -> u8
     ensures { result ≡ refresher_number r }
 {
-    match r {
-        None => 0,
-        Some(Refresher::Uac) => 1,
-        Some(Refresher::Uas) => 2,
-    }
+    r.map_or(0, |side| side as u8)
 }
 
 // The number of a refusal, and of 13 the least.

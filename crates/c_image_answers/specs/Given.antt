@@ -24,12 +24,12 @@ state_number state.Terminated = 3
 -- where the three parts of the identifier lie; one that is empty has length 0
 abbrev pub id_after : Result RecordAt Refusal → IdNumbers → IdNumbers
 id_after (Ok p) old = record {
-  call = p.ids.call_id.start;
-  call_length = p.ids.call_id.length;
-  local = p.ids.local_tag.start;
-  local_length = p.ids.local_tag.length;
-  remote = p.ids.remote_tag.start;
-  remote_length = p.ids.remote_tag.length;
+  call = p.ids.id.call_id.start;
+  call_length = p.ids.id.call_id.length;
+  local = p.ids.id.local_tag.start;
+  local_length = p.ids.id.local_tag.length;
+  remote = p.ids.id.remote_tag.start;
+  remote_length = p.ids.id.remote_tag.length;
 }
 id_after (Err cause) old = old
 

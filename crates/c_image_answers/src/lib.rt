@@ -1,37 +1,11 @@
 // Answers about one record image handed over to a C caller: the number is returned, and the values go to the lent numbers.
 #![tactic(auto)]
 
-ghost use Rattle.c_image_answers.specs.Given.{ImageIdGives, StateGives, UrisGives, NumbersGives, RouteCountGives};
+ghost use Rattle.c_image_answers.specs.Given.{StateGives, UrisGives, NumbersGives};
 
-use c_answers::refresher_number;
+use c_answers::{give_spans, refresher_number};
 use image::{RecordAt, state_number};
 use limits::Refusal;
-
-pub fn give_image_id(
-    answer: Result<RecordAt, Refusal>,
-    call: &mut usize,
-    call_length: &mut usize,
-    local: &mut usize,
-    local_length: &mut usize,
-    remote: &mut usize,
-    remote_length: &mut usize,
-) -> u8
-    ensures { ImageIdGives answer (record { call = call.old; call_length = call_length.old; local = local.old; local_length = local_length.old; remote = remote.old; remote_length = remote_length.old }) result (record { call = call.new; call_length = call_length.new; local = local.new; local_length = local_length.new; remote = remote.new; remote_length = remote_length.new }) }
-{
-    match answer {
-        Ok(r) => {
-            let ids = r.ids;
-            *call = ids.call_id.start;
-            *call_length = ids.call_id.length;
-            *local = ids.local_tag.start;
-            *local_length = ids.local_tag.length;
-            *remote = ids.remote_tag.start;
-            *remote_length = ids.remote_tag.length;
-            0
-        }
-        Err(x) => x.number(),
-    }
-}
 
 pub fn give_state(
     answer: Result<RecordAt, Refusal>,
@@ -66,19 +40,16 @@ pub fn give_uris(
 ) -> u8
     ensures { UrisGives answer (record { target = target.old; target_length = target_length.old; local_uri = local_uri.old; local_uri_length = local_uri_length.old; remote_uri = remote_uri.old; remote_uri_length = remote_uri_length.old }) result (record { target = target.new; target_length = target_length.new; local_uri = local_uri.new; local_uri_length = local_uri_length.new; remote_uri = remote_uri.new; remote_uri_length = remote_uri_length.new }) }
 {
-    match answer {
-        Ok(r) => {
-            let uris = r.uris;
-            *target = uris.target.start;
-            *target_length = uris.target.length;
-            *local_uri = uris.local_uri.start;
-            *local_uri_length = uris.local_uri.length;
-            *remote_uri = uris.remote_uri.start;
-            *remote_uri_length = uris.remote_uri.length;
-            0
-        }
-        Err(x) => x.number(),
-    }
+    let parts = answer.map(|r| (r.uris.target, r.uris.local_uri, r.uris.remote_uri));
+    give_spans(
+        parts,
+        target,
+        target_length,
+        local_uri,
+        local_uri_length,
+        remote_uri,
+        remote_uri_length,
+    )
 }
 
 pub fn give_numbers(
@@ -106,18 +77,6 @@ pub fn give_numbers(
             *has_seconds = u8::from(interval.is_some());
             *seconds = interval.unwrap_or(*seconds);
             *refresher = refresher_number(side);
-            0
-        }
-        Err(x) => x.number(),
-    }
-}
-
-pub fn give_route_count(answer: Result<RecordAt, Refusal>, count: &mut usize) -> u8
-    ensures { RouteCountGives answer count.old result count.new }
-{
-    match answer {
-        Ok(r) => {
-            *count = r.route_count;
             0
         }
         Err(x) => x.number(),

@@ -3,6 +3,7 @@
 
 ghost use Rattle.c_minute_answers.specs.Given.{WorstGives};
 
+use c_answers::{FOUND, NOTHING};
 use limits::Refusal;
 
 // How many refusals, whether there is a start, and the start, which keeps its value where there is none.
@@ -17,13 +18,13 @@ pub fn give_worst(
     match answer {
         Ok(Some((n, t))) => {
             *refusals = n;
-            *found = 1;
+            *found = FOUND;
             *start = t;
             0
         }
         Ok(None) => {
             *refusals = 0;
-            *found = 0;
+            *found = NOTHING;
             0
         }
         Err(x) => x.number(),

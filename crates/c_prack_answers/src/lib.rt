@@ -3,7 +3,7 @@
 
 ghost use Rattle.c_prack_answers.specs.Given.{rack_of, ValidatedGives};
 
-use limits::Refusal;
+use c_answers::give_rack;
 use prack_validator::Validated;
 
 // The parts of the RAck, and the new used length, which a refused PRACK may have too.
@@ -17,13 +17,6 @@ pub fn give_validated(
     ensures { ValidatedGives answer (record { used = used.old; rack = rack_of rseq.old cseq.old method.old }) result (record { used = used.new; rack = rack_of rseq.new cseq.new method.new }) }
 {
     *used = answer.used;
-    match answer.verdict {
-        Ok(k) => {
-            *rseq = k.rseq;
-            *cseq = k.cseq;
-            *method = k.method;
-            0
-        }
-        Err(x) => x.number(),
-    }
+    let verdict = answer.verdict;
+    give_rack(verdict, rseq, cseq, method)
 }

@@ -1,22 +1,17 @@
 -- The values beside the number: the next local number, 13's least interval, the count, how many bytes of the output were written. Assumes nothing.
 use Prim.Native.Nat.{ℕ}
-use native.Mathlib.Omega.{arith}
 use mathlib.Core.Path.{◌≡◌, refl, sym, ap, subst, ◌∙◌}
-use mathlib.Core.Bool.{Bool, true, false}
 use mathlib.Core.List.{List}
-use lib.ListN.{length, take}
-use lib.Dec.{ltb}
-use Rattle.std.specs.Prelude.{Err, None, Ok, Option, Result, Some}
+use lib.ListN.{length}
+use Rattle.std.specs.Prelude.{Err, None, Ok, Result}
 use Rattle.limits.specs.Limits.{LimitSet}
-use Rattle.limits.specs.Outcome.{refuse_if, or_refuse, number_in}
+use Rattle.limits.specs.Outcome.{number_in}
 use Rattle.limits.specs.declared.Refusal.{Refusal}
-use Rattle.limits.specs.declared.Refusal.TheVariants.{BadStore}
 use Rattle.codec.proofs.CodecLaws.{Bytes}
 use Rattle.store.specs.Counting.{records_held, count_answer}
 use Rattle.dialog_id.specs.Ident.{Ident}
 use Rattle.book.specs.Calls.{local_number, Call, update, read, count, all_ids, Value, number, Answer}
-use Rattle.record.specs.Store.{decode_all}
-use Rattle.book.specs.Book.{Book, reading_cause, reply}
+use Rattle.book.specs.Book.{reading_cause, reply}
 use Rattle.book.specs.Store.{run}
 use Rattle.book.specs.Returned.{Returns, number_after, length_after, least_after}
 use Rattle.book.proofs.ReadingLaws.{local_value, identifiers_value}
@@ -92,16 +87,6 @@ module _ (L : LimitSet) (n : ℕ) (bytes : List ℕ) (used : ℕ) (h : Bytes byt
   unfolding reply
   counts k = replies L n count bytes used h none_asked k (Ok (number (length k.contents.records))) refl
 
-  -- 3 is the only cause
-  only : {c : Refusal} → count_answer (records_held bytes used) ≡ Err c → c ≡ BadStore
-  unfolding records_held
-  only {c} e = from (ltb (length bytes) used) (decode_all (take used bytes)) e
-    where
-      from : (t : Bool) (o : Option Book) → count_answer (refuse_if t BadStore (or_refuse BadStore o)) ≡ Err c → c ≡ BadStore
-      from true o e = cc
-      from false None e = cc
-      from false (Some b) e = absurd (let z : ◌≡◌ {A = ℕ} 0 1 = cc in omega arith)
-
   -- the count of the records is the answer of the reading
   pub count_answers : (old r left : ℕ) → ValueGives (count_answer (records_held bytes used)) old r left
       → (r ≡ number_in (run L (read n count) bytes used).answer) × (left ≡ number_after (run L (read n count) bytes used).answer old)
@@ -109,8 +94,8 @@ module _ (L : LimitSet) (n : ℕ) (bytes : List ℕ) (used : ℕ) (h : Bytes byt
     where
       by : (a : Result ℕ Refusal) → count_answer (records_held bytes used) ≡ a → (r ≡ number_in (run L (read n count) bytes used).answer) × (left ≡ number_after (run L (read n count) bytes used).answer old)
       by (Err cause) e =
-          let x : Err BadStore ≡ (run L (read n count) bytes used).answer = store_refuses L n count bytes used h none_asked e in
-          (g.number_is ∙ (ap number_in e ∙ (ap (λ (z : Refusal). number_in {A = ℕ} (Err z)) (only e) ∙ ap number_in x)), g.left_is ∙ (ap (λ (z : Result ℕ Refusal). value_after z old) e ∙ ap (λ (a : Answer). number_after a old) x))
+          let x : Err cause ≡ (run L (read n count) bytes used).answer = store_refuses L n count bytes used h none_asked e in
+          (g.number_is ∙ (ap number_in e ∙ ap number_in x), g.left_is ∙ (ap (λ (z : Result ℕ Refusal). value_after z old) e ∙ ap (λ (a : Answer). number_after a old) x))
       by (Ok m) e =
           let k = kept bytes used e in
           let x = counts k in

@@ -11,6 +11,8 @@ use limits::Refusal;
 use metrics::count_one;
 
 // Where a record's image lies, and its length.
+// Kept (2): `c_answers::give_part` says what it gives by a part of a text; here it is the value of a call on a store, by which the clauses of the C functions
+// name it.
 pub fn give_place(
     answer: Result<(usize, usize), Refusal>,
     place: &mut usize,

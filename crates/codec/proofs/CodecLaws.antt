@@ -10,12 +10,9 @@ use lib.Seq.{take-append_seam, drop-append_seam, length-take-le}
 use lib.Dec.{leb, eqb}
 use borrow.Author.Tests.{le-leb, leb-true, eq-eqb, eqb-true}
 use Rattle.std.specs.Prelude.{None, Option, Some}
+unfoldable pub use Rattle.codec.specs.Exact.{Bytes}
+pub use Rattle.codec.specs.Exact.{Exact}
 use Rattle.codec.specs.Codec.{Reading, Codec, byte, read_byte, two, read_two, four, read_four, Pair, paired, read_then, then, passing, such, flagged, renamed, mapped, wide, halves, eight, read_text, text, write_all, in_front, and_more, read_all, read_counted, counted, keyed_by, read_keyed, keyed}
-
--- every element is a byte
-abbrev pub Bytes : List ℕ → Type 0
-Bytes [] = Unit {0}
-Bytes (b ∷ s) = (b < 256) × Bytes s
 
 pub bytes_after : (s t : List ℕ) → Bytes (s ++ t) → Bytes t
 bytes_after [] t h = h
@@ -35,10 +32,6 @@ bytes_drop (suc at) (b ∷ s) h = bytes_drop at s h.1
 pub bytes_all : (s : List ℕ) → ((i : ℕ) → get_or s i 0 < 256) → Bytes s
 bytes_all [] h = tt
 bytes_all (b ∷ s) h = (h 0, bytes_all s (λ i. h (suc i)))
-
-pub record Exact {A : Type 0} (c : Codec A) (Good : A → Type 0) : Type 0 where
-  pub round : (a : A) → Good a → (rest : List ℕ) → c.read (c.write a ++ rest) ≡ Some (record { value = a; rest = rest })
-  pub back : (s : List ℕ) (r : Reading A) → Bytes s → c.read s ≡ Some r → (s ≡ c.write r.value ++ r.rest) × Good r.value
 
 -- nothing read is not something read
 pub no_reading : {A : Type 0} {r : Reading A} → None ≡ Some r → ⊥

@@ -1,2 +1,3 @@
 pub mod Codec
+pub mod Exact
 pub mod Places

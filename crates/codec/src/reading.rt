@@ -68,6 +68,7 @@ fn bytes_at<const N: usize>(bytes: &[u8], at: usize) -> [u8; N]
 }
 
 // A byte as a wider number.
+// Kept (4): `usize::from` says what the number is; this says too that it is below 256, for the sums and products of its callers.
 pub fn wide(b: u8) -> usize
     ensures { (result ≡ b) × (result < 256) }
 {

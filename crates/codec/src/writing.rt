@@ -6,7 +6,8 @@ ghost use Rattle.codec.specs.Codec.{two, four, eight, text};
 use edit::put;
 
 // Two length bytes, and the text.
-// Kept (5): the place goes in as a number and comes back as the next one, which the caller writes at.
+// Kept (5): a writer of bytes and place would need a clause about its reference in each function that is lent it, beside those about the bytes and
+// the place: three where two stand.
 pub fn write_text(out: &mut [u8], at: usize, t: &[u8]) -> usize
     requires { (length t.now < 65536) × (at + 2 + length t.now ≤ length out.old) }
     ensures value { result ≡ at + length (text.write t.now) }
@@ -18,7 +19,8 @@ pub fn write_text(out: &mut [u8], at: usize, t: &[u8]) -> usize
 }
 
 // One byte.
-// Kept (5): the place goes in as a number and comes back as the next one, which the caller writes at.
+// Kept (5): a writer of bytes and place would need a clause about its reference in each function that is lent it, beside those about the bytes and
+// the place: three where two stand.
 pub fn write_byte(out: &mut [u8], at: usize, b: u8) -> usize
     requires { at + 1 ≤ length out.old }
     ensures value { result ≡ at + 1 }
@@ -29,7 +31,8 @@ pub fn write_byte(out: &mut [u8], at: usize, b: u8) -> usize
 }
 
 // A number of two bytes, the higher first.
-// Kept (5): the place goes in as a number and comes back as the next one, which the caller writes at.
+// Kept (5): a writer of bytes and place would need a clause about its reference in each function that is lent it, beside those about the bytes and
+// the place: three where two stand.
 pub fn write_two(out: &mut [u8], at: usize, n: usize) -> usize
     requires { (n < 65536) × (at + 2 ≤ length out.old) }
     ensures value { result ≡ at + 2 }
@@ -40,7 +43,8 @@ pub fn write_two(out: &mut [u8], at: usize, n: usize) -> usize
 }
 
 // A number of four bytes, the highest first.
-// Kept (5): the place goes in as a number and comes back as the next one, which the caller writes at.
+// Kept (5): a writer of bytes and place would need a clause about its reference in each function that is lent it, beside those about the bytes and
+// the place: three where two stand.
 pub fn write_four(out: &mut [u8], at: usize, n: u32) -> usize
     requires { at + 4 ≤ length out.old }
     ensures value { result ≡ at + 4 }
@@ -51,7 +55,8 @@ pub fn write_four(out: &mut [u8], at: usize, n: u32) -> usize
 }
 
 // A number of eight bytes, the highest first.
-// Kept (5): the place goes in as a number and comes back as the next one, which the caller writes at.
+// Kept (5): a writer of bytes and place would need a clause about its reference in each function that is lent it, beside those about the bytes and
+// the place: three where two stand.
 pub fn write_eight(out: &mut [u8], at: usize, n: u64) -> usize
     requires { at + 8 ≤ length out.old }
     ensures value { result ≡ at + 8 }

@@ -4,11 +4,11 @@
 ghost use Rattle.std.specs.Prelude.{◌≡◌, ◌≤◌, length};
 ghost use Rattle.limits.specs.Limits.{rust_limits};
 ghost use Rattle.limits.specs.Outcome.{or_else, check_of};
-ghost use Rattle.text.specs.Answers.{length_cause};
 ghost use Rattle.dialog_rules.specs.Creation.{texts_cause, form_cause, uri_cause, estimate_cause};
 ghost use Rattle.creation_checks.specs.Given.{creation_of};
 
 use limits::Refusal;
+use text::check_length;
 
 // What a creation is given: the method, the two messages with the response's status, and the two URIs.
 #[derive(Clone, Copy)]
@@ -32,15 +32,6 @@ pub fn check_texts(c: NewDialog<'_>) -> Result<(), Refusal>
     check_length(c.remote_uri)
 }
 
-fn check_length(t: &[u8]) -> Result<(), Refusal>
-    ensures { result ≡ check_of (length_cause rust_limits t.now) }
-{
-    if text::too_long(t) {
-        return Err(Refusal::TextTooLong);
-    }
-    Ok(())
-}
-
 // 2 of the two messages, which are not too long.
 pub fn check_forms(c: NewDialog<'_>) -> Result<(), Refusal>
     requires { (length c.request.now ≤ 8192) × (length c.response.now ≤ 8192) }
@@ -58,6 +49,7 @@ pub fn check_uris(c: NewDialog<'_>) -> Result<(), Refusal>
     check_uri(c.remote_uri)
 }
 
+// Kept (1): document 01 names `let .. else` for the reading of a URI.
 fn check_uri(t: &[u8]) -> Result<(), Refusal>
     ensures { result ≡ check_of (uri_cause t.now) }
 {
@@ -76,6 +68,7 @@ pub fn check_estimates(c: NewDialog<'_>, target: &[u8]) -> Result<(), Refusal>
     check_estimate(target)
 }
 
+// Kept (1): document 01 names `let .. else` for the reading of a URI.
 fn check_estimate(t: &[u8]) -> Result<(), Refusal>
     ensures { result ≡ check_of (estimate_cause rust_limits t.now) }
 {

@@ -1,6 +1,6 @@
 -- Steps of the code: which message a creation reads for what, the state, the numbers and the size of the routes' section. What a creation makes is in
 -- dialog_rules/specs/Creation.antt.
-use Rattle.std.specs.Prelude.{ℕ, Bool, true, false, List, length, Err, None, Ok, Option, Result, Some}
+use Rattle.std.specs.Prelude.{ℕ, ◌≡◌, Bool, true, false, List, length, Err, None, Ok, Option, Result, Some}
 use Rattle.limits.specs.Limits.{LimitSet}
 use Rattle.limits.specs.Outcome.{refuse_by, and_then}
 use Rattle.limits.specs.declared.Refusal.{Refusal}
@@ -17,6 +17,8 @@ use Rattle.record.specs.declared.numbers.Numbers.{Numbers as CodeNumbers}
 use Rattle.dialog_rules.specs.Creation.{numbers_at, sequence_in, interval_cause}
 use Rattle.dialog_rules.specs.Updates.{interval_from}
 use Rattle.route_section.specs.Section.{section_of, route_texts}
+use Rattle.route_section.specs.Measured.{Measured}
+use Rattle.route_section.specs.declared.PeerRoutes.{PeerRoutes}
 
 -- ---- the side
 
@@ -33,6 +35,11 @@ peer_of false request response = request
 abbrev pub identifier_for : Bool → List ℕ → Option Identifier
 identifier_for true response = identifier_of from_name to_name response
 identifier_for false response = identifier_of to_name from_name response
+
+-- the local and the remote number of a new record, by the request's
+abbrev pub sequences_for : Bool → ℕ → ℕ × ℕ
+sequences_for true n = (n, 0)
+sequences_for false n = (0, n)
 
 -- ---- readings
 
@@ -71,6 +78,10 @@ abbrev pub remainder_of : LimitSet → Side → State → List ℕ → List ℕ 
 remainder_of L side s request response peer = remainder_by (routes_of L peer) (numbers_in L side s request response)
 
 -- what the code's answer says
-abbrev pub remainder_in : Result (CodeNumbers × ℕ) Refusal → Result Remainder Refusal
-remainder_in (Ok (x, n)) = Ok (record { numbers = meaning x; routes = n })
+abbrev pub remainder_in : Result (CodeNumbers × PeerRoutes) Refusal → Result Remainder Refusal
+remainder_in (Ok (x, p)) = Ok (record { numbers = meaning x; routes = p.size })
 remainder_in (Err cause) = Err cause
+
+-- the routes beside the numbers are those of the block, and were measured
+abbrev pub MeasuredOf : List ℕ → CodeNumbers × PeerRoutes → Type 0
+MeasuredOf block (x, p) = (p.block.now ≡ block) × Measured p

@@ -1,32 +1,26 @@
-// What a creation reads from the two messages: the identifier, the state, the target, the numbers, and the size of the routes' section.
+// What a creation reads from the two messages: the identifier, the state, the target, the numbers, and what the routes' section measures.
 #![tactic(auto)]
 
-ghost use Rattle.std.specs.Prelude.{◌≡◌, ◌≤◌, length};
+ghost use Rattle.std.specs.Prelude.{◌≡◌, ◌≤◌, length, IfOk};
 ghost use Rattle.limits.specs.Limits.{rust_limits};
 ghost use Rattle.limits.specs.Outcome.{check_of};
-ghost use Rattle.dialog_id.specs.DialogId.{id_from};
 ghost use Rattle.route_set.specs.Routes.{contact_of};
 ghost use Rattle.prack_headers.specs.Sequence.{number_answer};
 ghost use Rattle.record.specs.NumbersForm.{meaning, state_in, outcome_in};
 ghost use Rattle.dialog_rules.specs.Creation.{numbers_at, state_by, sequence_in, interval_cause};
 ghost use Rattle.dialog_rules.specs.Updates.{text_or, interval_from};
-ghost use Rattle.creation_readings.specs.Steps.{side_for, peer_of, identifier_for, target_pointer, first_state, interval_in, numbers_in, remainder_of, remainder_in};
+ghost use Rattle.creation_readings.specs.Steps.{side_for, target_pointer, first_state, interval_in, numbers_in, remainder_of, remainder_in, MeasuredOf};
 
 use creation_checks::NewDialog;
-use dialog_id::DialogId;
 use headers::Refresher;
 use limits::{Limits, Refusal};
 use record::{Numbers, State};
-use route_section::measure_routes;
+use route_section::{PeerRoutes, measure_routes};
 use session_seconds::check_expires_seconds;
 
-// The message with Contact and Record-Route: the response for uac, the request for uas.
-// Kept (7): `we_are_uac` is the Rust's own field, and picks one of two messages.
-pub fn peer_block<'a>(we_are_uac: bool, c: NewDialog<'a>) -> &'a [u8]
-    ensures { result.now ≡ peer_of we_are_uac c.entry.request.now c.entry.response.now }
-{
-    if we_are_uac { c.response } else { c.request }
-}
+mod side;
+
+pub use side::{Side, Uac, Uas};
 
 // The Contact's text, as a part of the block, or else the remote URI itself. The first promise is which of the two slices it is a part of and
 // where it starts, the second its bytes, and so its length.
@@ -37,20 +31,7 @@ pub fn target<'a>(block: &'a [u8], remote_uri: &'a [u8]) -> &'a [u8]
     let Some(c) = route_set::find_contact(block) else {
         return remote_uri;
     };
-    let a = c.start;
-    let e = a + c.length;
-    &block[a..e]
-}
-
-// The identifier of the response: From has the uac's tag.
-// Kept (7): `we_are_uac` is the Rust's own field, and picks which header has which tag.
-pub fn identifier(we_are_uac: bool, response: &[u8]) -> Option<DialogId>
-    ensures { result ≡ id_from (identifier_for we_are_uac response.now) }
-{
-    if we_are_uac {
-        return dialog_id::read_id(response, b"From", b"To");
-    }
-    dialog_id::read_id(response, b"To", b"From")
+    &block[c.start..c.end()]
 }
 
 // Early by 100 to 199, Confirmed by 200 to 299.
@@ -67,33 +48,38 @@ pub fn state_for(status: u16) -> Option<State>
 }
 
 // 7 or 8 in the routes, then 4, 9, 10, 13 and 14 of the numbers.
-// Kept (5): the side goes alone to the readings before and to the writing after: the two do not always travel together.
-pub fn read_rest(
-    we_are_uac: bool,
+// Kept (5): the clause asks for the length alone; a type of a checked block would need a second `check_block` that hands it out, and `.text` at each reading.
+pub fn read_rest<'a, S: Side>(
     state: State,
     c: NewDialog<'_>,
-    peer: &[u8],
-) -> Result<(Numbers, usize), Refusal>
+    peer: &'a [u8],
+) -> Result<(Numbers, PeerRoutes<'a>), Refusal>
     requires { length peer.now ≤ 8192 }
-    ensures { remainder_in result ≡ remainder_of rust_limits (side_for we_are_uac) (state_in state) c.entry.request.now c.entry.response.now peer.now }
+    ensures value { remainder_in result ≡ remainder_of rust_limits (side_for S.WE_ARE_UAC) (state_in state) c.entry.request.now c.entry.response.now peer.now }
+    ensures measured { IfOk result (MeasuredOf peer.now) }
 {
-    let (_, size) = measure_routes(peer)?;
-    let numbers = read_numbers(we_are_uac, state, c)?;
-    Ok((numbers, size))
+    let (count, size) = measure_routes(peer)?;
+    let numbers = read_numbers::<S>(state, c)?;
+    let routes = PeerRoutes {
+        block: peer,
+        count,
+        size,
+    };
+    Ok((numbers, routes))
 }
 
 // The numbers: 4, 9, 10 of the request's CSeq, 13 and 14 of the response's interval.
-// Kept (5): the side goes alone to the readings before and to the writing after: the two do not always travel together.
-fn read_numbers(we_are_uac: bool, state: State, c: NewDialog<'_>) -> Result<Numbers, Refusal>
-    ensures { outcome_in result ≡ numbers_in rust_limits (side_for we_are_uac) (state_in state) c.entry.request.now c.entry.response.now }
+fn read_numbers<S: Side>(state: State, c: NewDialog<'_>) -> Result<Numbers, Refusal>
+    ensures { outcome_in result ≡ numbers_in rust_limits (side_for S.WE_ARE_UAC) (state_in state) c.entry.request.now c.entry.response.now }
 {
     let n = read_sequence(c.request)?;
     let expires = headers::expires_named(c.response);
     check_interval(expires)?;
-    Ok(first_numbers(we_are_uac, state, n, expires))
+    Ok(first_numbers::<S>(state, n, expires))
 }
 
 // The request's number: 4, 9, 10.
+// Kept (1): document 01 names `let .. else` for the reading of a number.
 fn read_sequence(block: &[u8]) -> Result<u32, Refusal>
     ensures { result ≡ number_answer (sequence_in rust_limits block.now) }
 {
@@ -120,18 +106,15 @@ fn check_interval(expires: Option<(u32, Option<Refresher>)>) -> Result<(), Refus
     Ok(())
 }
 
-// The request's number is the uac's local one and the uas's remote one.
-// Kept (5): the side goes alone to the readings before and to the writing after: the two do not always travel together.
-// Kept (7): `we_are_uac` is the Rust's own field, and picks which of the two numbers it is.
-fn first_numbers(
-    we_are_uac: bool,
+// Those of a new record, by the request's number and the response's interval.
+fn first_numbers<S: Side>(
     state: State,
     n: u32,
     expires: Option<(u32, Option<Refresher>)>,
 ) -> Numbers
-    ensures { meaning result ≡ interval_from (interval_in expires) (numbers_at (side_for we_are_uac) (state_in state) n) }
+    ensures { meaning result ≡ interval_from (interval_in expires) (numbers_at (side_for S.WE_ARE_UAC) (state_in state) n) }
 {
-    let (local, remote) = if we_are_uac { (n, 0) } else { (0, n) };
+    let (local, remote) = S::sequences(n);
     Numbers {
         state,
         local,

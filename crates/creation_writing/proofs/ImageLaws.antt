@@ -1,10 +1,10 @@
 -- The image of a new record: its secure bit, and its front and its routes' section, written one after the other. Assumes nothing.
-use Prim.Native.Nat.{ℕ, ◌+◌, ◌-◌, ◌≤◌, ◌<◌}
+use Prim.Native.Nat.{ℕ, ◌+◌, ◌-◌, ◌≤◌}
 use native.Mathlib.Omega.{arith}
 use mathlib.Core.Path.{◌≡◌, refl, sym, ap, ◌∙◌}
 use mathlib.Core.Bool.{Bool, true, false, ◌||◌}
 use mathlib.Core.List.{List, [], ◌∷◌, ◌++◌, append_assoc}
-use lib.ListN.{length, take, drop, length-append, length-take}
+use lib.ListN.{length, take, drop, length-append}
 use lib.Seq.{take_at, drop_at, drop-drop}
 use lib.Dec.{ltb}
 use borrow.Author.Tests.{lt-ltb, ltb-false}
@@ -13,13 +13,11 @@ use Rattle.std.specs.Prelude.{Err, Ok, Result}
 use Rattle.limits.specs.Outcome.{cause_if, refuse_by}
 use Rattle.limits.specs.declared.Refusal.{Refusal}
 use Rattle.limits.specs.declared.Refusal.TheVariants.{NoRoom}
-use Rattle.text.proofs.Alike.{alike_length}
 use Rattle.edit.specs.Edit.{over}
 use Rattle.output.specs.Output.{fitted, leaves, written_from}
-use Rattle.uri.specs.SipUri.{sips}
 use Rattle.dialog_id.specs.declared.IdTexts.{IdTexts}
 use Rattle.record.specs.Record.{Numbers, is_filled, is_sips}
-use Rattle.image_writer.specs.declared.UriTexts.{UriTexts}
+use Rattle.image_writer.specs.declared.front.UriTexts.{UriTexts}
 use Rattle.image_writer.specs.Parts.{Parts, ids_given, uris_given, image_of, Front, front_of, fitted_before}
 use Rattle.image_writer.proofs.FieldLaws.{accepted}
 use Rattle.image_writer.proofs.ImageLaws.{image_front}
@@ -27,14 +25,10 @@ use Rattle.creation_writing.specs.NewParts.{parts_for}
 
 -- ---- the parts
 
--- a text shorter than `sips:` doesn't begin with it
-pub short_sips : (t : List ℕ) → length t < 5 → is_sips t ≡ false
-short_sips t h = alike_length _ (take 5 t) sips (λ e. omega (arith, length-take 5 t))
-
--- the same parts with the secure bit as it was tested
-pub parts_same : (u : Bool) (x : Numbers) (id : IdTexts) (t : UriTexts) (routes : List ℕ) {s : Bool} → s ≡ (is_sips t.local_uri.now || is_sips t.remote_uri.now)
-    → record { numbers = x; we_are_uac = u; secure = s; ids = ids_given id; uris = uris_given t; routes = routes } ≡ parts_for u x id t routes
-parts_same u x id t routes e = rw e
+-- the same parts with the side and the secure bit as the code has them
+pub parts_same : (u : Bool) (x : Numbers) (id : IdTexts) (t : UriTexts) (routes : List ℕ) {v s : Bool} → v ≡ u → s ≡ (is_sips t.local_uri.now || is_sips t.remote_uri.now)
+    → record { numbers = x; we_are_uac = v; secure = s; ids = ids_given id; uris = uris_given t; routes = routes } ≡ parts_for u x id t routes
+parts_same u x id t routes d e = rw (d, e)
 
 -- ---- the front and the routes
 

@@ -3,7 +3,7 @@ use Rattle.std.specs.Prelude.{ℕ, Bool, ◌||◌, List}
 use Rattle.dialog_id.specs.declared.IdTexts.{IdTexts}
 use Rattle.record.specs.Record.{Numbers, is_sips}
 use Rattle.image_writer.specs.Parts.{Parts, ids_given, uris_given}
-use Rattle.image_writer.specs.declared.UriTexts.{UriTexts}
+use Rattle.image_writer.specs.declared.front.UriTexts.{UriTexts}
 
 -- the parts of the record: it is secure where the local or the remote URI is `sips`
 abbrev pub parts_for : Bool → Numbers → IdTexts → UriTexts → List ℕ → Parts

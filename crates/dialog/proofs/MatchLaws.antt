@@ -3,8 +3,10 @@ use Prim.Native.Nat.{ℕ, ◌+◌, ◌≤◌}
 use native.Mathlib.Omega.{arith}
 use mathlib.Core.Path.{◌≡◌, refl, sym, ap, subst, ◌∙◌}
 use mathlib.Core.Bool.{Bool, true, ◌&&◌}
-use mathlib.Core.List.{List, [], ◌∷◌}
+use mathlib.Core.List.{List, [], ◌∷◌, map-id}
 use lib.ListN.{length, drop}
+use lib.Pointwise.{pointwise}
+use Rattle.std.proofs.Common.{nat_eq}
 use Rattle.std.specs.Prelude.{Err, None, Ok, Option, Result, Some, false}
 use Rattle.limits.specs.Limits.{LimitSet}
 use Rattle.limits.specs.Outcome.{or_refuse, check_of}
@@ -12,6 +14,7 @@ use Rattle.limits.specs.declared.Refusal.{Refusal}
 use Rattle.limits.specs.declared.Refusal.TheVariants.{BadStore}
 use Rattle.limits.proofs.Laws.{stopped}
 use Rattle.text.specs.Text.{equal}
+use Rattle.text.proofs.Alike.{alike_is}
 use Rattle.msg.specs.Block.{block_cause}
 use Rattle.dialog_id.specs.DialogId.{identifier_of, from_name, to_name}
 use Rattle.dialog_id.specs.declared.DialogId.{DialogId}
@@ -54,15 +57,19 @@ held bytes p e = by (image.read bytes) refl e
 
 -- the identifier's texts lie within the image
 pub ids_within : (bytes : List ℕ) (p : RecordAt) → Held bytes p
-    → (p.ids.call_id.start + p.ids.call_id.length ≤ length bytes) × (p.ids.local_tag.start + p.ids.local_tag.length ≤ length bytes) × (p.ids.remote_tag.start + p.ids.remote_tag.length ≤ length bytes)
+    → (p.ids.id.call_id.start + p.ids.id.call_id.length ≤ length bytes) × (p.ids.id.local_tag.start + p.ids.id.local_tag.length ≤ length bytes) × (p.ids.id.remote_tag.start + p.ids.id.remote_tag.length ≤ length bytes)
 ids_within bytes p h =
     let g = got record_sized bytes 0 h.reading (omega arith) h.reads in
     let w = subst (λ (r : Record). 0 + record_size r ≤ length bytes) h.whole g.within in
     rw h.places (omega (arith, w), omega (arith, w), omega (arith, w))
 
+-- the comparison of two texts is `equal`
+pub equal_is : (a b : List ℕ) → pointwise nat_eq a b ≡ equal a b
+equal_is a b = sym (alike_is (λ x. x) (λ x. x) (λ x. refl) a b ∙ rw (map-id a, map-id b) refl)
+
 -- the bytes compared are the texts
 compared : (block bytes : List ℕ) (i : DialogId) (p : RecordAt) (q : Asked block i) (h : Held bytes p) → Bytes bytes
-    → (equal (part_in block i.call_id) (part_in bytes p.ids.call_id) && (equal (part_in block i.local_tag) (part_in bytes p.ids.remote_tag) && equal (part_in block i.remote_tag) (part_in bytes p.ids.local_tag)))
+    → (equal (part_in block i.call_id) (part_in bytes p.ids.id.call_id) && (equal (part_in block i.local_tag) (part_in bytes p.ids.id.remote_tag) && equal (part_in block i.remote_tag) (part_in bytes p.ids.id.local_tag)))
     ≡ named_by h.value (Some q.parts)
 compared block bytes i p q h b =
     let r = h.value in
@@ -95,7 +102,7 @@ module _ (L : LimitSet) (block bytes : List ℕ) where
     no_part p h e = rw (clear, h.one, e)
 
     pub matched : (p : RecordAt) (i : DialogId) (h : Held bytes p) (q : Asked block i) → Bytes bytes → (t : Bool)
-        → t ≡ (equal (part_in block i.call_id) (part_in bytes p.ids.call_id) && (equal (part_in block i.local_tag) (part_in bytes p.ids.remote_tag) && equal (part_in block i.remote_tag) (part_in bytes p.ids.local_tag)))
+        → t ≡ (equal (part_in block i.call_id) (part_in bytes p.ids.id.call_id) && (equal (part_in block i.local_tag) (part_in bytes p.ids.id.remote_tag) && equal (part_in block i.remote_tag) (part_in bytes p.ids.id.local_tag)))
         → Ok t ≡ matches_answer (matches_request L block bytes)
     unfolding matches_request
     matched p i h q b t e =

@@ -10,9 +10,7 @@ use limits::Refusal;
 pub fn read_image(bytes: &[u8]) -> Result<RecordAt, Refusal>
     ensures { result ≡ image_answer (one_record bytes.now) }
 {
-    let Some(r) = image::read_record(bytes, 0) else {
-        return Err(Refusal::BadStore);
-    };
+    let r = image::read_record(bytes, 0).ok_or(Refusal::BadStore)?;
     if r.end < bytes.len() {
         return Err(Refusal::BadStore);
     }

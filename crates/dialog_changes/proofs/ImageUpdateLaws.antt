@@ -1,23 +1,22 @@
--- Updates of one record given as its image: what the reading of it answered, and what the change of its numbers makes of the lent bytes.
+-- Updates of one record given as its image: what the reading of it answered, and what the change of it makes of the used bytes.
 -- Assumes nothing.
 use Prim.Native.Nat.{ℕ, ◌≤◌, ◌<◌}
 use native.Mathlib.Omega.{arith}
-use mathlib.Core.Path.{◌≡◌, refl, sym, ap, subst, ◌∙◌}
+use mathlib.Core.Path.{◌≡◌, refl, sym, ap, ◌∙◌}
 use mathlib.Core.Bool.{Bool, true, false}
 use mathlib.Core.List.{List, [], ◌∷◌, ◌++◌, append-nil}
 use lib.ListN.{length, take, get_or}
 use lib.Dec.{ltb}
-use borrow.Author.Tests.{lt-ltb, le-ltb, ltb-false}
+use borrow.Author.Tests.{le-ltb, ltb-false}
 use Rattle.std.specs.Prelude.{Err, None, Ok, Option, Result, Some}
-use Rattle.limits.specs.Outcome.{cause_if, refuse_by, refuse_if, and_then, or_refuse}
+use Rattle.limits.specs.Outcome.{cause_if, refuse_by, refuse_if, or_refuse}
 use Rattle.limits.specs.declared.Refusal.{Refusal}
 use Rattle.limits.specs.declared.Refusal.TheVariants.{BadStore, NoRoom}
-use Rattle.output.specs.Output.{fitted, leaves, written_from}
+use Rattle.output.specs.Output.{written_from}
 use Rattle.codec.specs.Codec.{Reading}
 use Rattle.record.specs.NumbersForm.{meaning}
 use Rattle.record.proofs.NumberLaws.{meaning_same}
-use Rattle.record.specs.Changes.{with_numbers}
-use Rattle.record.specs.Record.{Record, Numbers, image}
+use Rattle.record.specs.Record.{Record, image}
 use Rattle.image.specs.Places.{record_from, record_places}
 use Rattle.image.specs.declared.RecordAt.{RecordAt}
 use Rattle.image_edit.specs.Changes.{read_at, changed}
@@ -28,21 +27,12 @@ use Rattle.dialog_rules.specs.OneImage.{alone, only_one, one_record}
 use Rattle.dialog.specs.Readings.{image_answer}
 use Rattle.dialog_changes.specs.ImageUpdates.{used_record, place_answer, image_after, local_raised, raised_record, raised_answer}
 use Rattle.dialog_rules.specs.Updates.{local_update}
+use Rattle.store_steps.specs.AtPlace.{raised_with}
 
 -- ---- the record of the used bytes
 
-pub over_used : (bytes : List ℕ) (used : ℕ) → length bytes < used → Err BadStore ≡ place_answer used (used_record bytes used)
-over_used bytes used h = rw (lt-ltb (length bytes) used h)
-
 pub within_used : (bytes : List ℕ) (used : ℕ) → used ≤ length bytes → used_record bytes used ≡ one_record (take used bytes)
 within_used bytes used h = rw (le-ltb (length bytes) used h)
-
-pub place_refused : (bytes : List ℕ) (used : ℕ) {cause : Refusal} → used ≤ length bytes → Err cause ≡ image_answer (one_record (take used bytes)) → Err cause ≡ place_answer used (used_record bytes used)
-place_refused bytes used l e = rw (within_used bytes used l) (by (one_record (take used bytes)) e)
-  where
-    by : (o : Result Record Refusal) {cause : Refusal} → Err cause ≡ image_answer o → Err cause ≡ place_answer used o
-    by (Err own) {cause} h = let z : cause ≡ own = cc in ap Err z
-    by (Ok r) h = absurd (let z : ◌≡◌ {A = ℕ} 0 1 = cc in omega arith)
 
 -- the refusal of the place is that of the record
 pub used_refused : (bytes : List ℕ) (used : ℕ) {cause : Refusal} → Err cause ≡ place_answer used (used_record bytes used) → used_record bytes used ≡ Err cause
@@ -84,12 +74,6 @@ one_read bytes used p l e = by (image.read s) refl e
               placed = k;
             }
         is (b ∷ t) r h = absurd (let z : ◌≡◌ {A = ℕ} 0 1 = cc in omega arith)
-
--- the place that is answered
-pub place_is : (bytes : List ℕ) (used : ℕ) {r : RecordAt} → used ≤ length bytes → Ok r ≡ image_answer (one_record (take used bytes)) → Ok (record { used = used; at = 0; «record» = r }) ≡ place_answer used (used_record bytes used)
-place_is bytes used {r} l e =
-    let o = one_read bytes used r l e in
-    rw o.one (ap (λ (x : RecordAt). Ok (record { used = used; at = 0; «record» = x })) o.placed)
 
 pub place_stands : (bytes : List ℕ) (used : ℕ) {r : RecordAt} → used ≤ length bytes → Ok r ≡ image_answer (one_record (take used bytes)) → StandsAt bytes (record { used = used; at = 0; «record» = r })
 place_stands bytes used {r} l e = (l, omega arith, (one_read bytes used r l e).whole)
@@ -134,46 +118,6 @@ changed_one bytes used p h f b =
     let r : g.rest ≡ [] = ap (λ (z : Reading Record). z.rest) o in
     changed_held f (take used bytes) 0 g ∙ ap (λ (t : List ℕ). image.write (f g.value) ++ t) r ∙ append-nil (image.write (f g.value)) ∙ ap (λ (z : Record). image.write (f z)) v
 
--- ---- the answers, where the numbers are changed by a step that may refuse
-
-module _ (bytes : List ℕ) (used : ℕ) (step : Numbers → Result Numbers Refusal) where
-  abbrev after_step : Result (List ℕ) Refusal
-  after_step = image_after (λ r. and_then (step r.numbers) (λ x. Ok (with_numbers x r))) bytes used
-
-  -- the answer and the lent bytes are those of the step on the one record
-  abbrev pub Ended : Result ℕ Refusal → List ℕ → Type 0
-  Ended r after = (r ≡ written_from after_step) × (after ≡ leaves after_step bytes)
-
-  -- 3
-  pub unread_ended : {cause : Refusal} → Err cause ≡ place_answer used (used_record bytes used) → Ended (Err cause) bytes
-  unfolding image_after
-  unread_ended e = rw (used_refused bytes used e) (refl, refl)
-
-  -- p is where the record lies
-  module _ {p : RecordPlace} (e : Ok p ≡ place_answer used (used_record bytes used)) where
-    place : Placed bytes used p
-    place = place_read bytes used p e
-
-    step_is : {o : Result Numbers Refusal} → step (meaning p.record.numbers) ≡ o → step place.one.value.numbers ≡ o
-    step_is f = ap step (sym (meaning_read bytes used p.record place.one)) ∙ f
-
-    -- the step's refusals
-    pub refused_ended : {cause : Refusal} → step (meaning p.record.numbers) ≡ Err cause → Ended (Err cause) bytes
-    unfolding image_after
-    refused_ended f = rw (place.one.one, step_is f) (refl, refl)
-
-    -- the numbers are changed, or 18; r and after are what the change answers and leaves
-    pub changed_ended : {x : Numbers} → step (meaning p.record.numbers) ≡ Ok x → ((i : ℕ) → get_or bytes i 0 < 256) → {r : Result ℕ Refusal} {after : List ℕ}
-        → (r ≡ written_from (fitted (length bytes) (changed (with_numbers x) p.at (take p.used bytes)))) × (after ≡ leaves (fitted (length bytes) (changed (with_numbers x) p.at (take p.used bytes))) bytes)
-        → Ended r after
-    unfolding image_after
-    changed_ended {x} f b {r} {after} w =
-        rw (place.one.one, step_is f)
-        (subst (λ (s : List ℕ). (r ≡ written_from (fitted (length bytes) s)) × (after ≡ leaves (fitted (length bytes) s) bytes)) moved w)
-      where
-        moved : changed (with_numbers x) p.at (take p.used bytes) ≡ image.write (with_numbers x place.one.value)
-        moved = ap (λ (n : ℕ). changed (with_numbers x) n (take p.used bytes)) place.at_is ∙ ap (λ (n : ℕ). changed (with_numbers x) 0 (take n bytes)) place.used_is ∙ changed_one bytes used p.record place.one (with_numbers x) b
-
 -- ---- the new local number
 
 module _ (bytes : List ℕ) (used : ℕ) where
@@ -181,24 +125,11 @@ module _ (bytes : List ℕ) (used : ℕ) where
   unfolding raised_record
   raised_refused e = rw e
 
-  -- r is what the change of the numbers answered
-  module _ (p : RecordAt) (h : One bytes used p) {r : Result ℕ Refusal} (w : r ≡ written_from (local_raised bytes used)) where
-    measured : r ≡ written_from (fitted (length bytes) (image.write (local_update h.value)))
-    unfolding image_after
-    measured = rw h.one at w
-
-    pub raised_not : {cause : Refusal} → r ≡ Err cause → Err cause ≡ raised_answer (raised_record bytes used)
-    unfolding raised_record
-    raised_not {cause} e = rw h.one (by (ltb (length bytes) (length (image.write (local_update h.value)))) (sym e ∙ measured))
-      where
-        by : (t : Bool) → Err cause ≡ written_from (refuse_by (cause_if t NoRoom) (Ok (image.write (local_update h.value)))) → Err cause ≡ raised_answer (refuse_if t NoRoom (Ok (local_update h.value)))
-        by true q = cc
-        by false q = absurd (let z : ◌≡◌ {A = ℕ} 0 1 = cc in omega arith)
-
-    pub raised_to : {n number : ℕ} → r ≡ Ok n → number ≡ (local_update h.value).numbers.local → Ok (number, n) ≡ raised_answer (raised_record bytes used)
-    unfolding raised_record
-    raised_to {n} {number} e f = rw h.one (by (ltb (length bytes) (length (image.write (local_update h.value)))) (sym e ∙ measured))
-      where
-        by : (t : Bool) → Ok n ≡ written_from (refuse_by (cause_if t NoRoom) (Ok (image.write (local_update h.value)))) → Ok (number, n) ≡ raised_answer (refuse_if t NoRoom (Ok (local_update h.value)))
-        by true q = absurd (let z : ◌≡◌ {A = ℕ} 0 1 = cc in omega arith)
-        by false q = cc
+  -- the number that is answered beside the used length is the record's
+  pub raised_is : (p : RecordAt) (h : One bytes used p) {n : ℕ} → n ≡ (local_update h.value).numbers.local → raised_with n (written_from (local_raised bytes used)) ≡ raised_answer (raised_record bytes used)
+  unfolding image_after raised_record
+  raised_is p h {n} f = rw h.one (by (ltb (length bytes) (length (image.write (local_update h.value)))))
+    where
+      by : (t : Bool) → raised_with n (written_from (refuse_by (cause_if t NoRoom) (Ok (image.write (local_update h.value))))) ≡ raised_answer (refuse_if t NoRoom (Ok (local_update h.value)))
+      by true = refl
+      by false = ap (λ (k : ℕ). Ok (k, length (image.write (local_update h.value)))) f

@@ -1,1 +1,2 @@
 pub mod ImageUpdateLaws
+pub mod PlaceLaws

@@ -11,6 +11,7 @@ use dialog::read_image;
 use image_edit::RecordPlace;
 use limits::Refusal;
 use record_edit::revise_numbers;
+use store_steps::{interval_at, local_at, terminate_at};
 
 // Dialog::confirm: 3. Early becomes Confirmed; every other state stays.
 // Kept (5, 6): a C caller lends bytes and says how many are used.
@@ -29,7 +30,7 @@ pub fn terminate(bytes: &mut [u8], used: usize) -> Result<usize, Refusal>
     ensures bytes_after { bytes.new ≡ leaves (terminated bytes.old used) bytes.old }
 {
     let p = read_used(bytes, used)?;
-    revise_numbers(bytes, p, p.record.numbers.terminate())
+    terminate_at(bytes, p)
 }
 
 // Dialog::next_local_cseq: 3, 18. Answers the new number, and the image's new length.
@@ -39,9 +40,7 @@ pub fn next_local_cseq(bytes: &mut [u8], used: usize) -> Result<(u32, usize), Re
     ensures bytes_after { bytes.new ≡ leaves (local_raised bytes.old used) bytes.old }
 {
     let p = read_used(bytes, used)?;
-    let next = p.record.numbers.next_local_cseq();
-    let n = revise_numbers(bytes, p, next)?;
-    Ok((next.local, n))
+    local_at(bytes, p)
 }
 
 // Dialog::set_session_expires: 3, 13 with 90, 14, 18.
@@ -51,8 +50,7 @@ pub fn set_session_expires(bytes: &mut [u8], used: usize, seconds: u64) -> Resul
     ensures bytes_after { bytes.new ≡ leaves (interval_set rust_limits seconds bytes.old used) bytes.old }
 {
     let p = read_used(bytes, used)?;
-    let numbers = p.record.numbers.set_session_expires(seconds)?;
-    revise_numbers(bytes, p, numbers)
+    interval_at(bytes, p, seconds)
 }
 
 // The one record of the used bytes, which begins at 0: 3.
@@ -61,10 +59,8 @@ pub fn read_used(bytes: &[u8], used: usize) -> Result<RecordPlace, Refusal>
     ensures value { result ≡ place_answer used (used_record bytes.now used) }
     ensures stands { IfOk result (λ p. StandsAt bytes.now p) }
 {
-    if bytes.len() < used {
-        return Err(Refusal::BadStore);
-    }
-    let record = read_image(&bytes[..used])?;
+    let held = bytes.get(..used).ok_or(Refusal::BadStore)?;
+    let record = read_image(held)?;
     Ok(RecordPlace {
         used,
         at: 0,

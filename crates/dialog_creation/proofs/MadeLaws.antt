@@ -5,7 +5,7 @@ use mathlib.Core.Path.{◌≡◌, refl, sym, ap, ap₂, subst, ◌∙◌}
 use mathlib.Core.Bool.{Bool, true, false, cond, ◌||◌}
 use mathlib.Core.List.{List}
 use lib.ListN.{length, drop, length-take, length-drop}
-use Rattle.std.specs.Prelude.{Err, None, Ok, Option, Result, Some}
+use Rattle.std.specs.Prelude.{ok_or, Err, None, Ok, Option, Result, Some}
 use Rattle.limits.specs.Limits.{LimitSet, rust_limits}
 use Rattle.limits.specs.Outcome.{or_else, refuse_by, and_then, check_of}
 use Rattle.limits.specs.declared.Refusal.{Refusal}
@@ -24,6 +24,8 @@ use Rattle.dialog_id.specs.declared.DialogId.{DialogId}
 use Rattle.dialog_id.specs.declared.IdTexts.{IdTexts}
 use Rattle.route_set.specs.Routes.{contact_of, routes_of}
 use Rattle.route_section.specs.Section.{section_of, route_texts, section_in}
+use Rattle.route_section.specs.declared.PeerRoutes.{PeerRoutes}
+use Rattle.route_section.specs.Measured.{given_by}
 use Rattle.route_section.proofs.SectionLaws.{section_size}
 use Rattle.record.specs.Record.{State, early, confirmed, Side, Numbers, Record, Uris, is_sips, image}
 use Rattle.record.specs.NumbersForm.{meaning, state_in, state_from}
@@ -31,7 +33,7 @@ use Rattle.record.specs.declared.numbers.State.{State as CodeState}
 use Rattle.record.specs.declared.numbers.Numbers.{Numbers as CodeNumbers}
 use Rattle.record.proofs.NumberLaws.{state_same}
 use Rattle.image_writer.specs.Parts.{Parts, Short, ids_given, uris_given, parts_of, image_of}
-use Rattle.image_writer.specs.declared.UriTexts.{UriTexts}
+use Rattle.image_writer.specs.declared.front.UriTexts.{UriTexts}
 use Rattle.image_writer.proofs.ImageLaws.{image_parts}
 use Rattle.dialog_rules.specs.Creation.{Creation, peer_block, identifier_in, target_of, is_uac, numbers_at, estimate_cause, state_by, sequence_in, interval_cause, record_with, made_by}
 use Rattle.dialog_rules.specs.Updates.{text_or, interval_from}
@@ -47,6 +49,16 @@ use Rattle.creation_writing.specs.NewParts.{parts_for}
 
 pub refusal : {o : Result (List ℕ) Refusal} {cause : Refusal} (bytes : List ℕ) → o ≡ Err cause → (Err cause ≡ written_from o) × (bytes ≡ leaves o bytes)
 refusal bytes e = rw e (refl, refl)
+
+-- ---- a value that is asked for
+
+pub given_part : {A : Type 0} (o : Option A) (cause : Refusal) {a : A} → ok_or o cause ≡ Ok a → o ≡ Some a
+given_part None cause e = absurd (let z : ◌≡◌ {A = ℕ} 0 1 = cc in omega arith)
+given_part (Some b) cause {a} e = let q : b ≡ a = cc in ap Some q
+
+pub absent_part : {A : Type 0} (o : Option A) (cause : Refusal) {own : Refusal} → ok_or o cause ≡ Err own → (o ≡ None) × (cause ≡ own)
+absent_part None cause e = (refl, (cc))
+absent_part (Some b) cause e = absurd (let z : ◌≡◌ {A = ℕ} 0 1 = cc in omega arith)
 
 -- ---- the routes and the numbers
 
@@ -261,7 +273,7 @@ module _ (u : Bool) (d : NewDialog) (room : ℕ) where
       over_estimate_lem e =
           overlong rust_limits (side_for u) g room n.id (name_is ∙ n.reads) (state_in s) (state_of_lem (state_by d.status) f) (stopped (estimates (target_of (side_for u) g)) (ap (λ (x : List ℕ). check_of (estimates x)) targets ∙ e))
 
-      module _ (e : check_of (estimates t) ≡ Ok tt) (w : Result (CodeNumbers × ℕ) Refusal) (k : remainder_in w ≡ remainder_of rust_limits (side_for u) (state_in s) d.request.now d.response.now peer) where
+      module _ (e : check_of (estimates t) ≡ Ok tt) (w : Result (CodeNumbers × PeerRoutes) Refusal) (k : remainder_in w ≡ remainder_of rust_limits (side_for u) (state_in s) d.request.now d.response.now peer) where
         clear : estimates (target_of (side_for u) g) ≡ None
         clear = passed (estimates (target_of (side_for u) g)) (ap (λ (x : List ℕ). check_of (estimates x)) targets ∙ e)
 
@@ -271,10 +283,10 @@ module _ (u : Bool) (d : NewDialog) (room : ℕ) where
         pub rest_refused : {cause : Refusal} → w ≡ Err cause → made_image rust_limits (side_for u) g room ≡ Err cause
         rest_refused h = remainderless rust_limits (side_for u) g room n.id (name_is ∙ n.reads) (state_in s) (state_of_lem (state_by d.status) f) clear (remains ∙ ap remainder_in h)
 
-        module _ (x : CodeNumbers) (size : ℕ) (h : w ≡ Ok (x, size)) where
+        module _ (x : CodeNumbers) (p : PeerRoutes) (h : w ≡ Ok (x, p)) where
           abbrev Whole : Bool → List ℕ → List ℕ → Type 0
           Whole v y z =
-              (size ≡ length (section_in v (routes_of rust_limits y)))
+              (p.size ≡ length (section_in v (routes_of rust_limits y)))
               × (made_image rust_limits (side_for u) g room ≡ fitted room (image_of (parts_of (meaning x) v (is_sips d.local_uri.now || is_sips d.remote_uri.now) n.id.call_id.text n.id.local_tag.text n.id.remote_tag.text z d.local_uri.now d.remote_uri.now (section_in v (routes_of rust_limits y)))))
 
           whole_is : Whole u peer t
@@ -284,11 +296,9 @@ module _ (u : Bool) (d : NewDialog) (room : ℕ) where
               (subst (λ (z : List ℕ). Whole (is_uac (side_for u)) (peer_block (side_for u) g) z) targets
               (whole rust_limits (side_for u) g room n.id (name_is ∙ n.reads) (state_in s) (state_of_lem (state_by d.status) f) clear (remains ∙ ap remainder_in h))))
 
-          pub size_is : size ≡ length (section_in u (routes_of rust_limits peer))
-          size_is = whole_is.0
-
-          pub image_is : (k : IdTexts) (v : UriTexts) → ident_of k ≡ ident_in d.response.now i → uris_given v ≡ record { first = t; second = record { first = d.local_uri.now; second = d.remote_uri.now } }
-              → made_image rust_limits (side_for u) g room ≡ fitted room (image_of (parts_for u (meaning x) k v (section_in u (routes_of rust_limits peer))))
-          image_is k v ie ue =
+          pub image_is : (k : IdTexts) (v : UriTexts) → p.block.now ≡ peer → ident_of k ≡ ident_in d.response.now i → uris_given v ≡ record { first = t; second = record { first = d.local_uri.now; second = d.remote_uri.now } }
+              → made_image rust_limits (side_for u) g room ≡ fitted room (image_of (parts_for u (meaning x) k v (section_in u (given_by p))))
+          image_is k v be ie ue =
               whole_is.1
-              ∙ ap (λ (p : Parts). fitted room (image_of p)) (own_parts u (meaning x) d.response.now t d.local_uri.now d.remote_uri.now (section_in u (routes_of rust_limits peer)) i n k v ie ue)
+              ∙ ap (λ (q : Parts). fitted room (image_of q)) (own_parts u (meaning x) d.response.now t d.local_uri.now d.remote_uri.now (section_in u (routes_of rust_limits peer)) i n k v ie ue)
+              ∙ ap (λ (y : List ℕ). fitted room (image_of (parts_for u (meaning x) k v (section_in u (routes_of rust_limits y))))) (sym be)

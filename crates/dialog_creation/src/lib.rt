@@ -10,64 +10,60 @@ ghost use Rattle.creation_checks.specs.Given.{creation_of, checked_of};
 ghost use Rattle.creation_readings.specs.Steps.{side_for};
 
 use creation_checks::{NewDialog, check_estimates, check_forms, check_texts, check_uris};
-use creation_readings::{identifier, peer_block, read_rest, state_for, target};
+use creation_readings::{Side, Uac, Uas, read_rest, state_for, target};
 use creation_writing::write_image;
 use image_writer::UriTexts;
 use limits::Refusal;
 
 // The record of a dialog that our request opens, by the response to it, as an image over the front of `out`. The method is measured and no
 // more: 1, 2, 6, 4, 5, 7, 8, 4, 9, 10, 13 with 90, 14, 18.
-// Kept (5): what is read and the bytes that are lent to be written: nothing holds both.
+// Kept (5): what is read, and the lent output.
 pub fn new_uac(c: NewDialog<'_>, out: &mut [u8]) -> Result<usize, Refusal>
     ensures value { result ≡ written_from (new_image rust_limits uac (creation_of c.entry) (length out.old)) }
     ensures out_after { out.new ≡ leaves (new_image rust_limits uac (creation_of c.entry) (length out.old)) out.old }
 {
-    create(true, c, out)
+    create::<Uac>(c, out)
 }
 
 // The record of a dialog that a request to us opens, by our response to it: the same refusals.
-// Kept (5): what is read and the bytes that are lent to be written: nothing holds both.
+// Kept (5): what is read, and the lent output.
 pub fn new_uas(c: NewDialog<'_>, out: &mut [u8]) -> Result<usize, Refusal>
     ensures value { result ≡ written_from (new_image rust_limits uas (creation_of c.entry) (length out.old)) }
     ensures out_after { out.new ≡ leaves (new_image rust_limits uas (creation_of c.entry) (length out.old)) out.old }
 {
-    create(false, c, out)
+    create::<Uas>(c, out)
 }
 
 // Either of the two: 1, 2 and 6, and then all that depends on what is read.
-// Kept (5): what is read and the bytes that are lent to be written: nothing holds both.
-fn create(we_are_uac: bool, c: NewDialog<'_>, out: &mut [u8]) -> Result<usize, Refusal>
-    ensures value { result ≡ written_from (new_image rust_limits (side_for we_are_uac) (creation_of c.entry) (length out.old)) }
-    ensures out_after { out.new ≡ leaves (new_image rust_limits (side_for we_are_uac) (creation_of c.entry) (length out.old)) out.old }
+// Kept (5): what is read, and the lent output.
+fn create<S: Side>(c: NewDialog<'_>, out: &mut [u8]) -> Result<usize, Refusal>
+    ensures value { result ≡ written_from (new_image rust_limits (side_for S.WE_ARE_UAC) (creation_of c.entry) (length out.old)) }
+    ensures out_after { out.new ≡ leaves (new_image rust_limits (side_for S.WE_ARE_UAC) (creation_of c.entry) (length out.old)) out.old }
 {
     check_texts(c)?;
     check_forms(c)?;
     check_uris(c)?;
-    make(we_are_uac, c, out)
+    make::<S>(c, out)
 }
 
 // The same of what has passed these checks.
-// Kept (5): what is read and the bytes that are lent to be written: nothing holds both.
-fn make(we_are_uac: bool, c: NewDialog<'_>, out: &mut [u8]) -> Result<usize, Refusal>
+// Kept (5): what is read, and the lent output.
+fn make<S: Side>(c: NewDialog<'_>, out: &mut [u8]) -> Result<usize, Refusal>
     requires { (length c.request.now ≤ 8192) × (length c.response.now ≤ 8192) × (length c.local_uri.now ≤ 8192) × (length c.remote_uri.now ≤ 8192) }
-    ensures value { result ≡ written_from (made_image rust_limits (side_for we_are_uac) (checked_of c.entry) (length out.old)) }
-    ensures out_after { out.new ≡ leaves (made_image rust_limits (side_for we_are_uac) (checked_of c.entry) (length out.old)) out.old }
+    ensures value { result ≡ written_from (made_image rust_limits (side_for S.WE_ARE_UAC) (checked_of c.entry) (length out.old)) }
+    ensures out_after { out.new ≡ leaves (made_image rust_limits (side_for S.WE_ARE_UAC) (checked_of c.entry) (length out.old)) out.old }
 {
-    let Some(id) = identifier(we_are_uac, c.response) else {
-        return Err(Refusal::MissingHeader);
-    };
-    let Some(state) = state_for(c.status) else {
-        return Err(Refusal::InvalidStatus);
-    };
-    let peer = peer_block(we_are_uac, c);
+    let id = S::identifier(c.response).ok_or(Refusal::MissingHeader)?;
+    let state = state_for(c.status).ok_or(Refusal::InvalidStatus)?;
+    let peer = S::peer_block(c);
     let target = target(peer, c.remote_uri);
     check_estimates(c, target)?;
-    let (numbers, size) = read_rest(we_are_uac, state, c, peer)?;
+    let (numbers, routes) = read_rest::<S>(state, c, peer)?;
     let id = id.texts(c.response);
     let uris = UriTexts {
         target,
         local_uri: c.local_uri,
         remote_uri: c.remote_uri,
     };
-    write_image(out, we_are_uac, numbers, id, uris, peer, size)
+    write_image::<S>(out, numbers, id, uris, routes)
 }

@@ -11,7 +11,7 @@ use Rattle.limits.specs.Outcome.{or_else, or_refuse}
 use Rattle.limits.specs.declared.Refusal.{Refusal}
 use Rattle.limits.specs.declared.Refusal.TheVariants.{MissingHeader}
 use Rattle.text.specs.Answers.{span_of}
-use Rattle.text.specs.Text.{Piece, moved}
+use Rattle.text.specs.Text.{Piece}
 use Rattle.text.specs.declared.Span.{Span}
 use Rattle.msg.specs.Block.{first_named, lines_of, found_of, block_cause}
 use Rattle.msg.specs.Table.{value_at, end_of}
@@ -31,11 +31,6 @@ module _ (L : LimitSet) (c l r : List ℕ) where
   lengths_pass e = ap (λ (o : Option Refusal). or_else o (or_else (part_cause L.call_id c) (or_else (part_cause L.tag l) (part_cause L.tag r)))) e
 
 -- ---- the readings from a block
-
--- what `find_tag` answers of the value's bytes, moved to the block
-pub tag_moved : (o : Option Piece) (at : ℕ) (t : Span) → part_of o ≡ Some t → Some (record { start = at + t.start; length = t.length }) ≡ part_of (moved at o)
-tag_moved None at t e = absurd (let z : ◌≡◌ {A = ℕ} 0 1 = cc in omega arith)
-tag_moved (Some p) at t e = let q : span_of p ≡ t = cc in ap (λ (x : Span). Some (record { start = at + x.start; length = x.length })) (sym q)
 
 pub no_part : (o : Option Piece) → part_of o ≡ None → o ≡ None
 no_part None e = refl

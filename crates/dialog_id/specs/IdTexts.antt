@@ -8,6 +8,10 @@ use Rattle.dialog_id.specs.declared.DialogId.{DialogId}
 abbrev pub ident_of : IdTexts → Ident
 ident_of t = ident t.call_id.now t.local_tag.now t.remote_tag.now
 
+-- the identifier as the other side calls it
+abbrev pub swapped : DialogId → DialogId
+swapped i = record { call_id = i.call_id; local_tag = i.remote_tag; remote_tag = i.local_tag }
+
 -- the texts at these places of a block
 abbrev pub ident_in : List ℕ → DialogId → Ident
 ident_in block i = ident (part_in block i.call_id) (part_in block i.local_tag) (part_in block i.remote_tag)

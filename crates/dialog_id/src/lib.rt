@@ -4,19 +4,19 @@
 ghost use Rattle.std.specs.Prelude.{◌≡◌, ◌≤◌, length};
 ghost use Rattle.limits.specs.Limits.{rust_limits};
 ghost use Rattle.limits.specs.Outcome.{check_of};
-ghost use Rattle.text.specs.Text.{all, span};
+ghost use Rattle.text.specs.Text.{all};
 ghost use Rattle.msg.specs.Block.{lines_of};
 ghost use Rattle.msg.specs.Table.{table_of, value_at, end_of};
 ghost use Rattle.headers.specs.Tag.{part_of};
 ghost use Rattle.text.specs.Spans.{PartWithin};
 ghost use Rattle.dialog_id.specs.Ident.{ident_cause};
-ghost use Rattle.dialog_id.specs.IdTexts.{ident_of, ident_in};
+ghost use Rattle.dialog_id.specs.IdTexts.{ident_of, ident_in, swapped};
 ghost use Rattle.dialog_id.specs.DialogId.{is_plain, part_cause, identifier_cause, tag_in, identifier, read_identifier, from_name, to_name, identifier_of, from_request, from_response_uac, from_response_uas, id_from, id_answer};
 
 use headers::find_tag;
 use limits::{Limits, Refusal};
 use msg::HeaderTable;
-use text::{ByteClass, Span, run_length};
+use text::Span;
 
 // The three texts of an identifier.
 #[derive(Clone, Copy, PartialEq)]
@@ -31,16 +31,9 @@ impl<'a> IdTexts<'a> {
     pub fn check_lengths(self) -> Result<(), Refusal>
         ensures { result ≡ check_of (ident_cause rust_limits (ident_of self.entry)) }
     {
-        if text::too_long(self.call_id) {
-            return Err(Refusal::TextTooLong);
-        }
-        if text::too_long(self.local_tag) {
-            return Err(Refusal::TextTooLong);
-        }
-        if text::too_long(self.remote_tag) {
-            return Err(Refusal::TextTooLong);
-        }
-        Ok(())
+        text::check_length(self.call_id)?;
+        text::check_length(self.local_tag)?;
+        text::check_length(self.remote_tag)
     }
 }
 
@@ -64,7 +57,6 @@ impl DialogId {
     }
 
     // The three texts that the parts are in the block.
-    // Kept (2): a record's three places in an image are a type of their own, which lies above this crate; each type names its places itself.
     pub fn texts<'a>(self, block: &'a [u8]) -> IdTexts<'a>
         requires { PartWithin block.now self.call_id × PartWithin block.now self.local_tag × PartWithin block.now self.remote_tag }
         ensures { ident_of result ≡ ident_in block.now self }
@@ -73,6 +65,17 @@ impl DialogId {
             call_id: self.call_id.text(block),
             local_tag: self.local_tag.text(block),
             remote_tag: self.remote_tag.text(block),
+        }
+    }
+
+    // The same as the other side calls it: its local tag is our remote one.
+    pub fn swapped(self) -> DialogId
+        ensures { result ≡ swapped self }
+    {
+        DialogId {
+            call_id: self.call_id,
+            local_tag: self.remote_tag,
+            remote_tag: self.local_tag,
         }
     }
 
@@ -155,17 +158,15 @@ pub fn id_at(
 }
 
 // The tag of a line that was looked up, where it stands in the block.
-// Kept (5): the line is one of many that a table holds of the same block; a struct of both would be made at each call and taken apart in it.
+// Kept (5): a line is a value that definitions give (`found_of`, `table_of`); with its text in it, which is lent, it is none, and the table of the
+// definitions would be a second type beside `HeaderTable`.
 fn tag_at(block: &[u8], line: Option<(Span, usize)>) -> Option<Span>
     requires { end_of line ≤ length block.now }
     ensures { result ≡ part_of (tag_in (value_at line block.now)) }
 {
     let (v, _) = line?;
     let t = find_tag(v.text(block))?;
-    Some(Span {
-        start: v.start + t.start,
-        length: t.length,
-    })
+    Some(t.moved(v.start))
 }
 
 // A part of an identifier, of at most `limit` bytes: 25, 26, 27.
@@ -188,36 +189,11 @@ fn check_part(s: &[u8], limit: usize) -> Result<(), Refusal>
 fn all_plain(s: &[u8]) -> bool
     ensures { result ≡ all is_plain s.now }
 {
-    let n = plain_length(s);
-    n == s.len()
-}
-
-// How many bytes that are no control characters, and not over 126, stand first.
-fn plain_length(s: &[u8]) -> usize
-    ensures value { result ≡ span is_plain s.now }
-    ensures upper_bound { result ≤ length s.now }
-{
-    run_length(s, &PlainByte {})
-}
-
-// The bytes that an identifier part may have.
-#[derive(Clone, Copy)]
-struct PlainByte {}
-
-impl ByteClass for PlainByte {
-    ghost test = { λ _ b. is_plain b };
-
-    // Kept (5): the parameters are the trait's.
-    fn has(&self, b: u8) -> bool {
-        is_plain(b)
-    }
+    s.iter().all(|&b| is_plain(b))
 }
 
 fn is_plain(b: u8) -> bool
     ensures { result ≡ is_plain b }
 {
-    if b < 32 {
-        return false;
-    }
-    b <= 126
+    32 <= b && b <= 126
 }

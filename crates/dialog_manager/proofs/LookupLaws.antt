@@ -6,8 +6,9 @@ use mathlib.Core.Bool.{Bool, true, false, cond}
 use mathlib.Core.List.{List, [], ◌∷◌}
 use lib.ListN.{length, take, drop}
 use lib.Dec.{ltb}
-use borrow.Author.Tests.{ltb-false}
+use borrow.Author.Tests.{le-ltb, ltb-false}
 use Rattle.std.proofs.lemmas.Option.{same_Some}
+use Rattle.std.specs.Option.{ok_or}
 use Rattle.std.specs.Prelude.{Err, None, Ok, Option, Result, Some}
 use Rattle.limits.specs.Limits.{LimitSet}
 use Rattle.limits.specs.Outcome.{cause_if, refuse_by, refuse_if, and_then, or_refuse}
@@ -21,7 +22,8 @@ use Rattle.record.specs.Store.{decode_all}
 use Rattle.codec.proofs.CodecLaws.{Bytes}
 use Rattle.image.specs.declared.RecordAt.{RecordAt}
 use Rattle.image.proofs.AnswerLaws.{record_got}
-use Rattle.store.specs.Counting.{records_held, count_answer}
+use Rattle.store.specs.Counting.{records_held, count_answer, ReadAs}
+use Rattle.store.specs.declared.held.Held.{Held}
 use Rattle.msg.specs.Block.{block_cause}
 use Rattle.dialog_id.specs.DialogId.{identifier_of, from_name, to_name}
 use Rattle.dialog_id.specs.declared.DialogId.{DialogId}
@@ -34,7 +36,7 @@ use Rattle.book.specs.Store.{Left, run}
 use Rattle.book.proofs.ReadingLaws.{reading_run}
 use Rattle.dialog_manager.specs.Search.{named, of_call_id, Spot, first, found_of, found_in, Stored, Stands}
 use Rattle.dialog_manager.specs.Lookups.{getting, place_in}
-use Rattle.dialog_manager.proofs.SearchLaws.{Turn, turn, spot_reads}
+use Rattle.dialog_manager.proofs.SearchLaws.{stored_held, Turn, turn, spot_reads}
 
 -- ---- the place of what was found
 
@@ -104,6 +106,19 @@ module _ (test : Record → Bool) (s : List ℕ) (k : Stored s) where
             let n : r.end - at ≡ length (image.write x.value) = omega (arith, stood.step.ends, m) in
             ap₂ (λ (i j : ℕ). Ok (image_at i j)) p n ∙ sym (placed ∙ ap (λ (y : Option Spot). or_refuse NotFound (value_at y)) q)
 
+-- ---- refusals
+
+-- two refusals with one cause
+pub same_Err : {A : Type 0} (x y : Refusal) → ◌≡◌ {A = Result A Refusal} (Err x) (Err y) → x ≡ y
+same_Err x y e = cc
+
+-- what is refused for want of a value has none, and the cause that was given
+pub refused : {A : Type 0} (o : Option A) {x cause : Refusal} {r : Result A Refusal} → r ≡ ok_or o x → r ≡ Err cause → (o ≡ None) × (cause ≡ x)
+refused None {x} {cause} e h = (refl, same_Err cause x (sym h ∙ e))
+refused {A} (Some v) {x} {cause} e h =
+    let q : ◌≡◌ {A = Result A Refusal} (Err cause) (Ok v) = sym h ∙ e in
+    absurd (let z : ◌≡◌ {A = ℕ} 0 1 = cc in omega arith)
+
 -- ---- the whole answer
 
 -- the records of a lent store
@@ -125,16 +140,39 @@ kept bytes used {n} e = by (ltb (length bytes) used) refl (decode_all (take used
     by false q None p e = absurd (let z : ◌≡◌ {A = ℕ} 0 1 = cc in omega arith)
     by false q (Some b) p e = record { contents = record { records = b }; within = ltb-false (length bytes) used q; read = ap contents_of p; are = p; held = rw (q, p) }
 
+-- and what its reading says
+pub kept_by : (bytes : List ℕ) (used : ℕ) (h : Held) → ReadAs bytes used (Ok h) → Kept bytes used
+unfolding records_held
+kept_by bytes used h w =
+    let k = stored_held h in
+    let e : decode_all (take used bytes) ≡ Some k.records = ap decode_all (sym w.1) ∙ k.are in
+    let q : ltb (length bytes) used ≡ false = le-ltb (length bytes) used w.0 in
+    record { contents = record { records = k.records }; within = w.0; read = ap contents_of e; are = e; held = rw (q, e) }
+
+-- what is asked of the bytes that were read is asked of the used ones
+pub of_used : (test : Record → Bool) (bytes : List ℕ) (used : ℕ) (h : Held) → ReadAs bytes used (Ok h) → place_in test (decode_all h.bytes.now) ≡ place_in test (decode_all (take used bytes))
+of_used test bytes used h w = ap (λ (x : List ℕ). place_in test (decode_all x)) w.1
+
 pub stored : (bytes : List ℕ) (used : ℕ) → Kept bytes used → Stored (take used bytes)
 stored bytes used k = record { records = k.contents.records; are = k.are }
 
-not_kept : (bytes : List ℕ) (used : ℕ) {cause : Refusal} → count_answer (records_held bytes used) ≡ Err cause → records_held bytes used ≡ Err BadStore
+-- what is refused of a lent store is 3
+pub is_three : (bytes : List ℕ) (used : ℕ) {cause : Refusal} → count_answer (records_held bytes used) ≡ Err cause → BadStore ≡ cause
+unfolding records_held
+is_three bytes used {cause} e = by (ltb (length bytes) used) (decode_all (take used bytes)) e
+  where
+    by : (t : Bool) (o : Option (List Record)) → count_answer (refuse_if t BadStore (or_refuse BadStore o)) ≡ Err cause → BadStore ≡ cause
+    by true o e = same_Err BadStore cause e
+    by false None e = same_Err BadStore cause e
+    by false (Some b) e = absurd (let z : ◌≡◌ {A = ℕ} 0 1 = cc in omega arith)
+
+not_kept : (bytes : List ℕ) (used : ℕ) {cause : Refusal} → count_answer (records_held bytes used) ≡ Err cause → records_held bytes used ≡ Err cause
 unfolding records_held
 not_kept bytes used {cause} e = by (ltb (length bytes) used) (decode_all (take used bytes)) e
   where
-    by : (t : Bool) (o : Option (List Record)) → count_answer (refuse_if t BadStore (or_refuse BadStore o)) ≡ Err cause → refuse_if t BadStore (or_refuse BadStore o) ≡ Err BadStore
-    by true o e = refl
-    by false None e = refl
+    by : (t : Bool) (o : Option (List Record)) → count_answer (refuse_if t BadStore (or_refuse BadStore o)) ≡ Err cause → refuse_if t BadStore (or_refuse BadStore o) ≡ Err cause
+    by true o e = ap Err (same_Err BadStore cause e)
+    by false None e = ap Err (same_Err BadStore cause e)
     by false (Some b) e = absurd (let z : ◌≡◌ {A = ℕ} 0 1 = cc in omega arith)
 
 module _ (L : LimitSet) (n : ℕ) (q : Reading) (bytes : List ℕ) (used : ℕ) (h : Bytes bytes) where
@@ -155,7 +193,7 @@ module _ (L : LimitSet) (n : ℕ) (q : Reading) (bytes : List ℕ) (used : ℕ) 
     passed_on : (run L (read n q) bytes used).answer ≡ and_then (records_held bytes used) (λ b. reply q b)
     passed_on = answered ∙ ap (λ (a : Option Refusal). refuse_by a (and_then (records_held bytes used) (λ b. reply q b))) clear
 
-    pub store_refuses : {cause : Refusal} → count_answer (records_held bytes used) ≡ Err cause → Err BadStore ≡ (run L (read n q) bytes used).answer
+    pub store_refuses : {cause : Refusal} → count_answer (records_held bytes used) ≡ Err cause → Err cause ≡ (run L (read n q) bytes used).answer
     store_refuses e = sym (passed_on ∙ ap (λ (o : Result Book Refusal). and_then o (λ b. reply q b)) (not_kept bytes used e))
 
     pub replies : (k : Kept bytes used) (v : Result Value Refusal) → v ≡ reply q k.contents.records → v ≡ (run L (read n q) bytes used).answer

@@ -8,10 +8,9 @@ use lib.ListN.{length, drop, length-drop, drop_of_length-le}
 use lib.Seq.{drop-drop, drop-append_seam}
 use Rattle.std.proofs.lemmas.Option.{same_Some}
 use Rattle.std.specs.Prelude.{None, Option, Some}
-use Rattle.text.specs.Text.{equal}
 use Rattle.codec.specs.Codec.{Reading, write_all}
-use Rattle.record.specs.Record.{Record, is_given, image}
-use Rattle.record.specs.Store.{distinct, encode_all, record_before, records_in, only_distinct, decode_all}
+use Rattle.record.specs.Record.{Record, image}
+use Rattle.record.specs.Store.{encode_all, record_before, records_in, decode_all}
 use Rattle.codec.proofs.CodecLaws.{Bytes, bytes_drop}
 use Rattle.record.proofs.StoreLaws.{EachFormed, decoded}
 use Rattle.record.proofs.WellFormedLaws.{image_round}
@@ -21,9 +20,10 @@ use Rattle.image.specs.declared.sections.IdsAt.{IdsAt}
 use Rattle.image.proofs.AnswerLaws.{RecordGot, record_got}
 use Rattle.image.proofs.SizeLaws.{record_size}
 use Rattle.image_writer.proofs.LieLaws.{Lie, record_lies}
-use Rattle.text.specs.Spans.{part_in}
 use Rattle.record_walk.specs.Walk.{At, end_at}
-use Rattle.record_walk.proofs.Walks.{given_is}
+use Rattle.record_walk.proofs.Walks.{given_records}
+use Rattle.store.specs.declared.held.Held.{Held}
+use Rattle.store.proofs.HeldLaws.{whole}
 use Rattle.store.proofs.WalkLaws.{Step, step}
 use Rattle.dialog_id.specs.Ident.{same_ident}
 use Rattle.book.specs.Book.{Book}
@@ -31,22 +31,9 @@ use Rattle.dialog_manager.specs.Search.{named, of_call_id, Spot, first, found_of
 
 -- ---- records of bytes
 
--- the records of a store, identifiers not compared
-whole : (s : List ℕ) (b : Book) → decode_all s ≡ Some b → records_in (length s) s ≡ Some b
-unfolding decode_all
-whole s b e = by (records_in (length s) s) refl e
-  where
-    is : (rs : List Record) (t : Bool) → cond t (Some rs) None ≡ Some b → Some rs ≡ Some b
-    is rs true e = e
-    is rs false e = absurd (let z : ◌≡◌ {A = ℕ} 0 1 = cc in omega arith)
-
-    by : (o : Option (List Record)) → records_in (length s) s ≡ o → only_distinct o ≡ Some b → records_in (length s) s ≡ Some b
-    by None q e = absurd (let z : ◌≡◌ {A = ℕ} 0 1 = cc in omega arith)
-    by (Some rs) q e = q ∙ is rs (distinct rs) e
-
--- so they are whole records
-pub stored_whole : (s : List ℕ) → Stored s → is_given (records_in (length s) s) ≡ true
-stored_whole s k = given_is (records_in (length s) s) (whole s k.records k.are)
+-- the records of a store that is held
+pub stored_held : (h : Held) → Stored h.bytes.now
+stored_held h = let k = given_records (decode_all h.bytes.now) h.stored in record { records = k.0; are = k.1 }
 
 -- no record in front
 not_broken : (fuel : ℕ) (t : List ℕ) (b : Book) → 0 < length t → records_in fuel t ≡ Some b → image.read t ≡ None → ⊥
@@ -202,18 +189,6 @@ named_held s i c l r x w = rw (w.0, w.1, w.2)
 -- and of a Call-ID
 pub call_held : (s : List ℕ) (i : IdsAt) (c : List ℕ) (x : Record) → TextsOf s i x → of_call_id_at s i c ≡ of_call_id c x
 call_held s i c x w = rw w.0
-
--- ---- the comparison, text by text
-
-module _ (s : List ℕ) (i : IdsAt) (c l r : List ℕ) where
-  pub other_call : equal (part_in s i.call_id) c ≡ false → false ≡ named_at s i c l r
-  other_call e = rw e
-
-  pub other_local : equal (part_in s i.call_id) c ≡ true → equal (part_in s i.local_tag) l ≡ false → false ≡ named_at s i c l r
-  other_local e f = rw (e, f)
-
-  pub by_remote : equal (part_in s i.call_id) c ≡ true → equal (part_in s i.local_tag) l ≡ true → (x : Bool) → x ≡ equal (part_in s i.remote_tag) r → x ≡ named_at s i c l r
-  by_remote e f x g = rw (e, f) g
 
 -- ---- the record that is found is what is read at its place
 

@@ -49,11 +49,11 @@ Stands s None = Unit {0}
 
 abbrev pub IdsWithin : List ℕ → IdsAt → Type 0
 IdsWithin s i =
-    (i.call_id.start + i.call_id.length ≤ length s) × (i.local_tag.start + i.local_tag.length ≤ length s) × (i.remote_tag.start + i.remote_tag.length ≤ length s)
+    (i.id.call_id.start + i.id.call_id.length ≤ length s) × (i.id.local_tag.start + i.id.local_tag.length ≤ length s) × (i.id.remote_tag.start + i.id.remote_tag.length ≤ length s)
 
 -- the texts at the places of an identifier are the record's
 abbrev pub TextsOf : List ℕ → IdsAt → Record → Type 0
-TextsOf s i r = (part_in s i.call_id ≡ r.call_id) × (part_in s i.local_tag ≡ r.local_tag) × (part_in s i.remote_tag ≡ r.remote_tag)
+TextsOf s i r = (part_in s i.id.call_id ≡ r.call_id) × (part_in s i.id.local_tag ≡ r.local_tag) × (part_in s i.id.remote_tag ≡ r.remote_tag)
 
 -- this is what a test says of the record whose identifier lies at these places
 abbrev pub HeldTo : (Record → Bool) → List ℕ → IdsAt → Bool → Type 0
@@ -62,7 +62,7 @@ HeldTo test s i t = (r : Record) → TextsOf s i r → t ≡ test r
 -- the texts at the places of an identifier, held against given ones
 abbrev pub named_at : List ℕ → IdsAt → List ℕ → List ℕ → List ℕ → Bool
 named_at s i call_id local_tag remote_tag =
-    equal (part_in s i.call_id) call_id && (equal (part_in s i.local_tag) local_tag && equal (part_in s i.remote_tag) remote_tag)
+    equal (part_in s i.id.call_id) call_id && (equal (part_in s i.id.local_tag) local_tag && equal (part_in s i.id.remote_tag) remote_tag)
 
 abbrev pub of_call_id_at : List ℕ → IdsAt → List ℕ → Bool
-of_call_id_at s i call_id = equal (part_in s i.call_id) call_id
+of_call_id_at s i call_id = equal (part_in s i.id.call_id) call_id

@@ -4,35 +4,24 @@ ghost use Rattle.text.specs.Text.{equal};
 ghost use Rattle.text.specs.Spans.{part_in};
 ghost use Rattle.record.specs.Record.{Record};
 ghost use Rattle.record.specs.Store.{decode_all};
-ghost use Rattle.dialog_manager.specs.Search.{named, of_call_id, named_at, HeldTo, IdsWithin, Stored, found_in, Stands};
+ghost use Rattle.dialog_manager.specs.Search.{named, of_call_id, named_at, HeldTo, IdsWithin, found_in, Stands};
 
 use dialog_id::IdTexts;
 use image::{IdsAt, RecordAt};
-use record_walk::Records;
-use store::ids_at;
+use store::{Held, ids_at};
 use text::Span;
 
-// By the identifier. The bytes are those of a store that was read.
-// Kept (5): what is looked for, and the bytes it is looked for in: each is used with others too.
-pub fn search_id(bytes: &[u8], id: IdTexts<'_>) -> Option<(usize, RecordAt)>
-    requires { Stored bytes.now }
-    ensures value { result ≡ found_in (named id.entry.call_id.now id.entry.local_tag.now id.entry.remote_tag.now) (decode_all bytes.now) }
-    ensures stands { Stands bytes.now result }
+// By the identifier.
+// Kept (5): what is looked for, and the store it is looked for in: each is used with others too.
+pub fn search_id(held: Held<'_>, id: IdTexts<'_>) -> Option<(usize, RecordAt)>
+    ensures value { result ≡ found_in (named id.entry.call_id.now id.entry.local_tag.now id.entry.remote_tag.now) (decode_all held.entry.bytes.now) }
+    ensures stands { Stands held.entry.bytes.now result }
 {
-    search(bytes, &OfId { id })
-}
-
-// By the Call-ID alone.
-pub fn search_call_id(bytes: &[u8], call_id: &[u8]) -> Option<(usize, RecordAt)>
-    requires { Stored bytes.now }
-    ensures value { result ≡ found_in (of_call_id call_id.now) (decode_all bytes.now) }
-    ensures stands { Stands bytes.now result }
-{
-    search(bytes, &OfCallId { call_id })
+    search(held, &OfId { id })
 }
 
 // Which record is looked for.
-trait Wanted {
+pub trait Wanted {
     ghost test: { Self → Record → Bool };
 
     // Whether it is the one whose identifier lies at these places.
@@ -43,14 +32,14 @@ trait Wanted {
 
 // The record of an identifier.
 #[derive(Clone, Copy)]
-struct OfId<'a> {
-    id: IdTexts<'a>,
+pub struct OfId<'a> {
+    pub id: IdTexts<'a>,
 }
 
 impl<'a> Wanted for OfId<'a> {
     ghost test = { λ w. named w.id.call_id.now w.id.local_tag.now w.id.remote_tag.now };
 
-    // Kept (5): places lie in bytes that are lent beside them.
+    // Kept (5): the bytes are those of the store searched, and the places are others at each record.
     fn is_at(&self, bytes: &[u8], ids: IdsAt) -> bool {
         is_named(bytes, ids, self.id)
     }
@@ -58,26 +47,26 @@ impl<'a> Wanted for OfId<'a> {
 
 // Each record of a Call-ID.
 #[derive(Clone, Copy)]
-struct OfCallId<'a> {
-    call_id: &'a [u8],
+pub struct OfCallId<'a> {
+    pub call_id: &'a [u8],
 }
 
 impl<'a> Wanted for OfCallId<'a> {
     ghost test = { λ w. of_call_id w.call_id.now };
 
-    // Kept (5): places lie in bytes that are lent beside them.
+    // Kept (5): the bytes are those of the store searched, and the places are others at each record.
     fn is_at(&self, bytes: &[u8], ids: IdsAt) -> bool {
-        is_part(bytes, ids.call_id, self.call_id)
+        is_part(bytes, ids.id.call_id, self.call_id)
     }
 }
 
 // The first of those looked for.
-fn search<W: Wanted>(bytes: &[u8], wanted: &W) -> Option<(usize, RecordAt)>
-    requires { Stored bytes.now }
-    ensures value { result ≡ found_in (W.test wanted.now) (decode_all bytes.now) }
-    ensures stands { Stands bytes.now result }
+pub fn search<W: Wanted>(held: Held<'_>, wanted: &W) -> Option<(usize, RecordAt)>
+    ensures value { result ≡ found_in (W.test wanted.now) (decode_all held.entry.bytes.now) }
+    ensures stands { Stands held.entry.bytes.now result }
 {
-    for at in Records::new(bytes) {
+    let bytes = held.bytes;
+    for at in held.records() {
         let ids = ids_at(bytes, at);
         if wanted.is_at(bytes, ids) {
             let r = image::read_record(bytes, at)?;
@@ -88,18 +77,15 @@ fn search<W: Wanted>(bytes: &[u8], wanted: &W) -> Option<(usize, RecordAt)>
 }
 
 // The texts at these places are the identifier's.
-// Kept (5): places lie in bytes that are lent beside them; what they are compared with is a third.
+// Kept (4, 5): `ids.id.texts(bytes) == id` makes three slices at each record, where the Call-ID mostly decides, and a request has a bar of 3,700 instructions
+// a record at 10,000. The bytes are those of the store searched, and the places are others at each record.
 fn is_named(bytes: &[u8], ids: IdsAt, id: IdTexts<'_>) -> bool
     requires { IdsWithin bytes.now ids }
     ensures { result ≡ named_at bytes.now ids id.entry.call_id.now id.entry.local_tag.now id.entry.remote_tag.now }
 {
-    if !is_part(bytes, ids.call_id, id.call_id) {
-        return false;
-    }
-    if !is_part(bytes, ids.local_tag, id.local_tag) {
-        return false;
-    }
-    is_part(bytes, ids.remote_tag, id.remote_tag)
+    is_part(bytes, ids.id.call_id, id.call_id)
+        && is_part(bytes, ids.id.local_tag, id.local_tag)
+        && is_part(bytes, ids.id.remote_tag, id.remote_tag)
 }
 
 // The bytes that a span names are the text.

@@ -5,5 +5,5 @@ mod finding;
 mod lookups;
 mod placing;
 
-pub use finding::{is_part, search_call_id, search_id};
+pub use finding::{OfCallId, OfId, Wanted, is_part, search, search_id};
 pub use lookups::{find_by_call_id, find_by_request, get};

@@ -5,7 +5,8 @@ ghost use Rattle.book.specs.Calls.{read, find_by_request, find_by_call_id};
 ghost use Rattle.book.specs.Store.{run};
 ghost use Rattle.dialog_manager.specs.Lookups.{getting, answer_in};
 
-use crate::placing::{place_of, place_of_call_id, place_of_request};
+use crate::finding::{OfCallId, OfId};
+use crate::placing::{place, place_of_request};
 use dialog_id::{IdTexts, request_id};
 use limits::Refusal;
 
@@ -15,10 +16,8 @@ pub fn get(id: IdTexts<'_>, bytes: &[u8], used: usize) -> Result<(usize, usize),
     ensures { answer_in result ≡ (run rust_limits (read (length bytes.now) (getting id.entry.call_id.now id.entry.local_tag.now id.entry.remote_tag.now)) bytes.now used).answer }
 {
     id.check_lengths()?;
-    let Ok(_) = store::count(bytes, used) else {
-        return Err(Refusal::BadStore);
-    };
-    place_of(&bytes[..used], id)
+    let held = store::read(bytes, used)?;
+    place(held, &OfId { id })
 }
 
 // DialogManager::find_by_call_id: 1, 3, 15. The first in the store.
@@ -26,13 +25,9 @@ pub fn get(id: IdTexts<'_>, bytes: &[u8], used: usize) -> Result<(usize, usize),
 pub fn find_by_call_id(call_id: &[u8], bytes: &[u8], used: usize) -> Result<(usize, usize), Refusal>
     ensures { answer_in result ≡ (run rust_limits (read (length bytes.now) (find_by_call_id call_id.now)) bytes.now used).answer }
 {
-    if text::too_long(call_id) {
-        return Err(Refusal::TextTooLong);
-    }
-    let Ok(_) = store::count(bytes, used) else {
-        return Err(Refusal::BadStore);
-    };
-    place_of_call_id(&bytes[..used], call_id)
+    text::check_length(call_id)?;
+    let held = store::read(bytes, used)?;
+    place(held, &OfCallId { call_id })
 }
 
 // DialogManager::find_by_request: 1, 2, 3, 15, the last where a part of the identifier can't be read too. A request from the peer has From as remote tag.
@@ -41,11 +36,7 @@ pub fn find_by_request(block: &[u8], bytes: &[u8], used: usize) -> Result<(usize
     ensures { answer_in result ≡ (run rust_limits (read (length bytes.now) (find_by_request block.now)) bytes.now used).answer }
 {
     msg::check_block(block)?;
-    let Ok(_) = store::count(bytes, used) else {
-        return Err(Refusal::BadStore);
-    };
-    let Some(i) = request_id(block) else {
-        return Err(Refusal::NotFound);
-    };
-    place_of_request(block, i, &bytes[..used])
+    let held = store::read(bytes, used)?;
+    let i = request_id(block).ok_or(Refusal::NotFound)?;
+    place_of_request(block, i, held)
 }

@@ -10,7 +10,7 @@ ghost use Rattle.output.specs.Output.{leaves, written_from};
 ghost use Rattle.record.specs.NumbersForm.{kind_in};
 ghost use Rattle.image_edit.specs.Stands.{StandsAt};
 ghost use Rattle.dialog_rules.specs.Updates.{kind_of, request_update};
-ghost use Rattle.dialog_updates.specs.AtPlace.{stepped};
+ghost use Rattle.store_steps.specs.AtPlace.{stepped};
 ghost use Rattle.dialog_updates.specs.Messages.{requested};
 
 use dialog_changes::read_used;
@@ -31,9 +31,7 @@ pub fn update_from_request(
     ensures value { result ≡ written_from (requested rust_limits method.now block.now bytes.old used) }
     ensures bytes_after { bytes.new ≡ leaves (requested rust_limits method.now block.now bytes.old used) bytes.old }
 {
-    if text::too_long(method) {
-        return Err(Refusal::TextTooLong);
-    }
+    text::check_length(method)?;
     msg::check_block(block)?;
     let p = read_used(bytes, used)?;
     request_at(bytes, p, method, block)
@@ -41,7 +39,9 @@ pub fn update_from_request(
 
 // On the record that was read at a place of a store's used bytes, by a block that was checked: 4, 9; ACK: 11; others: 10, 11, 12; 18.
 // Answers the new used length.
-// Kept (5): the place is read through a shared reference, so that a struct with the bytes to be changed would be made for this call alone.
+// Kept (5): the bytes are `&mut`: a struct of them and the place isn't Copy, so that it would be made anew for each further call, and clauses
+// would say `p.exit.0.now` for `bytes.new`.
+// Kept (5): the clause asks for the length alone; a type of a checked block would need a second `check_block` that hands it out, and `.text` at each reading.
 pub fn request_at(
     bytes: &mut [u8],
     p: RecordPlace,
@@ -59,7 +59,10 @@ pub fn request_at(
 }
 
 // The same with the first lines of CSeq and Contact that were looked up.
-// Kept (5): the place is read through a shared reference, so that a struct with the bytes to be changed would be made for this call alone.
+// Kept (5): the bytes are `&mut`: a struct of them and the place isn't Copy, so that it would be made anew for each further call, and clauses
+// would say `p.exit.0.now` for `bytes.new`.
+// Kept (1): document 01 has the reading of a number opened by `let .. else`.
+// Kept (5): the clause asks for the length alone; a type of a checked block would need a second `check_block` that hands it out, and `.text` at each reading.
 pub fn request_by(
     bytes: &mut [u8],
     p: RecordPlace,

@@ -11,15 +11,16 @@ ghost use Rattle.record.specs.NumbersForm.{meaning, state_in};
 ghost use Rattle.image_edit.specs.Changes.{changed};
 ghost use Rattle.image_edit.specs.Stands.{StandsAt};
 ghost use Rattle.dialog_rules.specs.Updates.{retargeted, confirms, routes_or, interval_from, confirmed_by, response_update};
-ghost use Rattle.dialog_updates.specs.AtPlace.{stepped};
+ghost use Rattle.store_steps.specs.AtPlace.{stepped};
 ghost use Rattle.dialog_updates.specs.Messages.{responded};
 
 use dialog_changes::read_used;
-use dialog_updates::{renew, revise};
+use dialog_updates::revise;
 use image_edit::RecordPlace;
 use limits::Refusal;
 use record::{Numbers, State};
 use route_section::{PeerRoutes, measure_routes};
+use routes_edit::Renewal;
 
 // On one record, given as its image with room behind it: 1, 2, 3, 18. Answers the image's new length.
 // Kept (5, 6): a C caller lends bytes and says how many are used.
@@ -38,7 +39,9 @@ pub fn update_from_response(
 }
 
 // On the record that was read at a place of a store's used bytes, by a block that was checked: 18. Answers the new used length.
-// Kept (5): the place is read through a shared reference, so that a struct with the bytes to be changed would be made for this call alone.
+// Kept (5): the bytes are `&mut`: a struct of them and the place isn't Copy, so that it would be made anew for each further call, and clauses
+// would say `p.exit.0.now` for `bytes.new`.
+// Kept (5): the clause asks for the length alone; a type of a checked block would need a second `check_block` that hands it out, and `.text` at each reading.
 pub fn response_at(
     bytes: &mut [u8],
     p: RecordPlace,
@@ -60,7 +63,9 @@ pub fn response_at(
 }
 
 // The 2xx that confirms an Early record: the block's routes too, where they can be read and there are some.
-// Kept (5): each call has its own numbers, so that a struct of bytes, place and numbers would be made for it alone.
+// Kept (5): the bytes are `&mut`: a struct of them and the place isn't Copy, so that it would be made anew for each further call, and clauses
+// would say `p.exit.0.now` for `bytes.new`.
+// Kept (5): the clause asks for the length alone; a type of a checked block would need a second `check_block` that hands it out, and `.text` at each reading.
 fn confirm_at(
     bytes: &mut [u8],
     p: RecordPlace,
@@ -72,13 +77,13 @@ fn confirm_at(
     ensures value { result ≡ written_from (fitted (length bytes.old) (changed (λ v. retargeted block.now (with_numbers (meaning numbers) (with_routes (routes_or v.routes (routes_of rust_limits block.now)) v))) p.at (take p.used bytes.old))) }
     ensures bytes_after { bytes.new ≡ leaves (fitted (length bytes.old) (changed (λ v. retargeted block.now (with_numbers (meaning numbers) (with_routes (routes_or v.routes (routes_of rust_limits block.now)) v))) p.at (take p.used bytes.old))) bytes.old }
 {
-    let Ok((count, size)) = measure_routes(block) else {
-        return revise(bytes, p, numbers, block);
-    };
-    if count == 0 {
-        return revise(bytes, p, numbers, block);
+    match measure_routes(block) {
+        Ok((count, size)) if count != 0 => {
+            let peer = PeerRoutes { block, count, size };
+            revise(bytes, p, Renewal { numbers, peer }, block)
+        }
+        _ => revise(bytes, p, numbers, block),
     }
-    renew(bytes, p, numbers, PeerRoutes { block, count, size })
 }
 
 // A 2xx confirms.

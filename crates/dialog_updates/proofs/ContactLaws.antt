@@ -1,19 +1,15 @@
 -- The Contact's URI lies in the block where the look-up says; where there is none, the target is kept. Assumes nothing.
-use Prim.Native.Nat.{ℕ, ◌+◌, ◌-◌, ◌≤◌}
+use Prim.Native.Nat.{ℕ, ◌+◌, ◌≤◌}
 use native.Mathlib.Omega.{arith}
-use mathlib.Core.Path.{◌≡◌, refl, sym, ap, subst, ◌∙◌}
+use mathlib.Core.Path.{◌≡◌, refl, sym, subst}
 use mathlib.Core.List.{List}
-use lib.ListN.{length, take, drop}
-use Rattle.std.specs.Prelude.{Err, None, Ok, Option, Result, Some}
-use Rattle.limits.specs.declared.Refusal.{Refusal}
+use lib.ListN.{length}
+use Rattle.std.specs.Prelude.{None, Option, Some}
 use Rattle.text.specs.Text.{Piece}
 use Rattle.text.specs.Answers.{span_of}
 use Rattle.text.specs.Spans.{part_in}
 use Rattle.text.specs.declared.Span.{Span}
 use Rattle.route_set.specs.Routes.{contact_of, contact_from}
-use Rattle.routes_edit.specs.Rerouted.{renewed_by}
-use Rattle.record.specs.Changes.{with_numbers, with_target}
-use Rattle.record.specs.Record.{Numbers, Record}
 use Rattle.dialog_rules.specs.Updates.{text_or}
 use Rattle.dialog_rules.proofs.PlacedLaws.{contact_placed}
 
@@ -41,8 +37,3 @@ contact_target block old c e = by (contact_of block) refl e
     by (Some p) q e =
         let s : span_of p ≡ c = cc in
         subst (λ (x : Span). p.text ≡ part_in block x) s (sym (contact_placed block p q).there)
-
--- the target kept: by the routes that were read, since the record is then one with them
-pub target_kept : (x : Numbers) (o : Result (List Piece) Refusal) (v : Record) {t : List ℕ} → t ≡ (renewed_by x o v).target → with_target t (renewed_by x o v) ≡ renewed_by x o v
-target_kept x (Err cause) v e = ap (λ (u : List ℕ). with_target u (with_numbers x v)) e
-target_kept x (Ok ps) v e = ap (λ (u : List ℕ). with_target u (renewed_by x (Ok ps) v)) e

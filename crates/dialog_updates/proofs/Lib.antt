@@ -1,3 +1,2 @@
 pub mod BlockLaws
 pub mod ContactLaws
-pub mod PlaceLaws

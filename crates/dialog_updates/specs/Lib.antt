@@ -1,2 +1,1 @@
-pub mod AtPlace
 pub mod Messages

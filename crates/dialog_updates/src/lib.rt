@@ -4,4 +4,4 @@
 
 mod revision;
 
-pub use revision::{renew, revise, revise_to};
+pub use revision::{revise, revise_to};

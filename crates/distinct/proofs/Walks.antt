@@ -2,7 +2,6 @@
 use Prim.Native.Nat.{ℕ}
 use mathlib.Core.Path.{◌≡◌, ap, ◌∙◌}
 use mathlib.Core.List.{List, [], ◌∷◌}
-use lib.ListN.{length}
 use Rattle.record.specs.Record.{Record}
 use Rattle.record.specs.Store.{places_from}
 use Rattle.codec.proofs.CodecLaws.{Bytes}

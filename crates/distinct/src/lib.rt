@@ -11,7 +11,7 @@ mod pairs;
 use record_walk::Records;
 
 // Of bytes that are whole records: `places` are those of their images, and `scratch` is as long. Both are changed.
-// Kept (5, 6): no heap: the caller lends both tables.
+// Kept (5): no heap: the caller lends both tables.
 pub fn is_distinct(bytes: &[u8], places: &mut [usize], scratch: &mut [usize]) -> bool
     requires places { Places bytes.now places.old }
     requires scratch_len { length scratch.old ≡ length places.old }

@@ -5,17 +5,15 @@ ghost use Rattle.distinct.specs.Pairs.{alone_from};
 
 use crate::keys::compare;
 use record_walk::Records;
-use std::cmp::Ordering;
 
 // None of the records that are left has the identifier of the record at `p`.
-// Kept (5): one slice is lent, and many places in it are asked about.
+// Kept (5): a place is a number that clauses name, and that a table of `distinct` holds.
 pub fn is_alone(bytes: &[u8], p: usize, others: Records<'_>) -> bool
     requires { At bytes.now p × (others.bytes.now ≡ bytes.now) }
     ensures { result ≡ alone_from bytes.now p others.entry.at }
 {
     for q in others {
-        let way = compare(bytes, q, p);
-        if let Ordering::Equal = way {
+        if compare(bytes, q, p).is_eq() {
             return false;
         }
     }

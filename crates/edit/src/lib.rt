@@ -46,7 +46,6 @@ pub fn put(bytes: &mut [u8], at: usize, piece: &[u8])
 }
 
 // The n bytes from a place on, moved to another, down or up.
-// Kept (5): the numbers are those of `copy_within`, and each call has its own.
 pub fn shift(bytes: &mut [u8], from: usize, to: usize, n: usize)
     requires { (from + n ≤ length bytes.old) × (to + n ≤ length bytes.old) }
     ensures { bytes.new ≡ put_at to (take n (drop from bytes.old)) bytes.old }

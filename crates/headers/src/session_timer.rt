@@ -8,11 +8,11 @@ ghost use Rattle.headers.specs.SessionExpires.{refresher_in, session_expires, ex
 use limits::Refusal;
 use text::{Cut, Segments};
 
-// Who refreshes a session.
+// Who refreshes a session, each with its number in an image and for a C caller.
 #[derive(Clone, Copy)]
 pub enum Refresher {
-    Uac,
-    Uas,
+    Uac = 1,
+    Uas = 2,
 }
 
 // The interval of a value: 1, 2.
@@ -43,14 +43,12 @@ pub fn expires_named(block: &[u8]) -> Option<(u32, Option<Refresher>)>
 pub fn read_expires(value: &[u8]) -> Option<(u32, Option<Refresher>)>
     ensures { result ≡ expires_from (session_expires value.now) }
 {
-    let n = text::find(value, 59);
-    let digits = text::trim(&value[..n]);
-    let seconds = read_seconds(digits)?;
-    if n == value.len() {
+    let Some(n) = text::find(value, b';') else {
+        let seconds = read_seconds(text::trim(value))?;
         return Some((seconds, None));
-    }
-    let refresher = find_refresher(&value[n + 1..]);
-    Some((seconds, refresher))
+    };
+    let seconds = read_seconds(text::trim(&value[..n]))?;
+    Some((seconds, find_refresher(&value[n + 1..])))
 }
 
 // Digits alone: no sign stands before them.
@@ -85,6 +83,6 @@ impl Cut for Semicolon {
 
     // Kept (5): the parameters are the trait's.
     fn first(&self, s: &[u8]) -> usize {
-        text::find(s, b';')
+        text::find(s, b';').unwrap_or(s.len())
     }
 }

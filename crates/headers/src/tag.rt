@@ -1,7 +1,7 @@
 // The `tag` parameter of a From or To value.
 ghost use Rattle.std.specs.Prelude.{◌≡◌, ◌≤◌, length};
 ghost use Rattle.limits.specs.Limits.{rust_limits};
-ghost use Rattle.headers.specs.declared.tag.Mode.TheVariants.{Outside as outside, Quoted as quoted, Bracketed as bracketed};
+ghost use Rattle.headers.specs.declared.tag.Mode.TheVariants.{Outside as outside};
 ghost use Rattle.headers.specs.Tag.{mode_after, is_outside, is_cut, cut_length, is_tag, tag_segments, tag_of, extract_tag, part_of, part_answer};
 
 use limits::Refusal;
@@ -55,6 +55,8 @@ impl Cut for Unheld {
 }
 
 // How many bytes stand before the first semicolon outside quotes and angle brackets.
+// Kept (2): route_set's `part_length` is this loop over another state, a flag and a depth; a trait for both would have the test and the step that
+// stand here, and clauses and laws for them beside.
 fn segment_length(s: &[u8]) -> usize
     ensures value { result ≡ cut_length outside s.now }
     ensures upper_bound { result ≤ length s.now }
@@ -72,10 +74,7 @@ fn segment_length(s: &[u8]) -> usize
 fn is_cut(mode: Mode, b: u8) -> bool
     ensures { result ≡ is_cut mode b }
 {
-    if b != b';' {
-        return false;
-    }
-    is_outside(mode)
+    b == b';' && is_outside(mode)
 }
 
 fn is_outside(mode: Mode) -> bool
@@ -89,45 +88,13 @@ fn is_outside(mode: Mode) -> bool
 fn mode_after(mode: Mode, b: u8) -> Mode
     ensures { result ≡ mode_after mode b }
 {
-    match mode {
-        Mode::Outside => after_outside(b),
-        Mode::Quoted => after_quoted(b),
-        Mode::Escaped => Mode::Quoted,
-        Mode::Bracketed => after_bracketed(b),
+    match (mode, b) {
+        (Mode::Outside, b'"') | (Mode::Escaped, _) => Mode::Quoted,
+        (Mode::Outside, b'<') => Mode::Bracketed,
+        (Mode::Quoted, b'\\') => Mode::Escaped,
+        (Mode::Quoted, b'"') | (Mode::Bracketed, b'>') => Mode::Outside,
+        _ => mode,
     }
-}
-
-fn after_outside(b: u8) -> Mode
-    ensures { result ≡ mode_after outside b }
-{
-    if b == b'"' {
-        return Mode::Quoted;
-    }
-    if b == b'<' {
-        return Mode::Bracketed;
-    }
-    Mode::Outside
-}
-
-fn after_quoted(b: u8) -> Mode
-    ensures { result ≡ mode_after quoted b }
-{
-    if b == b'\\' {
-        return Mode::Escaped;
-    }
-    if b == b'"' {
-        return Mode::Outside;
-    }
-    Mode::Quoted
-}
-
-fn after_bracketed(b: u8) -> Mode
-    ensures { result ≡ mode_after bracketed b }
-{
-    if b == b'>' {
-        return Mode::Outside;
-    }
-    Mode::Bracketed
 }
 
 // Whether the first four bytes are `tag=`, letter case ignored.

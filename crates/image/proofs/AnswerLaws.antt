@@ -9,7 +9,7 @@ use Rattle.std.specs.Prelude.{None, Option, Some}
 use Rattle.text.specs.declared.Span.{Span}
 use Rattle.codec.specs.Codec.{Reading, Codec}
 use Rattle.codec.proofs.AnswerLaws.{PlacesGot, places_got, nothing_got, span_end}
-use Rattle.record.specs.Record.{Side, is_sips, id_text, uri_text, number, optional, refresher_field, routes_field, StateByte, state_byte, Ids, Uris, Tail, ids_field, uris_field, tail_field, Record, image}
+use Rattle.record.specs.Record.{Side, is_sips, id_text, uri_text, number, optional, refresher_field, routes_field, StateByte, state_byte, Uris, Tail, ids_field, uris_field, tail_field, Record, image}
 use Rattle.record.specs.NumbersForm.{state_from, number_from, side_from}
 use Rattle.record.specs.declared.numbers.State.{State}
 use Rattle.headers.specs.declared.session_timer.Refresher.{Refresher}
@@ -105,9 +105,6 @@ IdsGot m s at p = PlacesGot (ids_field m) ids_places (λ (q : IdsAt). q.end) s a
 
 pub ids_got : (m : ℕ) (s : List ℕ) (at : ℕ) {p : IdsAt} → at ≤ length s → ids_from at ((ids_field m).read (drop at s)) ≡ Some p → IdsGot m s at p
 ids_got m s at h e = places_got (ids_sized m) s at h e (λ q. cc) (λ a q. cc) (λ a. omega arith)
-
-pub ids_not : (at : ℕ) (o : Option (Reading Ids)) → ids_from at o ≡ None → o ≡ None
-ids_not at o e = nothing_got o e (λ a q. cc)
 
 abbrev pub UrisGot : List ℕ → ℕ → UrisAt → Type 0
 UrisGot s at p = PlacesGot uris_field uris_places (λ (q : UrisAt). q.end) s at p

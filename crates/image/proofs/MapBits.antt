@@ -7,6 +7,7 @@ use mathlib.Core.List.{List, [], ◌∷◌}
 use lib.ListN.{length}
 use lib.Dec.{leb, ltb, eqb}
 use borrow.Author.Tests.{eq-eqb, ne_eqb, eqb-true, eqb-false, lt-ltb, ltb-true}
+use Rattle.std.proofs.lemmas.Bool.{and_parts}
 use Rattle.std.specs.Prelude.{None, Option, Some}
 use Rattle.text.specs.Text.{is_value, all}
 use Rattle.text.specs.Number.{non_empty}
@@ -185,15 +186,11 @@ bit_le false = omega arith
 sums : {a b c g h i j k l a' b' c' g' h' i' j' k' l' : ℕ} → a ≡ a' → b ≡ b' → c ≡ c' → g ≡ g' → h ≡ h' → i ≡ i' → j ≡ j' → k ≡ k' → l ≡ l' → sum a b c g h i j k l ≡ sum a' b' c' g' h' i' j' k' l'
 sums x1 x2 x3 x4 x5 x6 x7 x8 x9 = cc
 
-both : (a b : Bool) → (a && b) ≡ true → (a ≡ true) × (b ≡ true)
-both true b e = (refl, e)
-both false b e = absurd (false≢true e)
-
 -- the fields have the map under which they were read
 pub map_is : (m : ℕ) (f : Fields) → is_map m ≡ true → IdsThere m f.first → TailThere m f.second.second.second → eqb (map_of f) m ≡ true
 unfolding map_of
 map_is m f e i t =
-    let k = both (eqb (m / 8 % 16) 15) (ltb m 8192) e in
+    let k = and_parts (eqb (m / 8 % 16) 15) (ltb m 8192) e in
     eq-eqb _ _
     (sums (bit_is (m / 1 % 2) (omega arith) i.0) (bit_is (m / 2 % 2) (omega arith) i.1.0) (bit_is (m / 4 % 2) (omega arith) i.1.1)
     (bit_is (m / 128 % 2) (omega arith) t.0) (bit_is (m / 256 % 2) (omega arith) t.1.0) (bit_is (m / 512 % 2) (omega arith) t.1.1.0)

@@ -91,7 +91,7 @@ module _ (m : ℕ) (s : List ℕ) (at : ℕ) where
       ids_none_3 e = rw (x.got.reads, y.got.reads, e)
 
       pub ids_whole : {c : Span} → IdGot (stands 2 m) s (b.start + b.length) c
-          → Some (record { call_id = a; local_tag = b; remote_tag = c; end = c.start + c.length }) ≡ ids_from at ((ids_field m).read (drop at s))
+          → Some (record { id = record { call_id = a; local_tag = b; remote_tag = c }; end = c.start + c.length }) ≡ ids_from at ((ids_field m).read (drop at s))
       ids_whole z = rw (x.got.reads, y.got.reads, z.got.reads) (cc (x.placed, y.placed, z.placed))
 
 -- ---- the URIs

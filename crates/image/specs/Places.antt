@@ -73,7 +73,7 @@ abbrev pub ids_places : ℕ → Ids → IdsAt
 ids_places at i =
     let local = id_end at i.first in
     let remote = id_end local i.second.first in
-    record { call_id = id_span at i.first; local_tag = id_span local i.second.first; remote_tag = id_span remote i.second.second; end = id_end remote i.second.second }
+    record { id = record { call_id = id_span at i.first; local_tag = id_span local i.second.first; remote_tag = id_span remote i.second.second }; end = id_end remote i.second.second }
 
 abbrev pub ids_from : ℕ → Option (Reading Ids) → Option IdsAt
 ids_from at o = answered None (λ v. Some (ids_places at v)) o

@@ -55,10 +55,7 @@ pub fn read_record(bytes: &[u8], at: usize) -> Option<RecordAt>
 fn is_map(map: usize) -> bool
     ensures { result ≡ eqb (map / 8 % 16) 15 && ltb map 8192 }
 {
-    if map / 8 % 16 != 15 {
-        return false;
-    }
-    map < 8192
+    map / 8 % 16 == 15 && map < 8192
 }
 
 // One of two flags stands, or both.

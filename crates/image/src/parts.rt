@@ -2,16 +2,13 @@
 ghost use Rattle.std.specs.Prelude.{◌≡◌, ◌+◌, ◌≤◌, ◌<◌, true, false, length, drop, Some};
 ghost use Rattle.record.specs.Record.{id_text, uri_text, number, optional, refresher_field, routes_field, state_number, state_byte};
 ghost use Rattle.record.specs.NumbersForm.{state_in};
-ghost use Rattle.codec.specs.Places.{text_from};
 ghost use Rattle.image.specs.Places.{id_from, uri_from, number_at, optional_at, refresher_at, routes_at, state_field_of};
 
 use codec::{read_four, read_text, wide};
 use headers::Refresher;
+use limits::Limits;
 use record::State;
 use text::Span;
-
-// The most routes that an image has.
-const MOST_ROUTES: usize = 50;
 
 // A field of the map: what `read` answers where its bit stands, else what is absent.
 pub fn where_stands<T: Copy, F: FnOnce() -> Option<T>>(
@@ -30,23 +27,21 @@ pub fn where_stands<T: Copy, F: FnOnce() -> Option<T>>(
 }
 
 // An identifier part: not empty, of bytes allowed in block values.
-// Kept (5): a place is a number that `RecordAt` holds, and each field is read from where the one before it ends.
+// Kept (5): a reader lent as `&mut` has clauses for what is read, for its place and for its bytes: three where one stands.
 pub fn read_id(bytes: &[u8], at: usize) -> Option<Span>
     requires { at ≤ length bytes.now }
     ensures { result ≡ id_from at ((id_text true).read (drop at bytes.now)) }
 {
     let t = read_text(bytes, at)?;
-    if t.length == 0 {
-        return None;
-    }
-    if !text::all_value(t.text(bytes)) {
+    if t.length == 0 || !text::all_value(t.text(bytes)) {
         return None;
     }
     Some(t)
 }
 
 // A URI's text: one that can be read; and whether it is `sips`.
-// Kept (5): a place is a number that `RecordAt` holds, and each field is read from where the one before it ends.
+// Kept (1): document 01 names `let .. else` for the reading of a URI.
+// Kept (5): a reader lent as `&mut` has clauses for what is read, for its place and for its bytes: three where one stands.
 pub fn read_uri_text(bytes: &[u8], at: usize) -> Option<(Span, bool)>
     requires { at ≤ length bytes.now }
     ensures { result ≡ uri_from at (uri_text.read (drop at bytes.now)) }
@@ -59,7 +54,7 @@ pub fn read_uri_text(bytes: &[u8], at: usize) -> Option<(Span, bool)>
 }
 
 // A number that isn't 0, and the place after it.
-// Kept (5): a place is a number that `RecordAt` holds, and each field is read from where the one before it ends.
+// Kept (5): a reader lent as `&mut` has clauses for what is read, for its place and for its bytes: three where one stands.
 pub fn read_number(bytes: &[u8], at: usize) -> Option<(u32, usize)>
     requires { at ≤ length bytes.now }
     ensures { result ≡ number_at at ((number true).read (drop at bytes.now)) }
@@ -75,7 +70,7 @@ pub fn read_number(bytes: &[u8], at: usize) -> Option<(u32, usize)>
 }
 
 // A number that may be absent, and may be 0; and the place after it.
-// Kept (5): a place is a number that `RecordAt` holds, and each field is read from where the one before it ends.
+// Kept (5): a reader lent as `&mut` has clauses for what is read, for its place and for its bytes: three where one stands.
 pub fn read_optional(bytes: &[u8], at: usize) -> Option<(Option<u32>, usize)>
     requires { at ≤ length bytes.now }
     ensures { result ≡ optional_at at ((optional true).read (drop at bytes.now)) }
@@ -87,7 +82,7 @@ pub fn read_optional(bytes: &[u8], at: usize) -> Option<(Option<u32>, usize)>
 }
 
 // Who refreshes: 1 uac, 2 uas; and the place after it.
-// Kept (5): a place is a number that `RecordAt` holds, and each field is read from where the one before it ends.
+// Kept (5): a reader lent as `&mut` has clauses for what is read, for its place and for its bytes: three where one stands.
 pub fn read_refresher(bytes: &[u8], at: usize) -> Option<(Option<Refresher>, usize)>
     requires { at ≤ length bytes.now }
     ensures { result ≡ refresher_at at ((refresher_field true).read (drop at bytes.now)) }
@@ -95,18 +90,15 @@ pub fn read_refresher(bytes: &[u8], at: usize) -> Option<(Option<Refresher>, usi
     if bytes.len() - at < 4 {
         return None;
     }
-    let n = read_four(bytes, at);
-    if n == 1 {
-        return Some((Some(Refresher::Uac), at + 4));
+    match read_four(bytes, at) {
+        1 => Some((Some(Refresher::Uac), at + 4)),
+        2 => Some((Some(Refresher::Uas), at + 4)),
+        _ => None,
     }
-    if n == 2 {
-        return Some((Some(Refresher::Uas), at + 4));
-    }
-    None
 }
 
 // A count byte, 1 to 50, then as many URIs: how many, and the place after them.
-// Kept (5): a place is a number that `RecordAt` holds, and each field is read from where the one before it ends.
+// Kept (5): a reader lent as `&mut` has clauses for what is read, for its place and for its bytes: three where one stands.
 pub fn read_routes(bytes: &[u8], at: usize) -> Option<(usize, usize)>
     requires { at ≤ length bytes.now }
     ensures { result ≡ routes_at at ((routes_field true).read (drop at bytes.now)) }
@@ -115,22 +107,19 @@ pub fn read_routes(bytes: &[u8], at: usize) -> Option<(usize, usize)>
         return None;
     }
     let count = wide(bytes[at]);
-    if count == 0 {
-        return None;
-    }
-    if MOST_ROUTES < count {
+    if count == 0 || Limits::MAX_ROUTE_SET_SIZE < count {
         return None;
     }
     let mut end = at + 1;
     for read in 0..count {
         let (t, _) = read_uri_text(bytes, end)?;
-        end = t.start + t.length;
+        end = t.end();
     }
     Some((count, end))
 }
 
 // The state byte: low two bits the state, bit 2 we are uac, bit 3 secure, the rest 0.
-// Kept (5): a place is a number that `RecordAt` holds, and each field is read from where the one before it ends.
+// Kept (5): a reader lent as `&mut` has clauses for what is read, for its place and for its bytes: three where one stands.
 pub fn read_state(bytes: &[u8], at: usize) -> Option<(State, bool, bool)>
     requires { at ≤ length bytes.now }
     ensures { result ≡ state_field_of (state_byte.read (drop at bytes.now)) }
@@ -142,24 +131,18 @@ pub fn read_state(bytes: &[u8], at: usize) -> Option<(State, bool, bool)>
     if 16 <= b {
         return None;
     }
-    let we_are_uac = b / 4 % 2 == 1;
-    let secure = b / 8 == 1;
-    match b % 4 {
-        1 => Some((State::Early, we_are_uac, secure)),
-        2 => Some((State::Confirmed, we_are_uac, secure)),
-        3 => Some((State::Terminated, we_are_uac, secure)),
-        _ => None,
-    }
+    let state = match b % 4 {
+        1 => State::Early,
+        2 => State::Confirmed,
+        3 => State::Terminated,
+        _ => return None,
+    };
+    Some((state, b / 4 % 2 == 1, b / 8 == 1))
 }
 
 // The number that the state byte has for a state.
-// Kept (4): a `From` would have to stand in the crate of the enum, and a cast would hand over the order of its variants.
 pub fn state_number(state: State) -> u8
     ensures { (result ≡ state_number (state_in state)) × (result ≤ 3) }
 {
-    match state {
-        State::Early => 1,
-        State::Confirmed => 2,
-        State::Terminated => 3,
-    }
+    state as u8
 }

@@ -6,15 +6,14 @@ ghost use Rattle.image.specs.Places.{id_from, ids_from, uris_from, tail_from};
 use crate::parts::{
     read_id, read_number, read_optional, read_refresher, read_routes, read_uri_text, where_stands,
 };
+use dialog_id::DialogId;
 use headers::Refresher;
 use text::Span;
 
 // Where the identifier's parts lie, and the place after them.
 #[derive(Clone, Copy)]
 pub struct IdsAt {
-    pub call_id: Span,
-    pub local_tag: Span,
-    pub remote_tag: Span,
+    pub id: DialogId,
     pub end: usize,
 }
 
@@ -42,24 +41,27 @@ pub struct TailAt {
     pub end: usize,
 }
 
-// Kept (5): a place is a number that `RecordAt` holds, and each field is read from where the one before it ends.
+// Kept (5): a reader lent as `&mut` has clauses for what is read, for its place and for its bytes: three where one stands.
 pub fn read_ids(bytes: &[u8], at: usize, map: usize) -> Option<IdsAt>
     requires { at ≤ length bytes.now }
     ensures { result ≡ ids_from at ((ids_field map).read (drop at bytes.now)) }
 {
     let call_id = read_part(bytes, at, bit(map, 1))?;
-    let local_tag = read_part(bytes, call_id.start + call_id.length, bit(map, 2))?;
-    let remote_tag = read_part(bytes, local_tag.start + local_tag.length, bit(map, 4))?;
+    let local_tag = read_part(bytes, call_id.end(), bit(map, 2))?;
+    let remote_tag = read_part(bytes, local_tag.end(), bit(map, 4))?;
     Some(IdsAt {
-        call_id,
-        local_tag,
-        remote_tag,
-        end: remote_tag.start + remote_tag.length,
+        id: DialogId {
+            call_id,
+            local_tag,
+            remote_tag,
+        },
+        end: remote_tag.end(),
     })
 }
 
 // An identifier part by its bit.
-// Kept (5): a place is a number that `RecordAt` holds, and each field is read from where the one before it ends.
+// Kept (7): whether the part stands is a bit of the image that is read; `where_stands` is given the step for one that does.
+// Kept (5): a reader lent as `&mut` has clauses for what is read, for its place and for its bytes: three where one stands.
 fn read_part(bytes: &[u8], at: usize, stands: bool) -> Option<Span>
     requires { at ≤ length bytes.now }
     ensures { result ≡ id_from at ((id_text stands).read (drop at bytes.now)) }
@@ -71,43 +73,33 @@ fn read_part(bytes: &[u8], at: usize, stands: bool) -> Option<Span>
     where_stands(stands, absent, || read_id(bytes, at))
 }
 
-// Kept (5): a place is a number that `RecordAt` holds, and each field is read from where the one before it ends.
+// Kept (5): a reader lent as `&mut` has clauses for what is read, for its place and for its bytes: three where one stands.
 pub fn read_uris(bytes: &[u8], at: usize) -> Option<UrisAt>
     requires { at ≤ length bytes.now }
     ensures { result ≡ uris_from at (uris_field.read (drop at bytes.now)) }
 {
     let (target, _) = read_uri_text(bytes, at)?;
-    let (local_uri, local_secure) = read_uri_text(bytes, target.start + target.length)?;
-    let (remote_uri, remote_secure) = read_uri_text(bytes, local_uri.start + local_uri.length)?;
+    let (local_uri, local_secure) = read_uri_text(bytes, target.end())?;
+    let (remote_uri, remote_secure) = read_uri_text(bytes, local_uri.end())?;
     Some(UrisAt {
         target,
         local_uri,
         remote_uri,
         local_secure,
         remote_secure,
-        end: remote_uri.start + remote_uri.length,
+        end: remote_uri.end(),
     })
 }
 
-// Kept (5): a place is a number that `RecordAt` holds, and each field is read from where the one before it ends.
+// Kept (5): a reader lent as `&mut` has clauses for what is read, for its place and for its bytes: three where one stands.
 pub fn read_tail(bytes: &[u8], at: usize, map: usize) -> Option<TailAt>
     requires { at ≤ length bytes.now }
     ensures { result ≡ tail_from at ((tail_field map).read (drop at bytes.now)) }
 {
-    let Some((local, b)) = where_stands(bit(map, 128), (0, at), || read_number(bytes, at)) else {
-        return None;
-    };
-    let Some((remote, c)) = where_stands(bit(map, 256), (0, b), || read_number(bytes, b)) else {
-        return None;
-    };
-    let Some((last_ack, d)) = where_stands(bit(map, 512), (None, c), || read_optional(bytes, c))
-    else {
-        return None;
-    };
-    let Some((seconds, e)) = where_stands(bit(map, 1024), (None, d), || read_optional(bytes, d))
-    else {
-        return None;
-    };
+    let (local, b) = where_stands(bit(map, 128), (0, at), || read_number(bytes, at))?;
+    let (remote, c) = where_stands(bit(map, 256), (0, b), || read_number(bytes, b))?;
+    let (last_ack, d) = where_stands(bit(map, 512), (None, c), || read_optional(bytes, c))?;
+    let (seconds, e) = where_stands(bit(map, 1024), (None, d), || read_optional(bytes, d))?;
     let (refresher, routes) = where_stands(bit(map, 2048), (None, e), || read_refresher(bytes, e))?;
     let (route_count, end) = where_stands(
         bit(map, 4096),

@@ -2,3 +2,5 @@ pub mod CutLaws
 pub mod ImageCuts
 pub mod TargetLaws
 pub mod NumbersLaws
+pub mod TailLaws
+pub mod RoutesLaws

@@ -7,10 +7,13 @@ use mathlib.Core.List.{List, [], ◌∷◌, ◌++◌, append_assoc}
 use lib.ListN.{length, length-append}
 use lib.Dec.{ltb}
 use borrow.Author.Tests.{lt-ltb, le-ltb}
-use Rattle.std.specs.Prelude.{Err, None, Ok, Option, Some}
-use Rattle.codec.specs.Codec.{two, text}
+use Rattle.std.specs.Prelude.{Err, None, Ok, Option, Some, MatchOption, IsSomeAnd}
+use Rattle.codec.specs.Codec.{two, four, text}
+use Rattle.headers.specs.declared.session_timer.Refresher.{Refresher}
+use Rattle.headers.specs.declared.session_timer.Refresher.TheVariants as refresher
 use Rattle.codec.proofs.SizeLaws.{text_size}
-use Rattle.record.specs.Record.{Side, uac, uas, Numbers, Ids, Uris, bit_of, is_filled, is_given, id_text, number, optional, refresher_field}
+use Rattle.record.specs.Record.{Side, uac, uas, Numbers, Ids, Uris, bit_of, is_filled, is_given, id_text, number, optional, refresher_field, side_number}
+use Rattle.record.specs.NumbersForm.{number_in, side_in}
 use Rattle.edit.specs.Edit.{over}
 use Rattle.edit.proofs.EditLaws.{Wrote, wrote_then}
 use Rattle.limits.specs.declared.Refusal.TheVariants.{NoRoom}
@@ -31,6 +34,14 @@ pub refresher_size : (o : Option Side) → length ((refresher_field (is_given o)
 refresher_size None = refl
 refresher_size (Some uac) = refl
 refresher_size (Some uas) = refl
+
+-- who refreshes, written as a number that may be absent, of which `Q` is what the closure of `map` says
+pub side_as_number : {Q : Refresher → ℕ → Type 0} (r : Option Refresher) (n : Option ℕ) → MatchOption r (n ≡ None) (λ s. IsSomeAnd n (Q s)) → ((s : Refresher) (k : ℕ) → Q s k → k ≡ side_number (side_in (Some s)))
+    → (optional (is_given (number_in n))).write (number_in n) ≡ (refresher_field (is_given (side_in r))).write (side_in r)
+side_as_number None n e q = rw e
+side_as_number (Some s) None h q = absurd h
+side_as_number (Some refresher.Uac) (Some k) h q = ap (λ (j : ℕ). four.write j) (q refresher.Uac k h)
+side_as_number (Some refresher.Uas) (Some k) h q = ap (λ (j : ℕ). four.write j) (q refresher.Uas k h)
 
 -- ---- the sections' sizes
 
@@ -56,6 +67,16 @@ numbers_size_lem x =
     let d = (optional (is_given x.seconds)).write x.seconds in
     let e = (refresher_field (is_given x.refresher)).write x.refresher in
     omega (arith, length-append a (b ++ (c ++ (d ++ e))), length-append b (c ++ (d ++ e)), length-append c (d ++ e), length-append d e, number_size x.local, number_size x.remote, optional_size x.last_ack, optional_size x.seconds, refresher_size x.refresher)
+
+pub numbers_parts : (x : Numbers) → length (numbers_bytes x)
+    ≡ length ((number (ltb 0 x.local)).write x.local) + (length ((number (ltb 0 x.remote)).write x.remote) + (length ((optional (is_given x.last_ack)).write x.last_ack) + (length ((optional (is_given x.seconds)).write x.seconds) + length ((refresher_field (is_given x.refresher)).write x.refresher))))
+numbers_parts x =
+    let a = (number (ltb 0 x.local)).write x.local in
+    let b = (number (ltb 0 x.remote)).write x.remote in
+    let c = (optional (is_given x.last_ack)).write x.last_ack in
+    let d = (optional (is_given x.seconds)).write x.seconds in
+    let e = (refresher_field (is_given x.refresher)).write x.refresher in
+    omega (arith, length-append a (b ++ (c ++ (d ++ e))), length-append b (c ++ (d ++ e)), length-append c (d ++ e), length-append d e)
 
 pub front_size : (f : Front) → length (front_of f) ≡ 2 + length (ids_bytes f.ids) + 1 + length (uris_bytes f.uris) + length (numbers_bytes f.numbers)
 unfolding front_of

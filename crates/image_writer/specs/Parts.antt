@@ -7,8 +7,8 @@ use Rattle.limits.specs.Outcome.{cause_if, refuse_by}
 use Rattle.limits.specs.declared.Refusal.TheVariants.{NoRoom}
 use Rattle.codec.specs.Codec.{Pair, two, text}
 use Rattle.dialog_id.specs.declared.IdTexts.{IdTexts}
-use Rattle.image_writer.specs.declared.Front.{Front as CodeFront}
-use Rattle.image_writer.specs.declared.UriTexts.{UriTexts}
+use Rattle.image_writer.specs.declared.front.Front.{Front as CodeFront}
+use Rattle.image_writer.specs.declared.front.UriTexts.{UriTexts}
 use Rattle.record.specs.NumbersForm.{meaning}
 use Rattle.record.specs.Record.{Numbers, Ids, Uris, bit_of, is_filled, is_given, ids_map, id_text, number, optional, refresher_field, state_byte_number}
 

@@ -1,24 +1,24 @@
 // The sections of an image and their sizes, and the two fields that say what stands: the map and the state byte.
-ghost use Rattle.std.specs.Prelude.{◌≡◌, Bool, ◌+◌, ◌*◌, ◌≤◌, ◌<◌, length, ltb};
+ghost use Rattle.std.specs.Prelude.{◌≡◌, ◌+◌, ◌*◌, ◌≤◌, ◌<◌, length, ltb};
 ghost use Rattle.edit.specs.Edit.{put_at};
 ghost use Rattle.record.specs.NumbersForm.{meaning};
 ghost use Rattle.record.specs.Record.{bit_of, is_filled, is_given, id_text, state_byte_number};
-ghost use Rattle.image_writer.specs.Parts.{Short, ids_given, uris_given, ids_bytes, uris_bytes, numbers_bytes, numbers_map, map_with};
+ghost use Rattle.image_writer.specs.Parts.{ids_given, uris_given, ids_bytes, uris_bytes, numbers_bytes, numbers_map, map_with};
 
-use crate::UriTexts;
-use crate::fields::{write_id, write_number, write_optional, write_refresher};
-use codec::write_text;
+use crate::fields::{write_id, write_number, write_optional};
+use crate::{Front, UriTexts};
+use codec::{LENGTH_SIZE, write_text};
 use dialog_id::IdTexts;
 use image::state_number;
 use record::Numbers;
 
 // ---- sizes
 
-pub fn ids_size(id: IdTexts<'_>) -> usize
-    requires { Short (ids_given id) }
-    ensures value { result ≡ length (ids_bytes (ids_given id.entry)) }
+pub fn ids_size(front: Front<'_>) -> usize
+    ensures value { result ≡ length (ids_bytes (ids_given front.entry.id)) }
     ensures upper_bound { result ≤ 200000 }
 {
+    let id = front.id;
     id_size(id.call_id) + id_size(id.local_tag) + id_size(id.remote_tag)
 }
 
@@ -30,15 +30,14 @@ fn id_size(t: &[u8]) -> usize
     if t.is_empty() {
         return 0;
     }
-    2 + t.len()
+    LENGTH_SIZE + t.len()
 }
 
 pub fn uris_size(uris: UriTexts<'_>) -> usize
-    requires { Short (uris_given uris) }
     ensures value { result ≡ length (uris_bytes (uris_given uris.entry)) }
     ensures upper_bound { result ≤ 200000 }
 {
-    2 + uris.target.len() + 2 + uris.local_uri.len() + 2 + uris.remote_uri.len()
+    3 * LENGTH_SIZE + uris.target.len() + uris.local_uri.len() + uris.remote_uri.len()
 }
 
 pub fn numbers_size(x: Numbers) -> usize
@@ -110,24 +109,27 @@ fn optional_bit<T: Copy>(o: Option<T>) -> usize
 
 // ---- the sections
 
-// Kept (5): the place goes in as a number and comes back as the next one, which the caller writes at.
-// Kept (2): an empty identifier part has no bytes, an empty URI has its two length bytes: a common function would have to be told which it writes.
-pub fn write_ids(out: &mut [u8], at: usize, id: IdTexts<'_>) -> usize
-    requires id_short { Short (ids_given id) }
-    requires id_in_bounds { at + length (ids_bytes (ids_given id)) ≤ length out.old }
-    ensures value { result ≡ at + length (ids_bytes (ids_given id.entry)) }
-    ensures out_after { out.new ≡ put_at at (ids_bytes (ids_given id.entry)) out.old }
+// Kept (5): a writer of `&mut [u8]` and place would need a clause that names the writer's reference in each function that is lent it,
+// beside those about bytes and place: three where two stand.
+// Kept (2): an empty identifier part has no bytes, while an empty URI is written too, as two length bytes.
+pub fn write_ids(out: &mut [u8], at: usize, front: Front<'_>) -> usize
+    requires { at + length (ids_bytes (ids_given front.id)) ≤ length out.old }
+    ensures value { result ≡ at + length (ids_bytes (ids_given front.entry.id)) }
+    ensures out_after { out.new ≡ put_at at (ids_bytes (ids_given front.entry.id)) out.old }
 {
+    let id = front.id;
     let a = write_id(out, at, id.call_id);
     let b = write_id(out, a, id.local_tag);
     write_id(out, b, id.remote_tag)
 }
 
-// Kept (5): the place goes in as a number and comes back as the next one, which the caller writes at.
-// Kept (2, 4): the texts are those of URIs, as said above; nothing is converted here.
+// Kept (5): a writer of `&mut [u8]` and place would need a clause that names the writer's reference in each function that is lent it,
+// beside those about bytes and place: three where two stand.
+// Kept (2): rseq_manager writes the three texts of an identifier so, in an entry; a function of both would be lent three slices, with a clause for each
+// one's length.
+// Kept (2, 4): an empty URI is written too, as two length bytes, while an empty identifier part has no bytes; nothing is converted.
 pub fn write_uris(out: &mut [u8], at: usize, uris: UriTexts<'_>) -> usize
-    requires uris_short { Short (uris_given uris) }
-    requires uris_in_bounds { at + length (uris_bytes (uris_given uris)) ≤ length out.old }
+    requires { at + length (uris_bytes (uris_given uris)) ≤ length out.old }
     ensures value { result ≡ at + length (uris_bytes (uris_given uris.entry)) }
     ensures out_after { out.new ≡ put_at at (uris_bytes (uris_given uris.entry)) out.old }
 {
@@ -136,7 +138,8 @@ pub fn write_uris(out: &mut [u8], at: usize, uris: UriTexts<'_>) -> usize
     write_text(out, b, uris.remote_uri)
 }
 
-// Kept (5): the place goes in as a number and comes back as the next one, which the caller writes at.
+// Kept (5): a writer of `&mut [u8]` and place would need a clause that names the writer's reference in each function that is lent it,
+// beside those about bytes and place: three where two stand.
 pub fn write_numbers(out: &mut [u8], at: usize, x: Numbers) -> usize
     requires { at + length (numbers_bytes (meaning x)) ≤ length out.old }
     ensures value { result ≡ at + length (numbers_bytes (meaning x)) }
@@ -149,5 +152,6 @@ pub fn write_numbers(out: &mut [u8], at: usize, x: Numbers) -> usize
     let b = write_number(out, a, x.remote);
     let c = write_optional(out, b, last_ack);
     let d = write_optional(out, c, seconds);
-    write_refresher(out, d, refresher)
+    let who = refresher.map(|side| side as u32);
+    write_optional(out, d, who)
 }

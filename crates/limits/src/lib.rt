@@ -81,7 +81,7 @@ pub enum Refusal {
 
 impl Refusal {
     // The number of document 01's table.
-    // Kept (4): `number` says which number it is; `u8::from` would not.
+    // Kept (4): one variant has a field, so that no cast takes the enum; a `From` would be this match.
     pub fn number(self) -> u8
         ensures { result ≡ number_of self }
     {

@@ -1,9 +1,7 @@
 // The handover listing (document 01): reads a store from standard input and prints a line per record, or `refused` and the number.
 #![tactic(auto)]
 
-use listing_output::{print_listing, report};
-use std::io;
-use std::io::Read;
+use listing_output::{print_listing, read_full, report};
 
 fn main(rt: HostRuntime) {
     // One byte more than a listed store may have, so that a longer input is seen to be longer.
@@ -11,16 +9,10 @@ fn main(rt: HostRuntime) {
     list_input(&rt, &mut store);
 }
 
-// Reads the input to its end, or as far as bytes go, and prints its listing. A read that fails is not taken for the end.
+// Reads the input to its end, or as far as bytes go, and prints its listing.
 fn list_input(rt: &(impl Input + Print + Eprint), bytes: &mut [u8]) {
-    let mut input = rt.reader().take(bytes.len() as u64);
-    let mut rest: &mut [u8] = bytes;
-    match io::copy(&mut input, &mut rest) {
-        Ok(_count) => {
-            let left = rest.len();
-            let n = bytes.len().saturating_sub(left);
-            print_listing(rt, &bytes[..n]);
-        }
+    match read_full(&mut rt.reader(), bytes) {
+        Ok(n) => print_listing(rt, &bytes[..n]),
         Err(error) => report(rt, "standard input", error),
     }
 }

@@ -44,7 +44,7 @@ pub fn write_words(out: &mut [u8], word: &[u8], n: u64) -> usize
 }
 
 // Position, state, side.
-// Kept (5): a place in lent output, as `edit::put` takes it; each answers the next place.
+// Kept (5): a writer of bytes and place needs a clause about its reference in each function that is lent it, beside those about bytes and place: three where two stand.
 fn write_head(out: &mut [u8], at: usize, position: usize, state: State, we_are_uac: bool) -> usize
     requires { at + 27 ≤ length out.old }
     ensures value { (result ≡ at + length (head_part position (state_in state) we_are_uac)) × (result ≤ at + 27) }
@@ -56,7 +56,7 @@ fn write_head(out: &mut [u8], at: usize, position: usize, state: State, we_are_u
 }
 
 // Local, remote, last ACK.
-// Kept (5): a place in lent output, as `edit::put` takes it; each answers the next place.
+// Kept (5): a writer of bytes and place needs a clause about its reference in each function that is lent it, beside those about bytes and place: three where two stand.
 fn write_sequence(
     out: &mut [u8],
     at: usize,
@@ -74,7 +74,7 @@ fn write_sequence(
 }
 
 // Seconds, refresh second, route count.
-// Kept (5): a place in lent output, as `edit::put` takes it; each answers the next place.
+// Kept (5): a writer of bytes and place needs a clause about its reference in each function that is lent it, beside those about bytes and place: three where two stand.
 fn write_interval(out: &mut [u8], at: usize, seconds: Option<u32>, routes: usize) -> usize
     requires { at + 63 ≤ length out.old }
     ensures value { (result ≡ at + length (interval_part (number_in seconds) routes)) × (result ≤ at + 63) }
@@ -87,7 +87,7 @@ fn write_interval(out: &mut [u8], at: usize, seconds: Option<u32>, routes: usize
 }
 
 // E, C, T.
-// Kept (5): a place in lent output, as `edit::put` takes it; each answers the next place.
+// Kept (5): a writer of bytes and place needs a clause about its reference in each function that is lent it, beside those about bytes and place: three where two stand.
 fn write_state(out: &mut [u8], at: usize, state: State) -> usize
     requires { at + 2 ≤ length out.old }
     ensures value { (result ≡ at + length (state_letter (state_in state) ++ (32 ∷ []))) × (result ≤ at + 2) }
@@ -101,20 +101,19 @@ fn write_state(out: &mut [u8], at: usize, state: State) -> usize
     write_text(out, at, letter, b' ')
 }
 
-// Kept (5, 7): a place in lent output, as `edit::put` takes it; the side is told by a flag in the image too.
+// uac, uas.
+// Kept (5): a writer of bytes and place needs a clause about its reference in each function that is lent it, beside those about bytes and place: three where two stand.
 fn write_side(out: &mut [u8], at: usize, we_are_uac: bool) -> usize
     requires { at + 4 ≤ length out.old }
     ensures value { (result ≡ at + length (side_text we_are_uac ++ (32 ∷ []))) × (result ≤ at + 4) }
     ensures out_after { out.new ≡ put_at at (side_text we_are_uac ++ (32 ∷ [])) out.old }
 {
-    if we_are_uac {
-        return write_text(out, at, b"uac", b' ');
-    }
-    write_text(out, at, b"uas", b' ')
+    let word = if we_are_uac { b"uac" } else { b"uas" };
+    write_text(out, at, word, b' ')
 }
 
 // A number, or `-` where it is absent.
-// Kept (4, 5): a place in lent output, as `edit::put` takes it; a number and the dash are written by two functions.
+// Kept (4, 5): a writer would need a clause more, as for `write_head`; a number and the dash are written by two functions.
 fn write_optional(out: &mut [u8], at: usize, n: Option<u32>) -> usize
     requires { at + 21 ≤ length out.old }
     ensures value { (result ≡ at + length (or_dash (number_in n) ++ (32 ∷ []))) × (result ≤ at + 21) }
@@ -134,7 +133,7 @@ fn refresh_second(seconds: Option<u32>) -> Option<u32>
 }
 
 // A number in decimal, and the byte after it.
-// Kept (5): a place in lent output, as `edit::put` takes it; each answers the next place.
+// Kept (5): a writer of bytes and place needs a clause about its reference in each function that is lent it, beside those about bytes and place: three where two stand.
 pub fn write_number(out: &mut [u8], at: usize, n: u64, after: u8) -> usize
     requires { at + 21 ≤ length out.old }
     ensures value { (result ≡ at + length (decimal_of n ++ (after ∷ []))) × (result ≤ at + 21) }
@@ -146,7 +145,7 @@ pub fn write_number(out: &mut [u8], at: usize, n: u64, after: u8) -> usize
 }
 
 // A text, and the byte after it. The place after both.
-// Kept (5): a place in lent output, as `edit::put` takes it; each answers the next place.
+// Kept (5): a writer of bytes and place needs a clause about its reference in each function that is lent it, beside those about bytes and place: three where two stand.
 pub fn write_text(out: &mut [u8], at: usize, piece: &[u8], after: u8) -> usize
     requires { at + length piece.now + 1 ≤ length out.old }
     ensures value { result ≡ at + length piece.now + 1 }

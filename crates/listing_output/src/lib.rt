@@ -1,7 +1,7 @@
 // The listing of a store, written to standard output: what `listing` and `listings` print.
 #![tactic(auto)]
 
-ghost use Rattle.std.specs.Prelude.{◌≡◌, ◌≢◌, ◌≤◌, length, Err};
+ghost use Rattle.std.specs.Prelude.{◌≡◌, ◌≢◌, ◌≤◌, IfOk, length, Err};
 ghost use Rattle.limits.specs.Limits.{rust_limits};
 ghost use Rattle.limits.specs.declared.Refusal.TheVariants.{NoRoom};
 ghost use Rattle.output.specs.Output.{written_from};
@@ -9,7 +9,7 @@ ghost use Rattle.listing_lines.specs.Listing.{listing};
 
 use limits::Refusal;
 use std::io;
-use std::io::Write;
+use std::io::{Read, Write};
 
 // A line for each record of a store and their number, or `refused` and its number.
 pub fn print_listing(rt: &(impl Print + Eprint), store: &[u8]) {
@@ -36,6 +36,16 @@ fn print_refused(rt: &(impl Print + Eprint), cause: Refusal)
     let mut text = [0u8; 192];
     let n = listing_text::write_refused(&mut text, cause);
     print(rt, &text[..n]);
+}
+
+// Reads to the end, or until the bytes are full: how many there are. A read that fails is not taken for the end.
+pub fn read_full(input: &mut impl Read, bytes: &mut [u8]) -> io::Result<usize>
+    ensures { IfOk result (λ n. n ≤ length bytes.new) }
+{
+    let mut rest: &mut [u8] = bytes;
+    io::copy(&mut input.take(rest.len() as u64), &mut rest)?;
+    let left = rest.len();
+    Ok(bytes.len().saturating_sub(left))
 }
 
 // A text as it is. Where it can't be written, standard error says so.

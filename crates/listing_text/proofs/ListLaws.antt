@@ -2,11 +2,13 @@
 use Prim.Native.Nat.{ℕ, zero, suc, ◌+◌, ◌*◌, ◌≤◌, ◌<◌}
 use native.Mathlib.Numerals.{add-one}
 use native.Mathlib.Omega.{arith}
-use mathlib.Core.Path.{◌≡◌, refl, sym, ap, ◌∙◌}
-use mathlib.Core.Bool.{true}
+use mathlib.Core.Path.{◌≡◌, refl, sym, ap, subst, ◌∙◌}
+use mathlib.Core.Bool.{Bool, true, false}
 use mathlib.Core.List.{List, [], ◌∷◌, ◌++◌, append_assoc, append-nil}
 use lib.ListN.{length, drop, length-append, drop_of_length-le}
 use lib.Seq.{drop-cons}
+use lib.Dec.{ltb}
+use borrow.Author.Tests.{ltb-true, ltb-false}
 use Rattle.std.specs.Prelude.{None, Option, Some}
 use Rattle.codec.specs.Codec.{Reading}
 use Rattle.record.specs.Record.{Numbers, Record, is_given, image}
@@ -18,6 +20,9 @@ use Rattle.image.specs.declared.RecordAt.{RecordAt}
 use Rattle.image.proofs.AnswerLaws.{record_got, record_not}
 use Rattle.listing_lines.specs.Listing.{columns, columns_of, line_of, lines_from}
 use Rattle.listing_lines.specs.Steps.{records_of, listed_lines}
+use Rattle.listing_text.specs.Listed.{StepsListed}
+use Rattle.listing_text.specs.Readings.{ReadAt}
+use Rattle.listing_text.specs.declared.listed.Walk.{Walk}
 
 -- ---- the line of a record
 
@@ -112,6 +117,53 @@ module _ (s : List ℕ) (at position size : ℕ) (text : List ℕ) (l : Left s a
           small = omega (arith, l.small, further);
           low = omega (arith, l.low, further);
         }
+
+-- ---- the records that are given
+
+-- what is read at a place
+pub read_there : (s : List ℕ) (at : ℕ) → at ≤ length s → (o : Option RecordAt) → o ≡ record_from at (image.read (drop at s)) → ReadAt s at o
+read_there s at h None e = sym e
+read_there s at h (Some r) e =
+    let g = record_got s at h (sym e) in
+    (sym e, rw g.placed (omega arith), g.got.within)
+
+-- a turn: the record at the place, and the walk after it
+pub record Given (s : List ℕ) (w : Walk) (x : RecordAt) (t : Walk) : Type 0 where
+  pub more : w.at < length s
+  pub reads : record_from w.at (image.read (drop w.at s)) ≡ Some x
+  pub same : t.bytes.now ≡ s
+  pub ends : t.at ≡ x.end
+
+-- a walk that begins
+pub begun : (s : List ℕ) (w t : Walk) → t ≡ w → w.bytes.now ≡ s → w.at ≡ 0 → (t.bytes.now ≡ s) × (t.at ≡ 0)
+begun s w t e b a = (ap (λ (x : Walk). x.bytes.now) e ∙ b, ap (λ (x : Walk). x.at) e ∙ a)
+
+module _ (s : List ℕ) (w : Walk) (e : w.bytes.now ≡ s) where
+  pub given : {x : RecordAt} {t : Walk} → StepsListed w (Some x) t → Given s w x t
+  given {x} {t} k =
+      let r : ReadAt s w.at (Some x) = subst (λ (b : List ℕ). ReadAt b w.at (Some x)) e k.0 in
+      record { more = omega (arith, r.1, r.2); reads = r.0; same = k.1 ∙ e; ends = k.2 }
+
+  pub ended : {position size : ℕ} {text : List ℕ} (t : Walk) → Left s w.at position size text → StepsListed w None t → length s ≤ w.at
+  ended {position} {size} {text} t l k = by (ltb w.at (length s)) refl
+    where
+      by : (b : Bool) → ltb w.at (length s) ≡ b → length s ≤ w.at
+      by true q = absurd (not_broken s w.at position size text l (ltb-true w.at (length s) q) (subst (λ (b : List ℕ). ReadAt b w.at None) e k))
+      by false q = ltb-false w.at (length s) q
+
+-- a turn, after its line of so many bytes; `i` is its number, `k` that of the turn, and `next` that of the one after it
+pub turn : (s : List ℕ) (w : Walk) (x : RecordAt) (t : Walk) → Given s w x t → {i k next : ℕ} → i ≡ k → next ≡ k + 1 → (size : ℕ) (text : List ℕ) → Left s w.at (k + 1) size text
+    → {n : ℕ} → n ≡ length (line_of (columns_of (i + 1) (meaning x.numbers) x.we_are_uac x.route_count)) → n ≤ 192
+    → Left s t.at (next + 1) (size + n) (text ++ line_of (columns_of (i + 1) (meaning x.numbers) x.we_are_uac x.route_count))
+turn s w x t g {i} {k} {next} a b size text l {n} h u =
+    let line : ℕ → List ℕ = λ j. line_of (columns_of (j + 1) (meaning x.numbers) x.we_are_uac x.route_count) in
+    let m : n ≡ length (line k) = h ∙ ap (λ (j : ℕ). length (line j)) a in
+    let y : Left s x.end (k + 1 + 1) (size + length (line k)) (text ++ line k) = step s w.at (k + 1) size text l g.more x g.reads (omega (arith, m, u)) in
+    rw (g.ends, b, m, a) y
+
+-- before the first
+pub start_at : (s : List ℕ) {at k : ℕ} → at ≡ 0 → k ≡ 0 → is_given (records_in (length s) s) ≡ true → Left s at (k + 1) 0 []
+start_at s a p h = rw (a, p) (start s h)
 
 -- at the end the lines are all written
 pub done : (s : List ℕ) (at position size : ℕ) (text : List ℕ) → Left s at position size text → length s ≤ at → listed_lines s ≡ text

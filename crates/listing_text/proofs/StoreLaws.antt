@@ -6,8 +6,10 @@ use mathlib.Core.Bool.{Bool, true, false}
 use mathlib.Core.List.{List, ◌++◌}
 use lib.ListN.{length}
 use borrow.Author.Tests.{lt-ltb, le-ltb}
-use Rattle.std.specs.Prelude.{Err, None, Ok, Option, Some}
+use Rattle.std.specs.Option.{ok_or}
+use Rattle.std.specs.Prelude.{Err, None, Ok, Option, Result, Some}
 use Rattle.limits.specs.Limits.{LimitSet}
+use Rattle.limits.specs.declared.Refusal.{Refusal}
 use Rattle.limits.specs.declared.Refusal.TheVariants.{TextTooLong, BadStore, NoRoom}
 use Rattle.record.specs.Record.{Record, is_given}
 use Rattle.record.specs.Store.{distinct, records_in, only_distinct, decode_all}
@@ -16,6 +18,13 @@ use Rattle.listing_lines.specs.Listing.{lines_from, total_line, listing_of, list
 use Rattle.listing_lines.specs.Steps.{records_of, listed_lines}
 
 -- ---- what the reading of the store answered
+
+-- what is refused for want of a count has none, and the cause that was given
+pub unread : (o : Option ℕ) {x cause : Refusal} {r : Result ℕ Refusal} → r ≡ ok_or o x → r ≡ Err cause → (o ≡ None) × (cause ≡ x)
+unread None {x} {cause} e h = (refl, (let q : ◌≡◌ {A = Result ℕ Refusal} (Err cause) (Err x) = sym h ∙ e in cc))
+unread (Some v) {x} {cause} e h =
+    let q : ◌≡◌ {A = Result ℕ Refusal} (Err cause) (Ok v) = sym h ∙ e in
+    absurd (let z : ◌≡◌ {A = ℕ} 0 1 = cc in omega arith)
 
 pub broken_none : (s : List ℕ) → store_from (decode_all s) ≡ None → decode_all s ≡ None
 broken_none s e = by (decode_all s) refl e

@@ -7,15 +7,17 @@ ghost use Rattle.limits.specs.Limits.{rust_limits};
 ghost use Rattle.output.specs.Output.{leaves, written_from};
 ghost use Rattle.record.specs.Record.{is_given};
 ghost use Rattle.record.specs.Store.{records_in};
-ghost use Rattle.listing_lines.specs.Listing.{listing, refused_line};
+ghost use Rattle.record.specs.NumbersForm.{meaning};
+ghost use Rattle.listing_lines.specs.Listing.{columns_of, line_of, listing, refused_line};
 ghost use Rattle.listing_lines.specs.Steps.{listed_lines};
 
-use edit::put;
-use limits::{Limits, Refusal};
-use listing_lines::{write_line, write_words};
+mod listed;
 
-// Positions are counted from here.
-const FIRST_POSITION: usize = 1;
+use edit::put;
+use image::RecordAt;
+use limits::{Limits, Refusal};
+use listed::Walk;
+use listing_lines::{write_line, write_words};
 
 // The listing of a store's bytes, over the front of out: 1 over 65,536 bytes, 3, 18.
 // Kept (5): bytes that are read and bytes that are written are lent by different callers.
@@ -26,9 +28,7 @@ pub fn list_store(bytes: &[u8], out: &mut [u8]) -> Result<usize, Refusal>
     if Limits::MAX_LISTED_STORE < bytes.len() {
         return Err(Refusal::TextTooLong);
     }
-    let Some(count) = store::read_store(bytes) else {
-        return Err(Refusal::BadStore);
-    };
+    let count = store::read_store(bytes).ok_or(Refusal::BadStore)?;
     let mut text = [0u8; 192];
     let n = write_words(&mut text, b"total", count as u64);
     let size = lines_length(bytes) + n;
@@ -57,18 +57,9 @@ fn lines_length(bytes: &[u8]) -> usize
     ensures upper_bound { result ≤ 12582912 }
 {
     let mut text = [0u8; 192];
-    let mut at = 0;
-    let mut position = FIRST_POSITION;
     let mut size = 0;
-    // Kept (3): the reading of a record gives its end; `Records` would read that end a second time.
-    while at < bytes.len() {
-        let Some(r) = image::read_record(bytes, at) else {
-            return size;
-        };
-        let numbers = r.numbers;
-        size += write_line(&mut text, position, numbers, r.we_are_uac, r.route_count);
-        at = r.end;
-        position += 1;
+    for (i, r) in Walk::new(bytes).enumerate() {
+        size += write_listed(&mut text, i + 1, r);
     }
     size
 }
@@ -82,20 +73,21 @@ fn write_lines(bytes: &[u8], out: &mut [u8]) -> usize
     ensures out_after { out.new ≡ over (listed_lines bytes.now) out.old }
 {
     let mut text = [0u8; 192];
-    let mut at = 0;
-    let mut position = FIRST_POSITION;
     let mut end = 0;
-    // Kept (3): the reading of a record gives its end; `Records` would read that end a second time.
-    while at < bytes.len() {
-        let Some(r) = image::read_record(bytes, at) else {
-            return end;
-        };
-        let numbers = r.numbers;
-        let n = write_line(&mut text, position, numbers, r.we_are_uac, r.route_count);
+    for (i, r) in Walk::new(bytes).enumerate() {
+        let n = write_listed(&mut text, i + 1, r);
         put(out, end, &text[..n]);
         end += n;
-        at = r.end;
-        position += 1;
     }
     end
+}
+
+// The line of a record, over the front of out. Its length.
+fn write_listed(out: &mut [u8], position: usize, r: RecordAt) -> usize
+    requires { 192 ≤ length out.old }
+    ensures value { result ≡ length (line_of (columns_of position (meaning r.numbers) r.we_are_uac r.route_count)) }
+    ensures upper_bound { result ≤ 192 }
+    ensures out_after { out.new ≡ over (line_of (columns_of position (meaning r.numbers) r.we_are_uac r.route_count)) out.old }
+{
+    write_line(out, position, r.numbers, r.we_are_uac, r.route_count)
 }

@@ -2,9 +2,7 @@
 // The stores and what is to be printed are made by tests/stores.py.
 #![tactic(auto)]
 
-ghost use Rattle.std.specs.Prelude.{◌≤◌, IfOk, length};
-
-use listing_output::{print, print_listing, report};
+use listing_output::{print, print_listing, read_full, report};
 use std::io::Read;
 use std::rt::Files;
 use std::{env, fs, io};
@@ -35,14 +33,4 @@ fn list_opened(rt: &(impl Print + Eprint), path: &str, mut file: impl Read + Dro
         Ok(n) => print_listing(rt, &store[..n]),
         Err(error) => report(rt, path, error),
     }
-}
-
-// Reads to the end, or until the bytes are full: how many there are.
-fn read_full(file: &mut impl Read, bytes: &mut [u8]) -> io::Result<usize>
-    ensures { IfOk result (λ n. n ≤ length bytes.new) }
-{
-    let mut rest: &mut [u8] = bytes;
-    io::copy(&mut file.take(rest.len() as u64), &mut rest)?;
-    let left = rest.len();
-    Ok(bytes.len().saturating_sub(left))
 }

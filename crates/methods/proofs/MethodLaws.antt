@@ -1,12 +1,10 @@
 -- Methods by their place in the list of names. Assumes nothing.
 use Prim.Native.Nat.{ℕ, zero, suc, ◌+◌, ◌-◌, ◌≤◌, ◌<◌}
-use native.Mathlib.Numerals.{add-one}
 use native.Mathlib.Omega.{arith}
 use mathlib.Core.Path.{◌≡◌, refl}
 use mathlib.Core.Bool.{Bool, true, false, cond, not, ◌&&◌}
 use mathlib.Core.List.{List, [], ◌∷◌}
-use lib.ListN.{length, get_or, drop, drop_of_length-le}
-use lib.Seq.{drop-cons}
+use lib.ListN.{length, get_or}
 use lib.Dec.{leb}
 use borrow.Author.Tests.{leb-true, le-leb, lt-ltb, le-ltb}
 use Rattle.std.specs.Prelude.{Err, None, Ok, Option, Some}
@@ -17,24 +15,6 @@ use Rattle.text.specs.Number.{non_empty}
 use Rattle.methods.specs.Methods.{method_names, position_from, method_of, is_method, name_of, method_from, method_cause}
 use Rattle.output.specs.Output.{fitted}
 use Rattle.output.proofs.ClassLaws.{both_left, both_right, within_range}
-
--- the turns of the loop over the names: number is the next to be compared
-module _ (names : List (List ℕ)) (s : List ℕ) where
-  pub position_done : (number : ℕ) → length names < number → position_from number s (drop (number - 1) names) ≡ None
-  unfolding position_from
-  position_done number h = let k : length names ≤ number - 1 = omega arith in rw (drop_of_length-le names k)
-
-  pub position_hit : (number : ℕ) → 0 < number → number ≤ length names → same s (get_or names (number - 1) []) ≡ true → position_from number s (drop (number - 1) names) ≡ Some number
-  unfolding position_from
-  position_hit number p h e = let k : number - 1 < length names = omega arith in rw (drop-cons names (number - 1) [] k, e)
-
-  pub position_next : (number : ℕ) → 0 < number → number ≤ length names → same s (get_or names (number - 1) []) ≡ false
-      → position_from number s (drop (number - 1) names) ≡ position_from (number + 1) s (drop (number + 1 - 1) names)
-  unfolding position_from
-  position_next number p h e =
-      let k : number - 1 < length names = omega arith in
-      let q : number + 1 - 1 ≡ suc (number - 1) = omega arith in
-      rw (drop-cons names (number - 1) [] k, e, q, add-one number)
 
 pub fourteen : length method_names ≡ 14
 unfolding method_names

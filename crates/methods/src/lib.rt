@@ -11,6 +11,7 @@ use limits::Refusal;
 const COUNT: u8 = 14;
 
 // The names in the order of their numbers.
+// Kept (1): a method goes by its number, as C has it; an enum would list the fourteen as variants, in `TryFrom` and in `name`, this table once.
 const NAMES: [&[u8]; 14] = [
     b"INVITE",
     b"ACK",
@@ -32,9 +33,7 @@ const NAMES: [&[u8]; 14] = [
 pub fn method_number(s: &[u8]) -> Result<Option<u8>, Refusal>
     ensures { result ≡ method_lookup (method_number rust_limits s.now) }
 {
-    if text::too_long(s) {
-        return Err(Refusal::TextTooLong);
-    }
+    text::check_length(s)?;
     Ok(method_of(s))
 }
 
@@ -48,23 +47,17 @@ pub fn method_text(number: u8, out: &mut [u8]) -> Result<usize, Refusal>
         return Err(Refusal::InvalidMethod);
     }
     let name = name_of(number);
-    if out.len() < name.len() {
-        return Err(Refusal::NoRoom);
-    }
-    edit::put(out, 0, name);
-    Ok(name.len())
+    output::put(name, out)
 }
 
 // The number of a method's text.
 pub fn method_of(s: &[u8]) -> Option<u8>
     ensures { result ≡ method_from (method_of s.now) }
 {
-    for number in 1..=COUNT {
-        if text::same_text(s, name_of(number)) {
-            return Some(number);
-        }
-    }
-    None
+    NAMES
+        .iter()
+        .position(|name| text::same_text(s, name))
+        .map(|place| (place + 1) as u8)
 }
 
 // Whether a number is a method's.
@@ -76,7 +69,7 @@ pub fn is_method(number: u8) -> bool
 }
 
 // The name of a method's number.
-// Kept (1): the number of a method that was taken by its number.
+// Kept (1): no code asks which method it is: it is read, compared and handed on as its number, and an enum would be turned back into it at each.
 pub fn name_of(number: u8) -> &'static [u8]
     requires { (1 ≤ number) × (number ≤ 14) }
     ensures { result.now ≡ name_of number }

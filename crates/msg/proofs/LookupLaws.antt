@@ -10,6 +10,7 @@ use lib.ListN.{length, take, drop, drop_of_length-le, length-drop}
 use lib.Seq.{drop-cons, drop-drop, length-take-le}
 use lib.Dec.{eqb, ltb}
 use borrow.Author.Tests.{eq-eqb, ne_eqb, lt-ltb, le-ltb, ltb-true, ltb-false}
+use Rattle.std.specs.Option.{MatchOption, IsSomeAnd}
 use Rattle.std.specs.Prelude.{None, Ok, Option, Some}
 use Rattle.text.specs.Text.{same, Piece}
 use Rattle.limits.proofs.Laws.{some_pair}
@@ -267,9 +268,15 @@ module _ (L : LimitSet) (block asked : List ℕ) where
 pub no_line : (o : Option HeaderLine) → found_of o ≡ None → value_of o ≡ None
 no_line o e = ap value_of (found_none o e)
 
-pub line_value : (o : Option HeaderLine) (v : Span) (next : ℕ) → found_of o ≡ Some (v, next) → Ok (Some v) ≡ lookup_of (Ok (value_of o))
-line_value None v next e = absurd (let z : ◌≡◌ {A = ℕ} 0 1 = cc in omega arith)
-line_value (Some l) v next e = ap (λ x. Ok (Some x)) (sym (some_pair e).0)
+-- the value alone, by `map`, of which `Q` is what its closure says
+pub line_mapped : {Q : Span × ℕ → Span → Type 0} (o : Option HeaderLine) (f : Option (Span × ℕ)) (r : Option Span) → f ≡ found_of o
+    → MatchOption f (r ≡ None) (λ x. IsSomeAnd r (Q x)) → ((x : Span × ℕ) (s : Span) → Q x s → s ≡ x.0) → Ok r ≡ lookup_of (Ok (value_of o))
+line_mapped {Q} o f r e m q = go o r (subst (λ (x : Option (Span × ℕ)). MatchOption x (r ≡ None) (λ y. IsSomeAnd r (Q y))) e m)
+  where
+    go : (o : Option HeaderLine) (r : Option Span) → MatchOption (found_of o) (r ≡ None) (λ y. IsSomeAnd r (Q y)) → Ok r ≡ lookup_of (Ok (value_of o))
+    go None r h = ap Ok h
+    go (Some l) (Some s) h = ap (λ (x : Span). Ok (Some x)) (q _ s h)
+    go (Some l) None h = absurd h
 
 pub stop_answer : (o : Option HeaderLine) → Ok (found_of o) ≡ next_of (Ok (stop_of o))
 stop_answer None = refl

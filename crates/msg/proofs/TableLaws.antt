@@ -5,10 +5,15 @@ use native.Mathlib.Omega.{arith}
 use mathlib.Core.Path.{◌≡◌, refl, sym, ap, subst, ◌∙◌}
 use mathlib.Core.Bool.{Bool, true, false, cond, not, ◌&&◌, false≢true}
 use mathlib.Core.List.{List, [], ◌∷◌}
-use lib.ListN.{length, take, drop}
+use lib.ListN.{length, take, drop, get_or, set}
 use lib.Dec.{eqb, eqb-zero-suc, eqb-suc-zero, eqb-suc-suc}
-use borrow.Author.Tests.{eq-eqb, ne_eqb, eqb-true}
+use borrow.Author.Tests.{eq-eqb, ne_eqb, eqb-true, eqb-false}
+use Rattle.std.proofs.lemmas.Bool.{and_parts}
+use Rattle.std.proofs.lemmas.Grind.{get_or-set_at}
+use Rattle.std.proofs.lemmas.List.{get_or-set_other}
+use Rattle.std.specs.Bool.{then_some}
 use Rattle.std.specs.Prelude.{Err, None, Ok, Option, Some}
+use Rattle.std.specs.Option.{option_or}
 use Rattle.limits.specs.Outcome.{check_of}
 use Rattle.limits.specs.declared.Refusal.{Refusal}
 use Rattle.text.specs.Text.{alike, lower, same}
@@ -16,19 +21,11 @@ use Rattle.text.specs.Answers.{span_of}
 use Rattle.text.specs.declared.Span.{Span}
 use Rattle.text.proofs.Alike.{alike_length}
 use Rattle.msg.specs.Block.{HeaderLine, named, first_named, found_of, lines_of, value_of, text_of, value_named}
-use Rattle.msg.specs.Table.{names, name_in, name_at, slot_in, slot_of, tabled, table_of, headers_of, looked_up, or_found, kept, noted, text_at, value_at, end_of}
+use Rattle.msg.specs.Table.{names, name_in, name_at, slot_in, slot_of, SlotIs, tabled, table_of, headers_of, looked_up, or_found, kept, noted, text_at, value_at, end_of}
 use Rattle.msg.specs.declared.table.HeaderTable.{HeaderTable}
 use Rattle.msg.proofs.LookupLaws.{Says, found_at}
 
 -- ---- a line has at most one of the names
-
-and_left : (t u : Bool) → (t && u) ≡ true → t ≡ true
-and_left true u e = refl
-and_left false u e = absurd (false≢true e)
-
-and_right : (t u : Bool) → (t && u) ≡ true → u ≡ true
-and_right true u e = e
-and_right false u e = absurd (false≢true e)
 
 -- texts that are both like a third
 alike_both : (f : ℕ → ℕ) (x a b : List ℕ) → alike f x a ≡ true → alike f x b ≡ true → alike f a b ≡ true
@@ -39,8 +36,8 @@ alike_both f [] (y ∷ a) b p q = absurd (false≢true p)
 alike_both f (w ∷ x) [] b p q = absurd (false≢true p)
 alike_both f (w ∷ x) (y ∷ a) [] p q = absurd (false≢true q)
 alike_both f (w ∷ x) (y ∷ a) (z ∷ b) p q =
-    let t : f y ≡ f z = sym (eqb-true _ _ (and_left (eqb (f w) (f y)) (alike f x a) p)) ∙ eqb-true _ _ (and_left (eqb (f w) (f z)) (alike f x b) q) in
-    rw (eq-eqb _ _ t) (alike_both f x a b (and_right (eqb (f w) (f y)) (alike f x a) p) (and_right (eqb (f w) (f z)) (alike f x b) q))
+    let t : f y ≡ f z = sym (eqb-true _ _ ((and_parts (eqb (f w) (f y)) (alike f x a) p).0)) ∙ eqb-true _ _ ((and_parts (eqb (f w) (f z)) (alike f x b) q).0) in
+    rw (eq-eqb _ _ t) (alike_both f x a b (and_parts (eqb (f w) (f y)) (alike f x a) p).1 (and_parts (eqb (f w) (f z)) (alike f x b) q).1)
 
 -- no two of some names are the same
 unfoldable differs : List ℕ → List (List ℕ) → Bool
@@ -65,8 +62,8 @@ not_both a b name h d = by (same name b) refl
 other_names : (a name : List ℕ) → same name a ≡ true → (ns : List (List ℕ)) → differs a ns ≡ true → (k : ℕ) → k < length ns → named (name_in ns k) name ≡ false
 unfolding differs
 other_names a name h [] d k l = absurd (omega arith)
-other_names a name h (b ∷ ns) d zero l = not_both a b name h (and_left (not (same a b)) (differs a ns) d)
-other_names a name h (b ∷ ns) d (suc k) l = other_names a name h ns (and_right (not (same a b)) (differs a ns) d) k (omega arith)
+other_names a name h (b ∷ ns) d zero l = not_both a b name h (and_parts (not (same a b)) (differs a ns) d).0
+other_names a name h (b ∷ ns) d (suc k) l = other_names a name h ns (and_parts (not (same a b)) (differs a ns) d).1 k (omega arith)
 
 by_first : (a : List ℕ) (ns : List (List ℕ)) (name : List ℕ) (k : ℕ) (u : Bool) → named a name ≡ u → (k < length ns → eqb (slot_in ns name) k ≡ named (name_in ns k) name)
     → (u ≡ true → k < length ns → named (name_in ns k) name ≡ false)
@@ -84,7 +81,7 @@ unfolding slot_in apart
 slot_in_lem [] d name k l = absurd (omega arith)
 slot_in_lem (a ∷ ns) d name zero l = by_here (named a name) (slot_in ns name)
 slot_in_lem (a ∷ ns) d name (suc k) l =
-    by_first a ns name k (named a name) refl (slot_in_lem ns (and_right (differs a ns) (apart ns) d) name k) (λ e h. other_names a name e ns (and_left (differs a ns) (apart ns) d) k h) l
+    by_first a ns name k (named a name) refl (slot_in_lem ns (and_parts (differs a ns) (apart ns) d).1 name k) (λ e h. other_names a name e ns (and_parts (differs a ns) (apart ns) d).0 k h) l
 
 pub slot_is : (name : List ℕ) (k : ℕ) → k < 8 → eqb (slot_of name) k ≡ named (name_at k) name
 slot_is name k l = slot_in_lem names names_apart name k l
@@ -103,11 +100,11 @@ slot_none name e0 e1 e2 e3 e4 e5 e6 e7 = rw (e0, e1, e2, e3, e4, e5, e6, e7)
 pub off : (name : List ℕ) (k : ℕ) → (length name ≡ length (name_at k) → ⊥) → named (name_at k) name ≡ false
 off name k h = alike_length lower name (name_at k) h
 
-pub slot_only : (name : List ℕ) (k : ℕ) → k < 8 → (named (name_at k) name ≡ false → 8 ≡ slot_of name) → cond (named (name_at k) name) k 8 ≡ slot_of name
-slot_only name k l h = by (named (name_at k) name) refl
+pub slot_only : (name : List ℕ) (k : ℕ) (o : Option ℕ) → o ≡ then_some (named (name_at k) name) k → k < 8 → (named (name_at k) name ≡ false → 8 ≡ slot_of name) → SlotIs name o
+slot_only name k o q l h = rw q (by (named (name_at k) name) refl)
   where
-    by : (u : Bool) → named (name_at k) name ≡ u → cond u k 8 ≡ slot_of name
-    by true e = slot_hit name k l e
+    by : (u : Bool) → named (name_at k) name ≡ u → SlotIs name (then_some u k)
+    by true e = (slot_hit name k l e, l)
     by false e = h e
 
 -- ---- the table
@@ -127,6 +124,24 @@ looked_up_lem f (suc (suc (suc (suc (suc (suc zero)))))) l = refl
 looked_up_lem f (suc (suc (suc (suc (suc (suc (suc zero))))))) l = refl
 looked_up_lem f (suc (suc (suc (suc (suc (suc (suc (suc k)))))))) l = absurd (omega arith)
 
+-- the look-ups as the code holds them, one after another
+abbrev pub table_in : List (Option (Span × ℕ)) → HeaderTable
+table_in ls = tabled (λ k. get_or ls k None)
+
+or_is : (have here : Option (Span × ℕ)) → option_or have here ≡ or_found have here
+or_is None here = refl
+or_is (Some (v, next)) here = refl
+
+-- one more line, of the k-th name
+pub table_put : (ls : List (Option (Span × ℕ))) (k : ℕ) (here have : Option (Span × ℕ)) → k < length ls → have ≡ option_or (get_or ls k None) here → table_in (set ls k have) ≡ noted k here (table_in ls)
+table_put ls k here have l q = tabled_same _ _ (λ j h. by (eqb k j) j refl h)
+  where
+    by : (u : Bool) (j : ℕ) → eqb k j ≡ u → j < 8 → get_or (set ls k have) j None ≡ kept (eqb k j) (looked_up (table_in ls) j) here
+    by true j e h =
+        let i : k ≡ j = eqb-true k j e in
+        rw (e, looked_up_lem (λ n. get_or ls n None) j h) (get_or-set_at ls k j have None (sym i) l ∙ q ∙ or_is (get_or ls k None) here ∙ ap (λ (n : ℕ). or_found (get_or ls n None) here) i)
+    by false j e h = rw (e, looked_up_lem (λ n. get_or ls n None) j h) (get_or-set_other ls k j have None (λ (x : j ≡ k). eqb-false k j e (sym x)))
+
 -- what a table comes to after the lines that are left
 abbrev pub table_after : HeaderTable → List HeaderLine → HeaderTable
 table_after t ls = tabled (λ k. or_found (looked_up t k) (found_of (first_named (name_at k) ls)))
@@ -144,11 +159,11 @@ turn : (asked : List ℕ) (l : HeaderLine) (ls : List HeaderLine) (have : Option
 unfolding first_named
 turn asked l ls have = by_turn asked l ls have (named asked l.name)
 
-module _ (t : HeaderTable) where
-  pub table_start : (ls : List HeaderLine) → table_after (table_of []) ls ≡ table_of ls
-  unfolding first_named
-  table_start ls = refl
+-- none of the names so far
+pub table_start : (ls : List HeaderLine) → table_after (table_in (None ∷ None ∷ None ∷ None ∷ None ∷ None ∷ None ∷ None ∷ [])) ls ≡ table_of ls
+table_start ls = refl
 
+module _ (t : HeaderTable) where
   nothing_more : (f : Option (Span × ℕ)) → or_found f None ≡ f
   nothing_more (Some (v, next)) = refl
   nothing_more None = refl

@@ -1,10 +1,10 @@
 -- One reading of a block of document 01, "Block": the first line of each name that a request, a response or a creation looks up
 -- ("Identifier", "CSeq", "Contact", "Routes" and "Intervals, PRACK, RSeq" say of which). Each is the look-up of Block.antt.
 use Rattle.text.specs.declared.Span.{Span}
-use Rattle.std.specs.Prelude.{ℕ, zero, suc, ◌+◌, Bool, cond, List, [], ◌∷◌, take, drop, eqb, Err, None, Ok, Option, Result, Some}
+use Rattle.std.specs.Prelude.{ℕ, zero, suc, ◌+◌, ◌<◌, ◌≡◌, Bool, cond, List, [], ◌∷◌, take, drop, eqb, Err, None, Ok, Option, Result, Some}
 use Rattle.limits.specs.declared.Refusal.{Refusal}
 use Rattle.text.specs.Text.{Piece}
-use Rattle.msg.specs.Block.{HeaderLine, named, first_named, found_of, line_of}
+use Rattle.msg.specs.Block.{HeaderLine, named, first_named, found_of}
 use Rattle.msg.specs.declared.table.HeaderTable.{HeaderTable}
 
 -- ---- the names
@@ -39,6 +39,11 @@ slot_in (asked ∷ more) name = cond (named asked name) 0 (suc (slot_in more nam
 abbrev pub slot_of : List ℕ → ℕ
 slot_of name = slot_in names name
 
+-- the place of a line's name in the table, none where it has none of them
+abbrev pub SlotIs : List ℕ → Option ℕ → Type 0
+SlotIs name None = 8 ≡ slot_of name
+SlotIs name (Some k) = (k ≡ slot_of name) × (k < 8)
+
 -- ---- the table
 
 -- what was looked up for each name
@@ -64,10 +69,6 @@ headers_of None t = Ok t
 headers_of (Some cause) t = Err cause
 
 -- ---- its steps
-
--- a line with a name of n bytes and a value of m, that stands first in s, as a look-up answers it
-abbrev pub here_of : ℕ → List ℕ → ℕ → ℕ → Option (Span × ℕ)
-here_of at s n m = found_of (Some (line_of at s n m))
 
 -- what was found before, or else this
 abbrev pub or_found : Option (Span × ℕ) → Option (Span × ℕ) → Option (Span × ℕ)

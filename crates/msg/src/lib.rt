@@ -21,16 +21,14 @@ pub use status::{
     is_client_error, is_error, is_global_failure, is_informational, is_redirection,
     is_server_error, is_success,
 };
-pub use table::{HeaderTable, line_value, read_headers};
+pub use table::{HeaderTable, read_headers};
 
 // The check of a header block: 1, 2.
 // Kept (2): two tests, each with its cause; one function for this and the check of a value would take the second test and say no more.
 pub fn check_block(block: &[u8]) -> Result<(), Refusal>
     ensures { result ≡ check_of (block_cause rust_limits block.now) }
 {
-    if text::too_long(block) {
-        return Err(Refusal::TextTooLong);
-    }
+    text::check_length(block)?;
     if !is_block(block) {
         return Err(Refusal::Malformed);
     }
@@ -38,29 +36,22 @@ pub fn check_block(block: &[u8]) -> Result<(), Refusal>
 }
 
 // The value of the first line of a name, letter case ignored: 1, 2.
-// Kept (5): the name is what is asked of the block; the two belong together nowhere else.
+// Kept (5): `Values` holds both for a walk over all lines; a single look-up is asked once.
 pub fn header(block: &[u8], name: &[u8]) -> Result<Option<Span>, Refusal>
     ensures { result ≡ lookup_of (lookup rust_limits block.now name.now) }
 {
-    if text::too_long(name) {
-        return Err(Refusal::TextTooLong);
-    }
+    text::check_length(name)?;
     check_block(block)?;
-    let Some((v, _)) = find(block, name) else {
-        return Ok(None);
-    };
-    Ok(Some(v))
+    Ok(find(block, name).map(|(v, _)| v))
 }
 
 // The value of the first line of a name that starts at `from` or after it: 1, 2. All lines of a name are had by asking
 // from 0 on, and then from each answered next place on.
-// Kept (5): the name is what is asked of the block; the two belong together nowhere else.
+// Kept (5): `Values` holds both for a walk over all lines; a single look-up is asked once.
 pub fn next_header(block: &[u8], name: &[u8], from: usize) -> Result<Option<(Span, usize)>, Refusal>
     ensures { result ≡ next_of (lookup_from rust_limits block.now name.now from) }
 {
-    if text::too_long(name) {
-        return Err(Refusal::TextTooLong);
-    }
+    text::check_length(name)?;
     check_block(block)?;
     let at = line_since(block, from);
     Ok(find_from(block, at, name))
@@ -68,7 +59,7 @@ pub fn next_header(block: &[u8], name: &[u8], from: usize) -> Result<Option<(Spa
 
 // The value of the first line of a name as a part of the block; the empty part at its front where there is no such line. The first promise is
 // where the part starts, the second its bytes, and so its length.
-// Kept (5): the name is what is asked of the block; the two belong together nowhere else.
+// Kept (5): `Values` holds both for a walk over all lines; a single look-up is asked once.
 pub fn header_value<'a>(block: &'a [u8], name: &[u8]) -> &'a [u8]
     ensures ref_ptr_value { result.ref_ptr ≡ pointer_at block.entry.ref_ptr (part_place (value_named name.now block.now)) }
     ensures result_value { result.now ≡ part_of (value_named name.now block.now) block.now }
@@ -76,13 +67,11 @@ pub fn header_value<'a>(block: &'a [u8], name: &[u8]) -> &'a [u8]
     let Some((v, _)) = find(block, name) else {
         return &block[0..0];
     };
-    let a = v.start;
-    let e = a + v.length;
-    &block[a..e]
+    &block[v.start..v.end()]
 }
 
 // The first line of a name, in bytes that need not be a block: up to the first line that is none.
-// Kept (5): the name is what is asked of the block; the two belong together nowhere else.
+// Kept (5): `Values` holds both for a walk over all lines; a single look-up is asked once.
 pub fn find(block: &[u8], name: &[u8]) -> Option<(Span, usize)>
     ensures { result ≡ found_of (first_named name.now (lines_of block.now)) }
 {
@@ -140,24 +129,12 @@ fn read_line(s: &[u8]) -> Option<(usize, usize)>
     ensures { result ≡ line_at s.now }
 {
     let n = name_length(s);
-    if n == 0 {
-        return None;
-    }
-    if n == s.len() {
-        return None;
-    }
-    if s[n] != 58 {
+    if n == 0 || n == s.len() || s[n] != b':' {
         return None;
     }
     let v = &s[n + 1..];
     let m = text::value_length(v);
-    if v.len() - m < 2 {
-        return None;
-    }
-    if v[m] != 13 {
-        return None;
-    }
-    if v[m + 1] != 10 {
+    if v.len() - m < 2 || v[m] != b'\r' || v[m + 1] != b'\n' {
         return None;
     }
     Some((n, m))
@@ -188,20 +165,5 @@ impl ByteClass for NameByte {
 fn is_name(b: u8) -> bool
     ensures { result ≡ is_name b }
 {
-    if b < 48 {
-        return b == 45;
-    }
-    if b <= 57 {
-        return true;
-    }
-    if b < 65 {
-        return false;
-    }
-    if b <= 90 {
-        return true;
-    }
-    if b < 97 {
-        return false;
-    }
-    b <= 122
+    b.is_ascii_alphanumeric() || b == b'-'
 }

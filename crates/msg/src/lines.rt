@@ -29,11 +29,7 @@ impl<'a> Line<'a> {
         ensures { Some result ≡ found_of (Some (line_in self.entry)) }
     {
         let v = text::trim_span(self.value);
-        let s = Span {
-            start: self.start + (self.name.len() + 1) + v.start,
-            length: v.length,
-        };
-        (s, self.end())
+        (v.moved(self.start + (self.name.len() + 1)), self.end())
     }
 }
 

@@ -48,21 +48,12 @@ pub fn is_global_failure(code: u16) -> bool
 pub fn is_error(code: u16) -> bool
     ensures { result ≡ is_error_code code }
 {
-    if is_client_error(code) {
-        return true;
-    }
-    if is_server_error(code) {
-        return true;
-    }
-    is_global_failure(code)
+    is_client_error(code) || is_server_error(code) || is_global_failure(code)
 }
 
 // The codes from lo on, below hi.
 fn is_in_class(code: u16, lo: u16, hi: u16) -> bool
     ensures { result ≡ in_class lo hi code }
 {
-    if code < lo {
-        return false;
-    }
-    code < hi
+    lo <= code && code < hi
 }

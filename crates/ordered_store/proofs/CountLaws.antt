@@ -49,7 +49,7 @@ module _ {A P : Type 0} (F : Layout A P) where
 
   module _ (s : List ℕ) where
     -- what is asked of the store
-    abbrev asked : Option ℕ
+    abbrev pub asked : Option ℕ
     asked = count_of (decode_entries F.form F.key_of s)
 
     -- the state of the loop: the last entry read, at a place before

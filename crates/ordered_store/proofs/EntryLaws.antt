@@ -7,6 +7,7 @@ use mathlib.Core.List.{List, [], ◌∷◌, ◌++◌, append_assoc}
 use lib.ListN.{length, length-append}
 use lib.Seq.{take-append_seam, drop-append_seam, drop-append-add}
 use Rattle.std.specs.Prelude.{None, Some}
+use Rattle.std.proofs.lemmas.Bool.{and_parts}
 use Rattle.edit.specs.Edit.{spliced}
 use Rattle.codec.specs.Codec.{Codec, write_all}
 use Rattle.codec.proofs.CodecLaws.{GoodAll}
@@ -22,14 +23,6 @@ use Rattle.ordered_store.proofs.OrderLaws.{flip, key_itself, key_equal, key_mirr
 both : (a b : Bool) → a ≡ true → b ≡ true → (a && b) ≡ true
 both true b d e = e
 both false b d e = absurd (let z : ◌≡◌ {A = ℕ} 0 1 = cc in omega arith)
-
-first_of_lem : (a b : Bool) → (a && b) ≡ true → a ≡ true
-first_of_lem true b e = refl
-first_of_lem false b e = e
-
-second_of : (a b : Bool) → (a && b) ≡ true → b ≡ true
-second_of true b e = e
-second_of false b e = absurd (let z : ◌≡◌ {A = ℕ} 0 1 = cc in omega arith)
 
 is_before_lem : (o : Ordering) → is_before o ≡ true → o ≡ Less
 is_before_lem Less e = refl
@@ -82,11 +75,11 @@ module _ {A : Type 0} (key_of : A → Key) where
 
     pub next_later : ascending_from key_of e (f ∷ es) ≡ true → key_order (key_of e) (key_of f) ≡ Less
     unfolding ascending_from
-    next_later h = is_before_lem (key_order (key_of e) (key_of f)) (first_of_lem (is_before (key_order (key_of e) (key_of f))) (ascending_from key_of f es) h)
+    next_later h = is_before_lem (key_order (key_of e) (key_of f)) (and_parts (is_before (key_order (key_of e) (key_of f))) (ascending_from key_of f es) h).0
 
     pub next_ascends : ascending_from key_of e (f ∷ es) ≡ true → ascending_from key_of f es ≡ true
     unfolding ascending_from
-    next_ascends h = second_of (is_before (key_order (key_of e) (key_of f))) (ascending_from key_of f es) h
+    next_ascends h = (and_parts (is_before (key_order (key_of e) (key_of f))) (ascending_from key_of f es) h).1
 
   -- only the key of the first counts
   key_alone : (e f : A) (es : List A) → key_of e ≡ key_of f → ascending_from key_of e es ≡ ascending_from key_of f es

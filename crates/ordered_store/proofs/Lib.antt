@@ -9,3 +9,4 @@ pub mod PlaceLaws
 pub mod RunLaws
 pub mod SearchLaws
 pub mod SlotLaws
+pub mod WalkLaws

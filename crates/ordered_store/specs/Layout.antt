@@ -4,7 +4,7 @@ use Rattle.std.specs.Prelude.{ℕ, ◌+◌, ◌<◌, ◌≡◌, List, ◌++◌, 
 use Rattle.limits.specs.declared.Refusal.{Refusal}
 use Rattle.limits.specs.declared.Refusal.TheVariants.{BadStore}
 use Rattle.codec.specs.Codec.{Reading, Codec}
-use Rattle.codec.proofs.CodecLaws.{Exact}
+use Rattle.codec.specs.Exact.{Exact}
 use Rattle.ordered_store.specs.Entries.{Key}
 use Rattle.ordered_store.specs.Slot.{Slot, held, free, slot_used}
 

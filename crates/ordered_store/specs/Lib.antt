@@ -6,3 +6,4 @@ pub mod Order
 pub mod Places
 pub mod Run
 pub mod Slot
+pub mod Steps

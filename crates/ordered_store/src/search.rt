@@ -6,6 +6,7 @@ ghost use Rattle.ordered_store.specs.Order.{key_order, is_before};
 ghost use Rattle.ordered_store.specs.Places.{Stored, count_of};
 ghost use Rattle.ordered_store.specs.Slot.{slot_read};
 
+use crate::walking::Entries;
 use limits::Refusal;
 use std::cmp::Ordering;
 
@@ -29,6 +30,9 @@ pub trait Entry: Copy {
         requires within { layout.Within bytes.now self }
         requires within_2 { layout.Within bytes.now next }
         ensures { result ≡ is_before (key_order (layout.key_at bytes.now self) (layout.key_at bytes.now next)) };
+
+    // Its bytes are read back, and its parts lie where the layout says.
+    ghost lawful: { Lawful layout };
 }
 
 // An entry whose key is asked for as a K.
@@ -42,63 +46,47 @@ pub trait KeyedBy<K>: Entry {
 }
 
 // Of lent bytes of which so many are used: the entry of a key, or the place where it would go; 3.
-// Kept (5, 6): a C caller lends bytes and says how many are used.
+// Kept (5, 6): lent bytes and how many are used, as its callers have them, which C calls; that the used length lies within is checked here.
 pub fn find<K: Copy, E: KeyedBy<K>>(
     key: K,
     bytes: &[u8],
     used: usize,
 ) -> Result<Result<E, usize>, Refusal>
-    requires { Lawful E.layout }
     ensures { result ≡ found_for E.layout (E.texts key) bytes.now used }
 {
-    if bytes.len() < used {
-        return Err(Refusal::BadStore);
-    }
-    let Some(_) = count_entries::<E>(&bytes[..used]) else {
-        return Err(Refusal::BadStore);
-    };
-    search(key, &bytes[..used])
+    let held = bytes.get(..used).ok_or(Refusal::BadStore)?;
+    count_entries::<E>(held).ok_or(Refusal::BadStore)?;
+    search(key, held)
 }
 
 // The entries from the front to the end, each before the next.
 pub fn count_entries<E: Entry>(bytes: &[u8]) -> Option<usize>
-    requires { Lawful E.layout }
     ensures { result ≡ count_of (decode_entries E.layout.form E.layout.key_of bytes.now) }
 {
-    if bytes.len() == 0 {
-        return Some(0);
-    }
-    let first = E::read(bytes, 0)?;
-    let mut last = first;
-    let mut n = 1;
-    // Kept (3): nothing is counted; the next place is where the entry that was read ends, and an iterator of entries would hold this loop.
-    while last.end() < bytes.len() {
-        let e = E::read(bytes, last.end())?;
-        if !last.ascends(e, bytes) {
-            return None;
+    let mut last: Option<E> = None;
+    let mut n = 0;
+    for (_, entry) in Entries::<E>::new(bytes) {
+        let e = entry?;
+        if let Some(l) = last {
+            if !l.ascends(e, bytes) {
+                return None;
+            }
         }
-        last = e;
         n += 1;
+        last = Some(e);
     }
     Some(n)
 }
 
 // The first entry whose key isn't before the one asked for. The bytes are those of a store that was read.
 fn search<K: Copy, E: KeyedBy<K>>(key: K, bytes: &[u8]) -> Result<Result<E, usize>, Refusal>
-    requires lawful { Lawful E.layout }
-    requires stored { Stored E.layout.form E.layout.key_of bytes.now }
+    requires { Stored E.layout.form E.layout.key_of bytes.now }
     ensures { result ≡ found_of E.layout (slot_read E.layout.form E.layout.key_of (E.texts key) (decode_entries E.layout.form E.layout.key_of bytes.now)) }
 {
-    let mut at = 0;
-    // Kept (3): as in `count_entries`.
-    while at < bytes.len() {
-        let Some(e) = E::read(bytes, at) else {
-            return Err(Refusal::BadStore);
-        };
+    for (at, entry) in Entries::<E>::new(bytes) {
+        let e = entry.ok_or(Refusal::BadStore)?;
         match e.compare(bytes, key) {
-            Ordering::Less => {
-                at = e.end();
-            }
+            Ordering::Less => {}
             Ordering::Equal => {
                 return Ok(Ok(e));
             }
@@ -107,5 +95,5 @@ fn search<K: Copy, E: KeyedBy<K>>(key: K, bytes: &[u8]) -> Result<Result<E, usiz
             }
         }
     }
-    Ok(Err(at))
+    Ok(Err(bytes.len()))
 }

@@ -1,19 +1,18 @@
 -- Tests of bytes: both halves of a test, bounds, and tests that every byte of a text passes. Assumes nothing.
 use Prim.Native.Nat.{ℕ, ◌≤◌}
 use mathlib.Core.Path.{◌≡◌, refl}
-use mathlib.Core.Bool.{Bool, true, false, ◌&&◌, false≢true}
+use mathlib.Core.Bool.{Bool, true, ◌&&◌}
 use mathlib.Core.List.{List, [], ◌∷◌, ◌++◌}
 use lib.Dec.{leb}
 use borrow.Author.Tests.{leb-true}
+use Rattle.std.proofs.lemmas.Bool.{and_parts}
 use Rattle.text.specs.Text.{within, all}
 
 pub both_left : (t u : Bool) → (t && u) ≡ true → t ≡ true
-both_left true u e = refl
-both_left false u e = e
+both_left t u e = (and_parts t u e).0
 
 pub both_right : (t u : Bool) → (t && u) ≡ true → u ≡ true
-both_right true u e = e
-both_right false u e = absurd (false≢true e)
+both_right t u e = (and_parts t u e).1
 
 pub within_range : (lo hi n : ℕ) → within lo hi n ≡ true → (lo ≤ n) × (n ≤ hi)
 within_range lo hi n e = (leb-true lo n (both_left (leb lo n) (leb n hi) e), leb-true n hi (both_right (leb lo n) (leb n hi) e))

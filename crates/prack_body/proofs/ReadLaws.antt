@@ -4,9 +4,11 @@ use native.Mathlib.Omega.{arith}
 use mathlib.Core.Path.{◌≡◌, refl, sym, ap, ap₂, ◌∙◌}
 use mathlib.Core.Bool.{Bool, true, false, true≢false}
 use mathlib.Core.List.{List, ◌∷◌, ◌++◌}
-use lib.ListN.{length, drop, get_or, length-drop, length-append}
+use lib.ListN.{length, take, drop, get_or, length-drop, length-append}
+use lib.Seq.{drop-drop, get_or-drop, drop_at, length-take-le}
+use Rattle.std.proofs.lemmas.List.{get_or_append_left, get_or-take, drop-take}
 use lib.Dec.{leb, eqb}
-use borrow.Author.Tests.{le-leb, leb-true}
+use borrow.Author.Tests.{le-leb, lt-leb, leb-true}
 use Rattle.std.specs.Prelude.{None, Option, Some}
 use Rattle.limits.specs.Limits.{rust_limits}
 use Rattle.text.specs.declared.Span.{Span}
@@ -89,9 +91,95 @@ module _ (s : List ℕ) (i count at : ℕ) where
       let k : count - i ≡ 0 = omega arith in
       rw k
 
+-- the bytes of the entries that are left of so many from a place on
+pub record Ahead (s : List ℕ) (first count : ℕ) (left : List ℕ) (i : ℕ) : Type 0 where
+  pub few : i ≤ count
+  pub are : left ≡ take ((count - i) * 20) (drop (first + i * 20) s)
+
+module _ {s : List ℕ} {first count i : ℕ} {left : List ℕ} (h : first + count * 20 ≤ length s) (x : Ahead s first count left i) where
+  ahead_long : length left ≡ (count - i) * 20
+  ahead_long =
+      let k : (count - i) * 20 ≤ length (drop (first + i * 20) s) = omega (arith, length-drop (first + i * 20) s, x.few) in
+      ap length x.are ∙ length-take-le ((count - i) * 20) (drop (first + i * 20) s) k
+
+  pub ahead_done : length left < 20 → i ≡ count
+  ahead_done l = omega (arith, ahead_long, x.few)
+
+  module _ (a b : List ℕ) (e : left ≡ a ++ b) (k : length a ≡ 20) where
+    pub ahead_turn : i < count
+    ahead_turn = omega (arith, ahead_long, ap length e, length-append a b)
+
+    -- a byte of the first of them
+    pub ahead_byte : (j : ℕ) → j < 20 → get_or a j 0 ≡ get_or s (first + i * 20 + j) 0
+    ahead_byte j l =
+        let m : j < (count - i) * 20 = omega (arith, ahead_turn) in
+        sym (get_or_append_left a b 0 j (omega arith))
+        ∙ ap (λ (z : List ℕ). get_or z j 0) (sym e ∙ x.are)
+        ∙ get_or-take ((count - i) * 20) (drop (first + i * 20) s) j 0 m
+        ∙ get_or-drop (first + i * 20) s j 0
+
+    -- those after it
+    pub ahead_next : Ahead s first count b (i + 1)
+    ahead_next =
+        let n : (count - i) * 20 ≡ 20 + (count - (i + 1)) * 20 = omega (arith, ahead_turn) in
+        let p : first + i * 20 + 20 ≡ first + (i + 1) * 20 = omega arith in
+        record {
+          few = omega (arith, ahead_turn);
+          are = sym (drop_at a b 20 k)
+              ∙ ap (drop 20) (sym e ∙ x.are ∙ ap (λ (z : ℕ). take z (drop (first + i * 20) s)) n)
+              ∙ drop-take 20 ((count - (i + 1)) * 20) (drop (first + i * 20) s)
+              ∙ ap (take ((count - (i + 1)) * 20)) (drop-drop 20 (first + i * 20) s ∙ ap (λ (z : ℕ). drop z s) p);
+        }
+
+-- the entries before those left are read
+pub record Looking (s : List ℕ) (first count : ℕ) (left : List ℕ) : Type 0 where
+  pub turns : ℕ
+  pub ahead : Ahead s first count left turns
+  pub same : is_read (read_all pending_form count (drop first s)) ≡ is_read (read_all pending_form (count - turns) (drop (first + turns * 20) s))
+
+-- none is looked at yet
+pub looking : (s : List ℕ) (first count : ℕ) {left : List ℕ} {n : ℕ} → n ≡ count * 20 → left ≡ take n (drop first s) → Looking s first count left
+looking s first count {left} {n} q e =
+    let k : first + 0 * 20 ≡ first = omega arith in
+    record {
+      turns = 0;
+      ahead = record { few = omega arith; are = let z : count - 0 ≡ count = omega arith in rw (z, k) (e ∙ ap (λ (m : ℕ). take m (drop first s)) q) };
+      same = let z : count - 0 ≡ count = omega arith in rw (z, k);
+    }
+
 -- the next entry begins where one ends
 pub next_place : (s : List ℕ) (first i count : ℕ) → is_read (read_all pending_form (count - (i + 1)) (drop (first + i * 20 + 20) s)) ≡ is_read (read_all pending_form (count - (i + 1)) (drop (first + (i + 1) * 20) s))
 next_place s first i count = let k : first + i * 20 + 20 ≡ first + (i + 1) * 20 = omega arith in rw k
+
+module _ {s : List ℕ} {first count : ℕ} {left : List ℕ} (h : first + count * 20 ≤ length s) (x : Looking s first count left) where
+  -- the next entry is none
+  module _ (a b : List ℕ) (e : left ≡ a ++ b) (k : length a ≡ 20) where
+    room : first + x.turns * 20 + 20 ≤ length s
+    room = omega (arith, ahead_turn h x.ahead a b e k)
+
+    pub looked_method : is_method (get_or a 8 0) ≡ false → false ≡ is_read (read_all pending_form count (drop first s))
+    looked_method m =
+        sym (x.same ∙ stop s x.turns count (first + x.turns * 20) (ahead_turn h x.ahead a b e k) (entry_method s (first + x.turns * 20) room (ap is_method (sym (ahead_byte h x.ahead a b e k 8 (omega arith))) ∙ m)))
+
+    pub looked_flag : is_method (get_or a 8 0) ≡ true → 1 < get_or a 11 0 → false ≡ is_read (read_all pending_form count (drop first s))
+    looked_flag m f =
+        sym (x.same ∙ stop s x.turns count (first + x.turns * 20) (ahead_turn h x.ahead a b e k) (entry_flag s (first + x.turns * 20) room (ap is_method (sym (ahead_byte h x.ahead a b e k 8 (omega arith))) ∙ m)
+        (ap is_bit (sym (ahead_byte h x.ahead a b e k 11 (omega arith))) ∙ lt-leb _ 1 f)))
+
+    -- it is one
+    pub looked_at : is_method (get_or a 8 0) ≡ true → get_or a 11 0 ≤ 1 → Looking s first count b
+    looked_at m f = record {
+      turns = x.turns + 1;
+      ahead = ahead_next h x.ahead a b e k;
+      same = x.same
+          ∙ turn s x.turns count (first + x.turns * 20) (ahead_turn h x.ahead a b e k) (entry_at s (first + x.turns * 20) room (ap is_method (sym (ahead_byte h x.ahead a b e k 8 (omega arith))) ∙ m)
+          (ap is_bit (sym (ahead_byte h x.ahead a b e k 11 (omega arith))) ∙ le-leb _ 1 f))
+          ∙ next_place s first x.turns count;
+    }
+
+  -- none is left
+  pub looked_all : length left < 20 → true ≡ is_read (read_all pending_form count (drop first s))
+  looked_all l = sym (x.same ∙ done s x.turns count (first + x.turns * 20) (ahead_done h x.ahead l))
 
 -- so many entries as were asked for, and their bytes
 pub entries_read : (n : ℕ) (s : List ℕ) (x : Reading (List Pending)) → n < 256 → Bytes s → read_all pending_form n s ≡ Some x → (length x.value ≡ n) × (n * 20 ≤ length s)

@@ -9,18 +9,20 @@ use codec::write_eight;
 use edit::put;
 
 // The body of what is held, taken from where it lies. Its length.
+// Kept (5, 6): any lent bytes that have room will do; a struct with an array of that size would ask more of callers.
 pub fn load(bytes: &[u8], held: TrackedAt, body: &mut [u8]) -> usize
     requires { (held.id.start + held.id.length ≤ held.end) × (held.end ≤ length bytes.now) × (held.end - (held.id.start + held.id.length) ≤ length body.old) }
     ensures value { result ≡ held.end - (held.id.start + held.id.length) }
     ensures holds { (t : Tracked) → Stands bytes.now held t → Holds body.new result t }
 {
-    let from = held.id.start + held.id.length;
+    let from = held.id.end();
     let to = held.end;
     put(body, 0, &bytes[from..to]);
     to - from
 }
 
 // The body for an identifier of which nothing was held: a time without a list. Its length.
+// Kept (5, 6): any lent bytes that have room will do; a struct with an array of that size would ask more of callers.
 pub fn begin(body: &mut [u8], time: u64) -> usize
     requires { 9 ≤ length body.old }
     ensures { (id : List ℕ) → length id < 65536 → Holds body.new result (cleaned rust_limits time id None) }

@@ -64,13 +64,13 @@ pub struct TrackedAt {
 }
 
 // What is held, whose text begins with its length bytes at a place.
-// Kept (5): the places that are answered are those of all the bytes.
+// Kept (5): a reader lent as `&mut` has clauses for what is read, for its place and for its bytes: three where one stands.
 pub fn read_tracked(bytes: &[u8], at: usize) -> Option<TrackedAt>
     requires { at ≤ length bytes.now }
     ensures { result ≡ tracked_from at ((tracked_form rust_limits).read (drop at bytes.now)) }
 {
     let id = codec::read_text(bytes, at)?;
-    let time = id.start + id.length;
+    let time = id.end();
     if bytes.len() - time < LIST_AT {
         return None;
     }
@@ -85,7 +85,7 @@ pub fn read_tracked(bytes: &[u8], at: usize) -> Option<TrackedAt>
 }
 
 // A byte that says whether a list stands, then its count byte and its entries.
-// Kept (5): the places that are answered are those of all the bytes.
+// Kept (5): a reader lent as `&mut` has clauses for what is read, for its place and for its bytes: three where one stands.
 fn read_list(bytes: &[u8], at: usize) -> Option<ListAt>
     requires { at ≤ length bytes.now }
     ensures { result ≡ list_from at ((list_form rust_limits).read (drop at bytes.now)) }
@@ -128,12 +128,9 @@ fn are_entries(bytes: &[u8], first: usize, count: usize) -> bool
     requires { (count ≤ rust_limits.pending) × (first + count * 20 ≤ length bytes.now) }
     ensures { result ≡ is_read (read_all pending_form count (drop first bytes.now)) }
 {
-    for read in 0..count {
-        let at = first + read * ENTRY_SIZE;
-        if !methods::is_method(bytes[at + METHOD_AT]) {
-            return false;
-        }
-        if 1 < bytes[at + ACKNOWLEDGED_AT] {
+    let entries = &bytes[first..first + count * ENTRY_SIZE];
+    for entry in entries.chunks_exact(ENTRY_SIZE) {
+        if !methods::is_method(entry[METHOD_AT]) || 1 < entry[ACKNOWLEDGED_AT] {
             return false;
         }
     }

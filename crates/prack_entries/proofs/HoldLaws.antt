@@ -4,6 +4,7 @@ use native.Mathlib.Omega.{arith}
 use mathlib.Core.Path.{◌≡◌, sym, ap, ap₂, subst, ◌∙◌}
 use mathlib.Core.List.{List, ◌++◌, append_assoc}
 use lib.ListN.{length, take, length-append}
+use lib.Seq.{take_all}
 use Rattle.std.specs.Prelude.{Err, None, Ok, Option, Result, Some}
 use Rattle.limits.specs.Limits.{rust_limits}
 use Rattle.limits.specs.declared.Refusal.{Refusal}
@@ -19,7 +20,7 @@ use Rattle.prack_body.proofs.BodyLaws.{places_end}
 use Rattle.prack_entries.specs.Entries.{key_of_text, key_of, encode_tracked, clean_for}
 use Rattle.prack_entries.specs.Places.{Sought}
 use Rattle.prack_entries.proofs.PlaceLaws.{form, size}
-use Rattle.prack_entries.proofs.SlotLaws.{was, well, HeldAt, held_there, same_text, found, free_there, lacking}
+use Rattle.prack_entries.proofs.SlotLaws.{was, well, HeldAt, held_there, same_text, Found, found, free_there, lacking}
 use Rattle.prack_entries.proofs.WriteLaws.{Answered}
 
 -- what was sought, by another name of the slot
@@ -83,15 +84,19 @@ module _ (id bytes body : List ℕ) (used : ℕ) (b : Bytes bytes) {slot : Resul
 
 -- ---- a clean copy
 
-module _ (bytes : List ℕ) (used time : ℕ) (b : Bytes bytes) {slot : Result TrackedAt ℕ} where
+-- what is held, in bytes that are all used
+pub stands_all : {id bytes : List ℕ} {p : TrackedAt} {ts : List Tracked} (f : Found id bytes (length bytes) p ts) → Stands bytes p f.t
+stands_all {id} {bytes} {p} f = subst (λ (s : List ℕ). Stands s p f.t) (take_all (length bytes) bytes (omega arith)) f.stands
+
+module _ (bytes : List ℕ) (time : ℕ) (b : Bytes bytes) {slot : Result TrackedAt ℕ} where
   -- a text that is held: what was loaded, cleaned
-  pub copied : {p : TrackedAt} → slot ≡ Ok p → {n r : ℕ} {mid after : List ℕ} → ((t : Tracked) → Stands (take used bytes) p t → Holds mid n t)
-      → ((t : Tracked) → Holds mid n t → Holds after r (cleaned rust_limits time t.id (Some t))) → (id : List ℕ) (s : Sought id bytes used slot) → Holds after r (clean_for rust_limits time id s.list)
+  pub copied : {p : TrackedAt} → slot ≡ Ok p → {n r : ℕ} {mid after : List ℕ} → ((t : Tracked) → Stands bytes p t → Holds mid n t)
+      → ((t : Tracked) → Holds mid n t → Holds after r (cleaned rust_limits time t.id (Some t))) → (id : List ℕ) (s : Sought id bytes (length bytes) slot) → Holds after r (clean_for rust_limits time id s.list)
   copied {p} e {n} {r} {mid} {after} load clean id s =
-      let f = found id bytes used p b (renamed s e) in
-      subst (Holds after r) (ap₂ (cleaned rust_limits time) f.same (sym f.is)) (clean f.t (load f.t f.stands))
+      let f = found id bytes (length bytes) p b (renamed s e) in
+      subst (Holds after r) (ap₂ (cleaned rust_limits time) f.same (sym f.is)) (clean f.t (load f.t (stands_all f)))
 
   -- a text that isn't: a time without a list
   pub begun : {at : ℕ} → slot ≡ Err at → {r : ℕ} {after : List ℕ} → ((id : List ℕ) → length id < 65536 → Holds after r (cleaned rust_limits time id None))
-      → (id : List ℕ) (s : Sought id bytes used slot) → length id < 65536 → Holds after r (clean_for rust_limits time id s.list)
-  begun {at} e {r} {after} begin id s l = subst (λ (o : Option Tracked). Holds after r (cleaned rust_limits time id o)) (sym (lacking id bytes used at b (renamed s e)).0) (begin id l)
+      → (id : List ℕ) (s : Sought id bytes (length bytes) slot) → length id < 65536 → Holds after r (clean_for rust_limits time id s.list)
+  begun {at} e {r} {after} begin id s l = subst (λ (o : Option Tracked). Holds after r (cleaned rust_limits time id o)) (sym (lacking id bytes (length bytes) at b (renamed s e)).0) (begin id l)

@@ -5,7 +5,7 @@ use mathlib.Core.Path.{◌≡◌, refl, sym, ap, ap₂, ◌∙◌}
 use mathlib.Core.Bool.{true}
 use mathlib.Core.List.{List, [], ◌++◌}
 use lib.ListN.{length, take, drop}
-use lib.Seq.{length-take-le, drop-append_seam}
+use lib.Seq.{take_all, length-take-le, drop-append_seam}
 use Rattle.std.specs.Prelude.{Err, None, Ok, Option, Result, Some}
 use Rattle.limits.specs.Limits.{rust_limits}
 use Rattle.limits.specs.declared.Refusal.{Refusal}
@@ -45,6 +45,19 @@ unreadable id bytes used {cause} e = by (slot_used form key_of (key_of_text id) 
     by None w q = (cc, w)
     by (Some (held place t)) w q = absurd (let z : ◌≡◌ {A = ℕ} 0 1 = cc in omega arith)
     by (Some (free place)) w q = absurd (let z : ◌≡◌ {A = ℕ} 0 1 = cc in omega arith)
+
+-- the slot in lent bytes of which so many are used is that in the used ones alone
+abbrev pub cut : {id bytes : List ℕ} {used : ℕ} {slot : Result TrackedAt ℕ} → Sought id bytes used slot → Sought id (take used bytes) (length (take used bytes)) slot
+cut {id} {bytes} {used} {slot} s =
+    let e : take (length (take used bytes)) (take used bytes) ≡ take used bytes = take_all (length (take used bytes)) (take used bytes) (omega arith) in
+    record {
+      is = s.is ∙ ap slot_of (sym (in_used form key_of (key_of_text id) bytes used s.within))
+          ∙ ap (λ (l : List ℕ). slot_of (slot_read form key_of (key_of_text id) (decode_tracked rust_limits l))) (sym e)
+          ∙ ap slot_of (in_used form key_of (key_of_text id) (take used bytes) (length (take used bytes)) (omega arith));
+      within = omega arith;
+      list = s.list;
+      are = ap (decode_tracked rust_limits) e ∙ s.are;
+    }
 
 -- ---- what was read
 

@@ -3,6 +3,7 @@ ghost use Rattle.std.specs.Prelude.{◌≡◌};
 ghost use Rattle.prack_body.specs.Lists.{Tracked};
 ghost use Rattle.prack_entries.specs.Entries.{key_of_text};
 ghost use Rattle.prack_entries.specs.Places.{layout, slot_for};
+ghost use Rattle.prack_entries.specs.Laws.{lawful};
 
 use limits::Refusal;
 use ordered_store::{Entry, KeyedBy, compare};
@@ -33,6 +34,8 @@ impl Entry for StoreEntry {
     fn ascends(self, next: StoreEntry, bytes: &[u8]) -> bool {
         self.compare(bytes, next.places.id.text(bytes)).is_lt()
     }
+
+    ghost lawful = { lawful };
 }
 
 impl<'a> KeyedBy<&'a [u8]> for StoreEntry {
@@ -45,12 +48,9 @@ impl<'a> KeyedBy<&'a [u8]> for StoreEntry {
 }
 
 // Of lent bytes of which so many are used: where what is held for a text lies, or the place where it would go; 3.
-// Kept (5, 6): a C caller lends bytes and says how many are used.
+// Kept (5, 6): lent bytes and how many are used, as its callers have them, which C calls; that the used length lies within is checked here.
 pub fn find(id: &[u8], bytes: &[u8], used: usize) -> Result<Result<TrackedAt, usize>, Refusal>
     ensures { result ≡ slot_for id.now bytes.now used }
 {
-    match ordered_store::find::<&[u8], StoreEntry>(id, bytes, used)? {
-        Ok(e) => Ok(Ok(e.places)),
-        Err(at) => Ok(Err(at)),
-    }
+    Ok(ordered_store::find::<&[u8], StoreEntry>(id, bytes, used)?.map(|e| e.places))
 }

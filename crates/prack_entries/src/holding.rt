@@ -14,22 +14,16 @@ use codec::LENGTH_SIZE;
 use limits::Refusal;
 use prack_body::TrackedAt;
 
-// What is held after the cleanup of a call at a time, without the text, in a small array. Its length.
-// Kept (5, 6): a C caller lends bytes and says how many are used.
-pub fn clean_copy(
-    slot: Result<TrackedAt, usize>,
-    bytes: &[u8],
-    used: usize,
-    time: u64,
-    body: &mut [u8],
-) -> usize
-    requires { (body_room ≤ length body.old) × ((id : List ℕ) × Sought id bytes.now used slot) }
+// What is held after the cleanup of a call at a time, without the text, in lent bytes. Its length.
+// Kept (5, 6): any lent bytes that have room will do; a struct with an array of that size would ask more of callers.
+pub fn clean_copy(slot: Result<TrackedAt, usize>, bytes: &[u8], time: u64, body: &mut [u8]) -> usize
+    requires { (body_room ≤ length body.old) × ((id : List ℕ) × Sought id bytes.now (length bytes.now) slot) }
     ensures lower_bound { (9 ≤ result) × (result ≤ body_room) }
-    ensures by_index { (id : List ℕ) (s : Sought id bytes.now used slot) → length id < 65536 → Holds body.new result (clean_for rust_limits time id s.list) }
+    ensures by_index { (id : List ℕ) (s : Sought id bytes.now (length bytes.now) slot) → length id < 65536 → Holds body.new result (clean_for rust_limits time id s.list) }
 {
     match slot {
         Ok(t) => {
-            let n = prack_body::load(&bytes[..used], t, body);
+            let n = prack_body::load(bytes, t, body);
             prack_cleaning::clean(body, n, time)
         }
         Err(_) => prack_body::begin(body, time),
@@ -37,7 +31,7 @@ pub fn clean_copy(
 }
 
 // What is held for a text from now on, in the place of what was, or at its own: 18. The new used length.
-// Kept (5, 6): a C caller lends bytes and says how many are used.
+// Kept (5, 6): the bytes past the used ones are room for a longer body.
 pub fn set(
     id: &[u8],
     slot: Result<TrackedAt, usize>,
@@ -51,7 +45,7 @@ pub fn set(
 {
     match slot {
         Ok(t) => {
-            let from = t.id.start + t.id.length;
+            let from = t.id.end();
             let old = t.end - from;
             if bytes.len() - (used - old) < body.len() {
                 return Err(Refusal::NoRoom);
@@ -63,7 +57,7 @@ pub fn set(
 }
 
 // A text with its length bytes and what is held for it, put in at a place of the used bytes: 18. The new used length.
-// Kept (5, 6): a C caller lends bytes and says how many are used.
+// Kept (5, 6): the bytes past the used ones are room for the entry.
 fn insert(
     id: &[u8],
     body: &[u8],

@@ -42,10 +42,7 @@ pub fn is_reliable_provisional(status: u16, block: &[u8]) -> Result<bool, Refusa
     ensures { result ≡ reliable_answer (reliable_provisional rust_limits status block.now) }
 {
     msg::check_block(block)?;
-    if status <= 100 {
-        return Ok(false);
-    }
-    if 200 <= status {
+    if status <= 100 || 200 <= status {
         return Ok(false);
     }
     Ok(msg::find(block, b"RSeq").is_some())
@@ -67,13 +64,14 @@ pub fn cseq_number(block: &[u8]) -> Option<u32>
 }
 
 // The first word of a CSeq line that was looked up, as a number.
-// Kept (5): the line is one of many that a table holds of the same block; a struct of both would be made at each call and taken apart in it.
+// Kept (5): a line is a value that definitions give (`found_of`, `table_of`); with its text in it, which is lent, it is none, and the table of the
+// definitions would be a second type beside `HeaderTable`.
 pub fn cseq_at(block: &[u8], line: Option<(Span, usize)>) -> Option<u32>
     requires { end_of line ≤ length block.now }
     ensures { result ≡ number_from (read_number 32 (word_at 0 (text_at line block.now))) }
 {
-    let value = msg::line_value(block, line);
-    text::read_u32(words::word(value))
+    let (v, _) = line?;
+    text::read_u32(words::word(v.text(block)))
 }
 
 // The second word of CSeq as a method.

@@ -4,13 +4,13 @@ use native.Mathlib.Omega.{arith}
 use mathlib.Core.Path.{◌≡◌, refl, sym, ap, subst, ◌∙◌}
 use mathlib.Core.Bool.{Bool, true, false}
 use mathlib.Core.List.{List, [], ◌∷◌, ◌++◌, append_assoc, append-nil}
-use lib.ListN.{length, drop, get_or, length-append}
-use lib.Seq.{get_or-drop, drop-length}
+use lib.ListN.{length, take, drop, get_or, length-append, length-drop}
+use lib.Seq.{drop-drop, get_or-drop, drop-length, drop_at, take_at}
 use Rattle.std.specs.Prelude.{None, Option, Some}
 use Rattle.edit.specs.Edit.{put_at, over}
 use Rattle.edit.proofs.EditLaws.{Wrote, wrote_then}
 use Rattle.codec.specs.Codec.{two, four}
-use Rattle.prack_body.specs.Lists.{Pending, Tracked, staying, is_open, entries_of}
+use Rattle.prack_body.specs.Lists.{Pending, Tracked, staying, is_open, entries_of, open_in}
 use Rattle.prack_body.specs.Layout.{to_bit, pending_form, open_bytes}
 use Rattle.prack_body.specs.Body.{Holds}
 use Rattle.prack_body.proofs.BodyLaws.{flag_at, count_is, none_size}
@@ -116,14 +116,133 @@ open_done {ps} {out₀} {out} {i} {to} g e =
     let k : 0 + length (opened 0 ps) ≡ length (opened 0 ps) = omega arith in
     (omega (arith, g.wrote.0, ap length w), g.wrote.1 ∙ ap (λ (l : List ℕ). put_at 0 l out₀) w ∙ ap (λ (j : ℕ). opened 0 ps ++ drop j out₀) k)
 
+-- ---- a turn over the bytes of whole entries
+
+module _ {s : List ℕ} {ps : List Pending} {i : ℕ} (x : Next s ps i) {left : List ℕ} (l : left ≡ drop (10 + i * 20) s) (a b : List ℕ) (e : left ≡ a ++ b) (k : length a ≡ 20) where
+  -- the bytes are those of the entry
+  chunk_is : a ≡ pending_form.write x.entry
+  chunk_is = sym (take_at a b 20 k) ∙ ap (take 20) (sym e ∙ l ∙ x.lies)
+
+  chunk_flag : get_or s (21 + i * 20) 0 ≡ get_or a 11 0
+  chunk_flag = flag x ∙ sym (ap (λ (z : List ℕ). get_or z 11 0) chunk_is)
+
+-- the entries before those left are looked at, and those that are open are written
+pub record Written (s out₀ left : List ℕ) (to : ℕ) (out : List ℕ) : Type 0 where
+  pub turns : ℕ
+  pub are : left ≡ drop (10 + turns * 20) s
+  pub few : turns ≤ (length s - 10) / 20
+  pub long : length out ≡ length out₀
+  pub opens : (t : Tracked) → Holds s (length s) t → Opening (entries_of t.list) out₀ turns to out
+
+pub writing : (s out : List ℕ) {left : List ℕ} → left ≡ drop 10 s → Written s out left 0 out
+writing s out e = record { turns = 0; are = e; few = omega arith; long = refl; opens = λ t h. opening (entries_of t.list) out }
+
+module _ {s out₀ left : List ℕ} {to : ℕ} {out : List ℕ} (g : Written s out₀ left to out) (a b : List ℕ) (e : left ≡ a ++ b) (k : length a ≡ 20) where
+  one_more : g.turns < (length s - 10) / 20
+  one_more = omega (arith, ap length g.are, ap length e, length-append a b, length-drop (10 + g.turns * 20) s)
+
+  others : b ≡ drop (10 + (g.turns + 1) * 20) s
+  others =
+      let p : 10 + g.turns * 20 + 20 ≡ 10 + (g.turns + 1) * 20 = omega arith in
+      sym (drop_at a b 20 k) ∙ ap (drop 20) (sym e ∙ g.are) ∙ drop-drop 20 (10 + g.turns * 20) s ∙ ap (λ (z : ℕ). drop z s) p
+
+  -- an open entry has room where all have
+  pub room_there : (t : Tracked) → Holds s (length s) t → get_or a 11 0 ≡ 0 → to + 6 ≤ length (open_bytes (open_in t.list))
+  room_there t h f = let x = next_entry h g.turns one_more in open_room (g.opens t h) x (chunk_flag x g.are a b e k ∙ f)
+
+  -- its bytes written
+  pub wrote_one : get_or a 11 0 ≡ 0 → {r : ℕ} {o : List ℕ} → r ≡ to + 6 → length o ≡ length out → ((p : Pending) → a ≡ pending_form.write p → o ≡ put_at to (four.write p.rseq ++ two.write p.code) out) → Written s out₀ b r o
+  wrote_one f q n w = record {
+    turns = g.turns + 1;
+    are = others;
+    few = omega (arith, one_more);
+    long = n ∙ g.long;
+    opens = λ t h. let x = next_entry h g.turns one_more in open_more (g.opens t h) x (chunk_flag x g.are a b e k ∙ f) q (w x.entry (chunk_is x g.are a b e k));
+  }
+
+  -- an acknowledged one passed over
+  pub passed_one : (get_or a 11 0 ≡ 0 → ⊥) → {r : ℕ} {o : List ℕ} → r ≡ to → o ≡ out → Written s out₀ b r o
+  passed_one f {r} {o} q u = record {
+    turns = g.turns + 1;
+    are = others;
+    few = omega (arith, one_more);
+    long = ap length u ∙ g.long;
+    opens = λ t h.
+        let x = next_entry h g.turns one_more in
+        subst (λ (m : ℕ). Opening (entries_of t.list) out₀ (g.turns + 1) m o) (sym q)
+        (subst (λ (z : List ℕ). Opening (entries_of t.list) out₀ (g.turns + 1) to z) (sym u) (open_less (g.opens t h) x (λ z. f (sym (chunk_flag x g.are a b e k) ∙ z))));
+  }
+
+-- none is left
+pub all_written : {s out₀ left : List ℕ} {to : ℕ} {out : List ℕ} → 10 ≤ length s → Written s out₀ left to out → length left < 20
+    → (t : Tracked) → Holds s (length s) t → (to ≡ length (open_bytes (open_in t.list))) × (out ≡ over (open_bytes (open_in t.list)) out₀)
+all_written {s} l g h t w = open_done (g.opens t w) (omega (arith, entry_count w, ap length g.are, length-drop (10 + g.turns * 20) s, g.few))
+
+-- ---- how many bytes
+
+-- the entries before those left are looked at, and the bytes of those that are open are counted
+pub record Counted (s left : List ℕ) (size : ℕ) : Type 0 where
+  pub turns : ℕ
+  pub are : left ≡ drop (10 + turns * 20) s
+  pub few : turns ≤ (length s - 10) / 20
+  pub short : size ≤ turns * 6
+  pub sums : (t : Tracked) → Holds s (length s) t → size + length (opened turns (entries_of t.list)) ≡ length (open_bytes (open_in t.list))
+
+pub counting : (s : List ℕ) {left : List ℕ} → left ≡ drop 10 s → Counted s left 0
+counting s e = record { turns = 0; are = e; few = omega arith; short = omega arith; sums = λ t h. let k : 0 + length (opened 0 (entries_of t.list)) ≡ length (opened 0 (entries_of t.list)) = omega arith in k }
+
+module _ {s left : List ℕ} {size : ℕ} (g : Counted s left size) (a b : List ℕ) (e : left ≡ a ++ b) (k : length a ≡ 20) where
+  turn_more : g.turns < (length s - 10) / 20
+  turn_more = omega (arith, ap length g.are, ap length e, length-append a b, length-drop (10 + g.turns * 20) s)
+
+  left_are : b ≡ drop (10 + (g.turns + 1) * 20) s
+  left_are =
+      let p : 10 + g.turns * 20 + 20 ≡ 10 + (g.turns + 1) * 20 = omega arith in
+      sym (drop_at a b 20 k) ∙ ap (drop 20) (sym e ∙ g.are) ∙ drop-drop 20 (10 + g.turns * 20) s ∙ ap (λ (z : ℕ). drop z s) p
+
+  -- so far they are fewer than the body's own
+  pub count_fits : size ≤ length s
+  count_fits = omega (arith, turn_more, g.short)
+
+  -- an open entry counted
+  pub counted_one : get_or a 11 0 ≡ 0 → Counted s b (size + 6)
+  counted_one f = record {
+    turns = g.turns + 1;
+    are = left_are;
+    few = omega (arith, turn_more);
+    short = omega (arith, g.short);
+    sums = λ t h. let x = next_entry h g.turns turn_more in omega (arith, g.sums t h, open_long x (chunk_flag x g.are a b e k ∙ f));
+  }
+
+  -- an acknowledged one left out
+  pub left_out : (get_or a 11 0 ≡ 0 → ⊥) → Counted s b size
+  left_out f = record {
+    turns = g.turns + 1;
+    are = left_are;
+    few = omega (arith, turn_more);
+    short = omega (arith, g.short);
+    sums = λ t h. let x = next_entry h g.turns turn_more in omega (arith, g.sums t h, ap length (closed_turn x (λ z. f (sym (chunk_flag x g.are a b e k) ∙ z))));
+  }
+
+-- none is left
+pub all_counted : {s left : List ℕ} {size : ℕ} → 10 ≤ length s → Counted s left size → length left < 20
+    → (t : Tracked) → Holds s (length s) t → size ≡ length (open_bytes (open_in t.list))
+all_counted {s} {left} {size} l g h t w =
+    omega (arith, g.sums t w, ap length (open_end g.turns (entries_of t.list) (omega (arith, entry_count w, ap length g.are, length-drop (10 + g.turns * 20) s, g.few))))
+
 -- ---- one entry's bytes
 
 -- the bytes of RSeq and code are those that lie in the entry
-pub six_at : (s : List ℕ) (at : ℕ) (p : Pending) (rest : List ℕ) → drop at s ≡ pending_form.write p ++ rest
-    → get_or s at 0 ∷ get_or s (at + 1) 0 ∷ get_or s (at + 2) 0 ∷ get_or s (at + 3) 0 ∷ get_or s (at + 9) 0 ∷ get_or s (at + 9 + 1) 0 ∷ [] ≡ four.write p.rseq ++ two.write p.code
-six_at s at p rest e =
-    let f : (j : ℕ) → get_or s (at + j) 0 ≡ get_or (pending_form.write p ++ rest) j 0 = λ j. sym (get_or-drop at s j 0) ∙ ap (λ (l : List ℕ). get_or l j 0) e in
-    let z : at + 0 ≡ at = omega arith in
-    let a : get_or s at 0 ≡ get_or (pending_form.write p ++ rest) 0 0 = ap (λ (k : ℕ). get_or s k 0) (sym z) ∙ f 0 in
-    let y : at + 9 + 1 ≡ at + 10 = omega arith in
-    rw (a, f 1, f 2, f 3, f 9, y, f 10)
+rseq_bytes : (p : Pending) → take 4 (pending_form.write p) ≡ four.write p.rseq
+rseq_bytes p = refl
+
+code_bytes : (p : Pending) → take 2 (drop 9 (pending_form.write p)) ≡ two.write p.code
+code_bytes p = refl
+
+-- they are put one after another
+pub put_six : (to : ℕ) (out entry : List ℕ) (p : Pending) {m n : List ℕ} → to + 6 ≤ length out → entry ≡ pending_form.write p → m ≡ put_at to (take 4 entry) out
+    → n ≡ put_at (to + 4) (take 2 (drop 9 entry)) m → n ≡ put_at to (four.write p.rseq ++ two.write p.code) out
+put_six to out entry p {m} {n} l e u v =
+    let a : m ≡ put_at to (four.write p.rseq) out = u ∙ ap (λ (x : List ℕ). put_at to x out) (ap (take 4) e ∙ rseq_bytes p) in
+    let b : n ≡ put_at (to + 4) (two.write p.code) m = v ∙ ap (λ (x : List ℕ). put_at (to + 4) x m) (ap (λ (x : List ℕ). take 2 (drop 9 x)) e ∙ code_bytes p) in
+    (wrote_then to (four.write p.rseq) (two.write p.code) out (omega arith) (refl, a) (refl, b)).1

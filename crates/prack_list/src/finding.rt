@@ -9,7 +9,7 @@ use limits::Refusal;
 use prack_body::{ACKNOWLEDGED_AT, CSEQ_AT, ENTRIES_AT, ENTRY_SIZE, METHOD_AT};
 
 // An entry: its place in the body, its CSeq, its method and whether it is acknowledged.
-// Kept (1): a C caller gives and gets a method by its number.
+// Kept (1): no code asks which method it is; it is read, compared and handed on as its number, so an enum would be turned back at each.
 #[derive(Clone, Copy)]
 pub struct PendingAt {
     pub place: usize,
@@ -26,6 +26,7 @@ pub fn first_of(body: &[u8], rseq: u32) -> Result<PendingAt, Refusal>
         return Err(Refusal::NoPendingList);
     }
     let count = (body.len() - ENTRIES_AT) / ENTRY_SIZE;
+    // Kept (3): tried by `position` over `chunks_exact`: the closure's bound closes, but not that a call of it that answers false has read another number.
     for i in 0..count {
         let at = ENTRIES_AT + i * ENTRY_SIZE;
         if read_four(body, at) == rseq {

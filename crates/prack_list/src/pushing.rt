@@ -8,8 +8,8 @@ ghost use Rattle.prack_body.specs.Layout.{pending_form};
 ghost use Rattle.prack_body.specs.Body.{body_room, Holds, Kept};
 ghost use Rattle.prack_list.specs.Steps.{last_of, pending_in};
 
-use codec::{write_eight, write_four, write_two};
-use edit::{put, shift};
+use codec::{write_byte, write_eight, write_four, write_two};
+use edit::shift;
 use limits::Limits;
 use prack_body::{BODY_ROOM, COUNT_AT, ENTRIES_AT, ENTRY_SIZE, LIST_AT};
 
@@ -19,7 +19,7 @@ const SECOND_AT: usize = ENTRIES_AT + ENTRY_SIZE;
 const OTHERS_SIZE: usize = BODY_ROOM - SECOND_AT;
 
 // A reliable provisional response as it is registered, and when.
-// Kept (1): a C caller gives and gets a method by its number.
+// Kept (1): the method is a number, since `register` refuses an unknown one with 28, after 1; a narrower type would ask more of callers.
 #[derive(Clone, Copy)]
 pub struct Provisional {
     pub rseq: u32,
@@ -30,7 +30,7 @@ pub struct Provisional {
 }
 
 // One response more: a list of one where none stood, without the first entry where ten are held. The new length.
-// Kept (5, 6): there is no heap, so a body may become longer in a fixed array of which the first n bytes are it.
+// Kept (5, 6): any lent bytes that have room will do; a struct with an array of that size would ask more of callers.
 pub fn push(body: &mut [u8], n: usize, response: Provisional) -> usize
     requires { (is_method response.method ≡ true) × ((n ≤ body_room) × (body_room ≤ length body.old)) }
     ensures { (t : Tracked) → Holds body.old n t → Holds body.new result (registered rust_limits (pending_in response) t) }
@@ -43,7 +43,7 @@ pub fn push(body: &mut [u8], n: usize, response: Provisional) -> usize
 }
 
 // Room for one entry more behind the others: where ten are held, the first goes. How many are left.
-// Kept (5, 6): as `push`.
+// Kept (5, 6): any lent bytes that have room will do; a struct with an array of that size would ask more of callers.
 fn make_room(body: &mut [u8], n: usize) -> usize
     requires { (n ≤ body_room) × (body_room ≤ length body.old) }
     ensures upper_bound { result ≤ 9 }
@@ -69,8 +69,8 @@ fn write_entry(out: &mut [u8], at: usize, response: Provisional) -> usize
 {
     let a = write_four(out, at, response.rseq);
     let b = write_four(out, a, response.cseq);
-    put(out, b, &[response.method]);
-    let d = write_two(out, b + 1, response.code as usize);
-    put(out, d, &[0]);
-    write_eight(out, d + 1, response.time)
+    let m = write_byte(out, b, response.method);
+    let d = write_two(out, m, response.code as usize);
+    let k = write_byte(out, d, 0);
+    write_eight(out, k, response.time)
 }

@@ -17,9 +17,7 @@ pub fn remove_dialog(id: &[u8], bytes: &mut [u8], used: usize) -> Result<usize, 
     ensures bytes_after { bytes.new ≡ (ran rust_limits (remove_dialog id.now) bytes.old used).bytes }
     ensures used_value { used_written result used ≡ (ran rust_limits (remove_dialog id.now) bytes.old used).used }
 {
-    if text::too_long(id) {
-        return Err(Refusal::TextTooLong);
-    }
+    text::check_length(id)?;
     match find(id, bytes, used)? {
         Ok(t) => {
             let at = t.id.start - LENGTH_SIZE;
@@ -36,9 +34,7 @@ pub fn remove_pracked(id: &[u8], rseq: u32, bytes: &mut [u8], used: usize) -> Re
     ensures bytes_after { bytes.new ≡ (ran rust_limits (remove_pracked id.now rseq) bytes.old used).bytes }
     ensures used_value { used_written result used ≡ (ran rust_limits (remove_pracked id.now rseq) bytes.old used).used }
 {
-    if text::too_long(id) {
-        return Err(Refusal::TextTooLong);
-    }
+    text::check_length(id)?;
     let slot = find(id, bytes, used)?;
     match slot {
         Ok(t) => {

@@ -10,12 +10,14 @@ use codec::{read_eight, read_four};
 use limits::Limits;
 use prack_body::{ACKNOWLEDGED_AT, REGISTERED_AT};
 
+// The nanoseconds of a second.
+pub const NANOS_PER_SECOND: u64 = 1000000000;
+
 // A test of entries.
 pub trait Staying: Copy {
     ghost test: { Self → Pending → Bool };
 
     // Whether the entry at a place stays.
-    // Kept (5): read at a place of bytes, as each number of it is by codec.
     fn stays(self, body: &[u8], at: usize) -> bool
         requires { at + 20 ≤ length body.now }
         ensures { (p : Pending) (rest : List ℕ) → PendingFormed p → drop at body.now ≡ pending_form.write p ++ rest → result ≡ test self p };
@@ -30,13 +32,11 @@ pub struct Young {
 impl Staying for Young {
     ghost test = { λ young. stays rust_limits young.time };
 
-    // Kept (5): as the trait has it.
+    // Kept (5): the trait's parameters; an entry is read at a place of bytes, as each number of it is by codec.
     fn stays(self, body: &[u8], at: usize) -> bool {
-        if body[at + ACKNOWLEDGED_AT] == 1 {
-            return false;
-        }
+        let waits = body[at + ACKNOWLEDGED_AT] != 1;
         let since = read_eight(body, at + REGISTERED_AT);
-        elapsed(self.time, since) <= Limits::PENDING_PRACK_TIMEOUT_SECS * 1000000000
+        waits && elapsed(self.time, since) <= Limits::PENDING_PRACK_TIMEOUT_SECS * NANOS_PER_SECOND
     }
 }
 
@@ -49,12 +49,9 @@ pub struct Other {
 impl Staying for Other {
     ghost test = { λ other. is_other other.rseq };
 
-    // Kept (5): as the trait has it.
+    // Kept (5): the trait's parameters; an entry is read at a place of bytes, as each number of it is by codec.
     fn stays(self, body: &[u8], at: usize) -> bool {
-        if read_four(body, at) != self.rseq {
-            return true;
-        }
-        body[at + ACKNOWLEDGED_AT] == 0
+        read_four(body, at) != self.rseq || body[at + ACKNOWLEDGED_AT] == 0
     }
 }
 

@@ -33,15 +33,13 @@ pub fn register(
     ensures bytes_after { bytes.new ≡ (ran rust_limits (register id.now response.rseq response.cseq response.method response.code response.time) bytes.old used).bytes }
     ensures used_value { used_written result used ≡ (ran rust_limits (register id.now response.rseq response.cseq response.method response.code response.time) bytes.old used).used }
 {
-    if text::too_long(id) {
-        return Err(Refusal::TextTooLong);
-    }
+    text::check_length(id)?;
     if !methods::is_method(response.method) {
         return Err(Refusal::InvalidMethod);
     }
     let slot = find(id, bytes, used)?;
     let mut body = [0u8; prack_body::BODY_ROOM];
-    let n = clean_copy(slot, bytes, used, response.time, &mut body);
+    let n = clean_copy(slot, &bytes[..used], response.time, &mut body);
     let m = prack_list::push(&mut body, n, response);
     set(id, slot, &body[..m], bytes, used)
 }
@@ -52,17 +50,14 @@ pub fn validate(id: &[u8], block: &[u8], time: u64, bytes: &mut [u8], used: usiz
     ensures value { result ≡ validated_in (ran rust_limits (validate id.now block.now time) bytes.old used) }
     ensures bytes_after { bytes.new ≡ (ran rust_limits (validate id.now block.now time) bytes.old used).bytes }
 {
-    match judged(id, block, time, bytes, used) {
-        Ok(v) => v,
-        Err(cause) => Validated {
-            verdict: Err(cause),
-            used,
-        },
-    }
+    judged(id, block, time, bytes, used).unwrap_or_else(|cause| Validated {
+        verdict: Err(cause),
+        used,
+    })
 }
 
 // The verdict on a PRACK, or a refusal that keeps all: 1, 2, 3, 18.
-// Kept (5, 6): a C caller lends bytes and says how many are used.
+// Kept (5, 6): lent bytes and how many are used, as its caller has them, which C calls.
 fn judged(
     id: &[u8],
     block: &[u8],
@@ -73,13 +68,11 @@ fn judged(
     ensures value { validated_or result used ≡ validated_in (ran rust_limits (validate id.now block.now time) bytes.old used) }
     ensures bytes_after { bytes.new ≡ (ran rust_limits (validate id.now block.now time) bytes.old used).bytes }
 {
-    if text::too_long(id) {
-        return Err(Refusal::TextTooLong);
-    }
+    text::check_length(id)?;
     msg::check_block(block)?;
     let slot = find(id, bytes, used)?;
     let mut body = [0u8; prack_body::BODY_ROOM];
-    let n = clean_copy(slot, bytes, used, time, &mut body);
+    let n = clean_copy(slot, &bytes[..used], time, &mut body);
     let verdict = hold_against(block, &mut body[..n]);
     let kept = set(id, slot, &body[..n], bytes, used)?;
     Ok(Validated {
@@ -95,20 +88,12 @@ pub fn is_pracked(id: &[u8], rseq: u32, bytes: &[u8], used: usize) -> Result<boo
     ensures bytes_value { bytes.now ≡ (ran rust_limits (is_pracked id.now rseq) bytes.now used).bytes }
     ensures used_value { used ≡ (ran rust_limits (is_pracked id.now rseq) bytes.now used).used }
 {
-    if text::too_long(id) {
-        return Err(Refusal::TextTooLong);
-    }
-    match find(id, bytes, used)? {
-        Ok(t) => {
-            let from = t.id.start + t.id.length;
-            let to = t.end;
-            match prack_list::first_of(&bytes[from..to], rseq) {
-                Ok(e) => Ok(e.acknowledged),
-                Err(_) => Ok(false),
-            }
-        }
-        Err(_) => Ok(false),
-    }
+    text::check_length(id)?;
+    let Ok(t) = find(id, bytes, used)? else {
+        return Ok(false);
+    };
+    let body = &bytes[t.id.end()..t.end];
+    Ok(prack_list::first_of(body, rseq).is_ok_and(|e| e.acknowledged))
 }
 
 // PrackValidator::get_pending: 1, 3, 18. Cleaned first; RSeq in four bytes and code in two, in list order, at the front of the output.
@@ -126,12 +111,10 @@ pub fn get_pending(
     ensures used_value { used_listed result used ≡ (ran rust_limits (get_pending id.now time (length out.old)) bytes.old used).used }
     ensures out_after { out.new ≡ output_after (ran rust_limits (get_pending id.now time (length out.old)) bytes.old used).answer out.old }
 {
-    if text::too_long(id) {
-        return Err(Refusal::TextTooLong);
-    }
+    text::check_length(id)?;
     let slot = find(id, bytes, used)?;
     let mut room = [0u8; prack_body::BODY_ROOM];
-    let n = clean_copy(slot, bytes, used, time, &mut room);
+    let n = clean_copy(slot, &bytes[..used], time, &mut room);
     let body = &room[..n];
     if out.len() < prack_list::open_size(body) {
         return Err(Refusal::NoRoom);

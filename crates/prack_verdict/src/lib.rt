@@ -10,6 +10,7 @@ use limits::Refusal;
 use rack::RAck;
 
 // 19 to 24. Where the PRACK is accepted, the first entry of its RSeq is marked.
+// Kept (1): document 01 opens the reading of a RAck by `let .. else`.
 pub fn hold_against(block: &[u8], body: &mut [u8]) -> Result<RAck, Refusal>
     requires { (t : Tracked) × Holds body.old (length body.old) t }
     ensures value { (t : Tracked) → Holds body.old (length body.old) t → result ≡ verdict_of (judged (rack_in block.now) t.list) }

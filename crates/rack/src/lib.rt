@@ -12,7 +12,7 @@ use limits::Refusal;
 use methods::{is_method, method_of, name_of};
 use words::{after_word, word};
 
-// Kept (1): a C caller gives and gets a method by its number.
+// Kept (1): no code asks which method it is: it is read, compared and handed on as its number, and an enum would be turned back into it at each.
 #[derive(Clone, Copy)]
 pub struct RAck {
     pub rseq: u32,
@@ -21,7 +21,7 @@ pub struct RAck {
 }
 
 // RAck::parse: 1, 2, 19.
-// Kept (2): document 01 opens the reading of a RAck by `let .. else`; the readings of other values, of other types, differ in their refusal.
+// Kept (1): document 01 opens the reading of a RAck by `let .. else`.
 pub fn parse_rack(value: &[u8]) -> Result<RAck, Refusal>
     ensures { result ≡ rack_answer (parse_rack rust_limits value.now) }
 {
@@ -70,6 +70,7 @@ fn write_spaced(a: &[u8], b: &[u8], c: &[u8], out: &mut [u8])
 }
 
 // Exactly three words: a number, a number and a method.
+// Kept (1): document 01 opens the reading of a number by `let .. else`.
 pub fn read_rack(value: &[u8]) -> Option<RAck>
     ensures { result ≡ rack_from (read_rack value.now) }
 {

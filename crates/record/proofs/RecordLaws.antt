@@ -7,6 +7,7 @@ use mathlib.Core.List.{List, []}
 use lib.ListN.{length}
 use lib.Dec.{leb, ltb, eqb}
 use borrow.Author.Tests.{eqb-true, eqb-false, ltb-true}
+use Rattle.std.proofs.lemmas.Bool.{and_parts}
 use Rattle.std.specs.Prelude.{None, Option, Some}
 use Rattle.text.specs.Text.{is_value, all}
 use Rattle.text.specs.Number.{non_empty}
@@ -90,10 +91,6 @@ state_back x p h = by (eqb x 1) (eqb x 2) refl refl
         let l : x ≡ 2 → ⊥ = eqb-false x 2 f in
         rw (e, f) (omega arith)
 
-both : (a b : Bool) → (a && b) ≡ true → (a ≡ true) × (b ≡ true)
-both true b e = (refl, e)
-both false b e = absurd (false≢true e)
-
 abbrev state_test : ℕ → Bool
 state_test n = ltb n 16 && ltb 0 (n % 4)
 
@@ -117,7 +114,7 @@ state_there b g = by b.state b.we_are_uac b.secure
 
 state_again : (n : ℕ) → (n < 256) × (state_test n ≡ true) → (state_byte_number (state_byte_of n) ≡ n) × Unit {0}
 state_again n g =
-    let k = both (ltb n 16) (ltb 0 (n % 4)) g.1 in
+    let k = and_parts (ltb n 16) (ltb 0 (n % 4)) g.1 in
     let l : n < 16 = ltb-true _ _ k.0 in
     let m : 0 < n % 4 = ltb-true _ _ k.1 in
     let a : state_number (state_of (n % 4)) ≡ n % 4 = state_back (n % 4) m (omega arith) in

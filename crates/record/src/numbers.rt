@@ -8,15 +8,16 @@ use headers::Refresher;
 use limits::{Limits, Refusal};
 use session_seconds::check_expires_seconds;
 
+// Each with the number that the state byte of an image has for it.
 #[derive(Clone, Copy)]
 pub enum State {
-    Early,
-    Confirmed,
-    Terminated,
+    Early = 1,
+    Confirmed = 2,
+    Terminated = 3,
 }
 
 // ACK is exactly those letters; every other method is another.
-// Kept (1, 7): the two are the cases of the rules (`Kind`, specs/Rules.antt), none of them an absence, and a flag would say less.
+// Kept (1): the two are the cases of the rules (`Kind`, specs/Rules.antt), none of them an absence, and a flag would say less.
 #[derive(Clone, Copy)]
 pub enum Method {
     Ack,
@@ -49,13 +50,11 @@ impl Numbers {
     }
 
     // An ACK equals a remote number that isn't 0, and is remembered.
+    // Kept (1): document 01, "CSeq", has 0 for no remote number yet, and the listing shows it.
     fn acknowledge(self, cseq: u32) -> Result<Numbers, Refusal>
         ensures { outcome_in result ≡ ack_step cseq (meaning self) }
     {
-        if cseq != self.remote {
-            return Err(Refusal::InvalidCSeq);
-        }
-        if self.remote == 0 {
+        if cseq != self.remote || self.remote == 0 {
             return Err(Refusal::InvalidCSeq);
         }
         Ok(Numbers {
@@ -65,6 +64,7 @@ impl Numbers {
     }
 
     // Any other request becomes the remote number, within its limits.
+    // Kept (1): document 01, "CSeq", has 0 for no remote number yet, and the listing shows it.
     fn advance(self, cseq: u32) -> Result<Numbers, Refusal>
         ensures { outcome_in result ≡ other_step rust_limits cseq (meaning self) }
     {
@@ -108,12 +108,8 @@ impl Numbers {
     pub fn next_local_cseq(self) -> Numbers
         ensures { meaning result ≡ local_step (meaning self) }
     {
-        let local = self.local;
-        if local == 4294967295 {
-            return self;
-        }
         Numbers {
-            local: local + 1,
+            local: self.local.saturating_add(1),
             ..self
         }
     }

@@ -2,7 +2,7 @@
 -- were written around them, are the changed record's image among the used bytes. Assumes nothing.
 use mathlib.Core.Path.{◌≡◌, refl, sym, ap, ◌∙◌}
 use mathlib.Core.Bool.{◌||◌}
-use mathlib.Core.List.{List, [], ◌∷◌, ◌++◌, append_assoc, append-nil}
+use mathlib.Core.List.{List, [], ◌∷◌, ◌++◌, append_assoc}
 use Prim.Native.Nat.{ℕ, ◌+◌, ◌-◌, ◌≤◌}
 use native.Mathlib.Omega.{arith}
 use lib.ListN.{length, take, drop, length-append, take-append-drop}
@@ -10,7 +10,7 @@ use lib.Seq.{length-take-le}
 use Rattle.edit.specs.Edit.{over, put_at}
 use Rattle.record.specs.Changes.{with_numbers, with_target, with_routes}
 use Rattle.codec.specs.Codec.{text, two}
-use Rattle.record.specs.Record.{Numbers, Record, state_byte_number, image}
+use Rattle.record.specs.Record.{Record, state_byte_number, image}
 use Rattle.image.specs.declared.RecordAt.{RecordAt}
 use Rattle.image.specs.Places.{ids_of, uris_of}
 use Rattle.image_writer.specs.Parts.{ids_bytes, uris_bytes, numbers_bytes, map_of_parts, state_byte_of}
@@ -18,11 +18,9 @@ use Rattle.image_writer.proofs.ImageLaws.{parts_in, routes_bytes}
 use Rattle.image_edit.specs.Changes.{changed}
 use Rattle.image_edit.specs.Maps.{map_from}
 use Rattle.image_edit.proofs.ImageCuts.{Held, changed_held}
-use Rattle.image_edit.proofs.NumbersLaws.{image_cut, state_is, end_is, routes_is, map_is, state_byte_is}
+use Rattle.image_edit.proofs.NumbersLaws.{image_cut, state_is, end_is}
+use Rattle.image_edit.proofs.TailLaws.{Puts, ended, counted, tail_map, state_byte_is}
 use Rattle.image_edit.proofs.TargetLaws.{start_is, length_is}
-use Rattle.route_section.specs.Section.{section_of}
-use Rattle.routes_edit.proofs.RoutesLaws.{tail_bytes, record_end, routes_map}
-use Rattle.record_gaps.specs.Revised.{revised}
 use Rattle.record_gaps.proofs.PartLaws.{part_at, merged, around}
 
 -- the two URIs that stay
@@ -140,79 +138,46 @@ module _ (bytes : List ℕ) (used at : ℕ) (p : RecordAt) (fits : used ≤ leng
         shape : (g a b c t m q k r : List ℕ) → g ++ (a ++ (b ++ ((c ++ t) ++ ((m ++ q) ++ (k ++ r))))) ≡ g ++ ((a ++ (b ++ (c ++ ((t ++ m) ++ (q ++ k))))) ++ r)
         shape g a b c t m q k r = simp append_assoc
 
--- ---- other numbers and another target
+-- ---- a change of numbers or of numbers and routes, and another target w
 
-module _ (bytes : List ℕ) (used at : ℕ) (p : RecordAt) (fits : used ≤ length bytes) (h : Held (take used bytes) at p) (x : Numbers) (t : List ℕ) where
-  -- the old numbers
-  abbrev old : List ℕ
-  old = numbers_bytes h.value.numbers
+module _ (bytes : List ℕ) (used at : ℕ) (p : RecordAt) (fits : used ≤ length bytes) (t : Puts (take used bytes) at p) (w : List ℕ) where
+  abbrev f : Record → Record
+  f v = with_target w (t.makes v)
 
-  old_is : p.routes - p.uris.end ≡ length old
-  old_is = omega (arith, routes_is (take used bytes) at p h x)
+  abbrev new_map : List ℕ
+  new_map = two.write (map_from t.values p.ids (t.counts p))
+
+  abbrev new_state : ℕ
+  new_state = state_byte_number (record { state = t.values.state; we_are_uac = p.we_are_uac; secure = p.uris.local_secure || p.uris.remote_secure })
+
+  old_is : t.ends p - p.uris.end ≡ length t.old
+  old_is = omega (arith, ended (take used bytes) at p t)
 
   -- the new image in sections
-  image_is : image.write (revised x t h.value)
-      ≡ two.write (map_from x p.ids p.route_count) ++ (ids_bytes (ids_of h.value) ++ ((state_byte_number (record { state = x.state; we_are_uac = p.we_are_uac; secure = p.uris.local_secure || p.uris.remote_secure }) ∷ []) ++ ((text.write t ++ others h.value) ++ (numbers_bytes x ++ routes_bytes h.value))))
-  image_is = image_cut (revised x t h.value) ∙ rw (map_is (take used bytes) at p h x, state_byte_is (take used bytes) at p h x)
+  image_is : image.write (f t.held.value) ≡ new_map ++ (ids_bytes (ids_of t.held.value) ++ ((new_state ∷ []) ++ ((text.write w ++ others t.held.value) ++ (t.section ++ t.rest))))
+  image_is =
+      let v = with_target w (with_numbers t.values (with_routes t.routes t.held.value)) in
+      ap (λ (y : Record). image.write (with_target w y)) t.made
+      ∙ image_cut v
+      ∙ ap (λ (u : List ℕ). two.write (map_of_parts (parts_in v)) ++ (ids_bytes (ids_of t.held.value) ++ ((state_byte_of (parts_in v) ∷ []) ++ ((text.write w ++ others t.held.value) ++ u)))) t.new_tail
+      ∙ rw (counted (take used bytes) at p t, tail_map (take used bytes) at p t, state_byte_is (take used bytes) at p t)
 
-  pub both_within : (at + 2 ≤ p.state) × (p.uris.target.start ≡ p.state + 3) × (p.uris.target.start + p.uris.target.length ≤ p.uris.end) × (p.uris.end ≤ p.routes) × (p.routes ≤ used)
+  pub both_within : (at + 2 ≤ p.state) × (p.uris.target.start ≡ p.state + 3) × (p.uris.target.start + p.uris.target.length ≤ p.uris.end) × (p.uris.end ≤ t.ends p) × (t.ends p ≤ used)
   both_within =
-      let s = sections bytes used at p fits h old (routes_bytes h.value) refl in
-      let r = routes_is (take used bytes) at p h x in
+      let s = sections bytes used at p fits t.held t.old t.rest t.tail_is in
+      let r = ended (take used bytes) at p t in
       (s.0, s.1, s.2, omega (arith, r), omega (arith, r, s.3))
 
-  pub both_size : length (changed (revised x t) at (take used bytes)) ≡ used - p.uris.target.length - (p.routes - p.uris.end) + length t + length (numbers_bytes x)
+  pub both_size : length (changed f at (take used bytes)) ≡ used - p.uris.target.length - (t.ends p - p.uris.end) + length w + length t.section
   both_size =
-      ap length (changed_held (revised x t) (take used bytes) at h)
-      ∙ revised_size bytes used at p fits h old (routes_bytes h.value) refl (two.write (map_from x p.ids p.route_count)) t (numbers_bytes x) (image.write (revised x t h.value)) (state_byte_number (record { state = x.state; we_are_uac = p.we_are_uac; secure = p.uris.local_secure || p.uris.remote_secure })) refl image_is
-      ∙ ap (λ (n : ℕ). used - p.uris.target.length - n + length t + length (numbers_bytes x)) (sym old_is)
+      ap length (changed_held f (take used bytes) at t.held)
+      ∙ revised_size bytes used at p fits t.held t.old t.rest t.tail_is new_map w t.section (image.write (f t.held.value)) new_state refl image_is
+      ∙ ap (λ (n : ℕ). used - p.uris.target.length - n + length w + length t.section) (sym old_is)
 
-  pub both_edit : used - p.uris.target.length - (p.routes - p.uris.end) + length t + length (numbers_bytes x) ≤ length bytes
-      → put_at at (two.write (map_from x p.ids p.route_count)) (put_at p.state ((state_byte_number (record { state = x.state; we_are_uac = p.we_are_uac; secure = p.uris.local_secure || p.uris.remote_secure }) ∷ []) ++ text.write t) (put_at (p.uris.target.start + length t + (p.uris.end - (p.uris.target.start + p.uris.target.length))) (numbers_bytes x) (put_at (p.uris.target.start + length t) (take (p.uris.end - (p.uris.target.start + p.uris.target.length)) (drop (p.uris.target.start + p.uris.target.length) bytes)) (put_at (p.uris.target.start + length t + (p.uris.end - (p.uris.target.start + p.uris.target.length)) + length (numbers_bytes x)) (take (used - (p.uris.end + (p.routes - p.uris.end))) (drop (p.uris.end + (p.routes - p.uris.end)) bytes)) bytes))))
-      ≡ over (changed (revised x t) at (take used bytes)) bytes
+  pub both_edit : used - p.uris.target.length - (t.ends p - p.uris.end) + length w + length t.section ≤ length bytes
+      → put_at at new_map (put_at p.state ((new_state ∷ []) ++ text.write w) (put_at (p.uris.target.start + length w + (p.uris.end - (p.uris.target.start + p.uris.target.length))) t.section (put_at (p.uris.target.start + length w) (take (p.uris.end - (p.uris.target.start + p.uris.target.length)) (drop (p.uris.target.start + p.uris.target.length) bytes)) (put_at (p.uris.target.start + length w + (p.uris.end - (p.uris.target.start + p.uris.target.length)) + length t.section) (take (used - (p.uris.end + (t.ends p - p.uris.end))) (drop (p.uris.end + (t.ends p - p.uris.end)) bytes)) bytes))))
+      ≡ over (changed f at (take used bytes)) bytes
   both_edit room =
       rw old_is
-      (revised_edit bytes used at p fits h old (routes_bytes h.value) refl (two.write (map_from x p.ids p.route_count)) t (numbers_bytes x) (image.write (revised x t h.value)) (state_byte_number (record { state = x.state; we_are_uac = p.we_are_uac; secure = p.uris.local_secure || p.uris.remote_secure })) refl image_is (omega (arith, room, old_is))
-      ∙ ap (λ (s : List ℕ). over s bytes) (sym (changed_held (revised x t) (take used bytes) at h)))
-
--- ---- other numbers, other routes and another target
-
--- f gives the record the numbers x, the routes l and the target t
-module _ (bytes : List ℕ) (used at : ℕ) (p : RecordAt) (fits : used ≤ length bytes) (h : Held (take used bytes) at p) (x : Numbers) (t : List ℕ) (l : List (List ℕ)) (f : Record → Record) (is : f h.value ≡ with_target t (with_numbers x (with_routes l h.value))) where
-  abbrev tail : List ℕ
-  tail = numbers_bytes x ++ section_of l
-
-  -- the old numbers and routes
-  whole_tail : numbers_bytes h.value.numbers ++ routes_bytes h.value ≡ tail_bytes h.value ++ []
-  whole_tail = sym (append-nil (tail_bytes h.value))
-
-  tail_is : p.end - p.uris.end ≡ length (tail_bytes h.value)
-  tail_is = omega (arith, record_end (take used bytes) at p h (λ v. with_numbers x (with_routes l v)) x l refl)
-
-  -- the new image in sections
-  all_image : image.write (f h.value)
-      ≡ two.write (map_from x p.ids (length l)) ++ (ids_bytes (ids_of h.value) ++ ((state_byte_number (record { state = x.state; we_are_uac = p.we_are_uac; secure = p.uris.local_secure || p.uris.remote_secure }) ∷ []) ++ ((text.write t ++ others h.value) ++ (tail ++ []))))
-  all_image =
-      ap image.write is
-      ∙ image_cut (with_target t (with_numbers x (with_routes l h.value)))
-      ∙ rw (routes_map (take used bytes) at p h (λ v. with_numbers x (with_routes l v)) x l refl, state_byte_is (take used bytes) at p h x, append-nil)
-
-  pub all_within : (at + 2 ≤ p.state) × (p.uris.target.start ≡ p.state + 3) × (p.uris.target.start + p.uris.target.length ≤ p.uris.end) × (p.uris.end ≤ p.end) × (p.end ≤ used)
-  all_within =
-      let s = sections bytes used at p fits h (tail_bytes h.value) [] whole_tail in
-      let r = record_end (take used bytes) at p h (λ v. with_numbers x (with_routes l v)) x l refl in
-      (s.0, s.1, s.2, omega (arith, r), omega (arith, r, s.3))
-
-  pub all_size : length (changed f at (take used bytes)) ≡ used - p.uris.target.length - (p.end - p.uris.end) + length t + (length (numbers_bytes x) + length (section_of l))
-  all_size =
-      ap length (changed_held f (take used bytes) at h)
-      ∙ revised_size bytes used at p fits h (tail_bytes h.value) [] whole_tail (two.write (map_from x p.ids (length l))) t tail (image.write (f h.value)) (state_byte_number (record { state = x.state; we_are_uac = p.we_are_uac; secure = p.uris.local_secure || p.uris.remote_secure })) refl all_image
-      ∙ omega (arith, tail_is, length-append (numbers_bytes x) (section_of l))
-
-  pub all_edit : used - p.uris.target.length - (p.end - p.uris.end) + length t + (length (numbers_bytes x) + length (section_of l)) ≤ length bytes
-      → put_at at (two.write (map_from x p.ids (length l))) (put_at p.state ((state_byte_number (record { state = x.state; we_are_uac = p.we_are_uac; secure = p.uris.local_secure || p.uris.remote_secure }) ∷ []) ++ text.write t) (put_at (p.uris.target.start + length t + (p.uris.end - (p.uris.target.start + p.uris.target.length))) tail (put_at (p.uris.target.start + length t) (take (p.uris.end - (p.uris.target.start + p.uris.target.length)) (drop (p.uris.target.start + p.uris.target.length) bytes)) (put_at (p.uris.target.start + length t + (p.uris.end - (p.uris.target.start + p.uris.target.length)) + length tail) (take (used - (p.uris.end + (p.end - p.uris.end))) (drop (p.uris.end + (p.end - p.uris.end)) bytes)) bytes))))
-      ≡ over (changed f at (take used bytes)) bytes
-  all_edit room =
-      rw tail_is
-      (revised_edit bytes used at p fits h (tail_bytes h.value) [] whole_tail (two.write (map_from x p.ids (length l))) t tail (image.write (f h.value)) (state_byte_number (record { state = x.state; we_are_uac = p.we_are_uac; secure = p.uris.local_secure || p.uris.remote_secure })) refl all_image (omega (arith, room, tail_is, length-append (numbers_bytes x) (section_of l)))
-      ∙ ap (λ (s : List ℕ). over s bytes) (sym (changed_held f (take used bytes) at h)))
+      (revised_edit bytes used at p fits t.held t.old t.rest t.tail_is new_map w t.section (image.write (f t.held.value)) new_state refl image_is (omega (arith, room, old_is))
+      ∙ ap (λ (s : List ℕ). over s bytes) (sym (changed_held f (take used bytes) at t.held)))

@@ -1,5 +1,5 @@
 -- A step of the code: the walk over the records of bytes that are whole records. Each turn gives the place of a record and goes on at the end of its image.
-use Rattle.std.specs.Prelude.{ℕ, ◌≤◌, ◌<◌, ◌≡◌, List, length, None, Option, Some}
+use Rattle.std.specs.Prelude.{ℕ, ◌≤◌, ◌<◌, ◌≡◌, length, None, Option, Some}
 use Rattle.record_walk.specs.Walk.{At, end_at}
 use Rattle.record_walk.specs.declared.records.Records.{Records}
 

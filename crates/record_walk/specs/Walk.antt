@@ -3,6 +3,7 @@ use Rattle.std.specs.Prelude.{ℕ, zero, suc, ◌+◌, ◌*◌, ◌≤◌, ◌<�
 use Rattle.codec.specs.Codec.{Reading}
 use Rattle.record.specs.Record.{Record, Ids, id_text, is_filled, is_given, fields_of, image}
 use Rattle.record.specs.Store.{records_in}
+use Rattle.record_walk.specs.declared.IdEnds.{IdEnds}
 
 -- a record stands at a place
 pub record At (s : List ℕ) (p : ℕ) : Type 0 where
@@ -36,6 +37,15 @@ ids_read (Some x) = ids_bytes (fields_of x.value).first
 -- the place past the identifier of the record at a place
 unfoldable pub ids_end : List ℕ → ℕ → ℕ
 ids_end s p = p + 2 + length (ids_read (image.read (drop p s)))
+
+-- where the texts of an identifier that begins at a place end
+abbrev pub EndsOf : ℕ → Ids → IdEnds → Type 0
+EndsOf at i e =
+    (e.call_id ≡ at + length (id_bytes i.first)) × (e.local_tag ≡ e.call_id + length (id_bytes i.second.first)) × (e.remote_tag ≡ e.local_tag + length (id_bytes i.second.second))
+
+-- where those of the record that is read at a place end
+abbrev pub EndsRead : List ℕ → ℕ → IdEnds → Type 0
+EndsRead s p e = (x : Reading Record) → image.read (drop p s) ≡ Some x → EndsOf (p + 2) (fields_of x.value).first e
 
 -- ---- its end
 

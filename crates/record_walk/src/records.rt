@@ -44,7 +44,7 @@ impl<'a> Iterator for Records<'a> {
 }
 
 // The end of the first of the whole records from a place on, if there are any.
-// Kept (5): one slice is lent, and many places in it are asked about.
+// Kept (5): the fields of `Records` apart: a slice in a struct does not say that its elements are bytes.
 fn first_end(bytes: &[u8], at: usize) -> Option<usize>
     requires { is_given (records_in (length bytes.now) (drop at bytes.now)) ≡ true }
     ensures { EndsFirst bytes.now at result }

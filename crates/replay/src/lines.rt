@@ -1,103 +1,58 @@
 // What one line of the list asks for: the memory of a store is set, or a call is made and its answer compared.
 use crate::calls::call;
-use replay_answers::{Outcome, as_recorded, fill_outs, lent_length, set_memory};
-use replay_lines::{copy_at, part, place_of, read_items, row_of, shape_fits, text};
+use replay_answers::{Memory, Outcome, as_recorded, fill_outs, lent_length};
+use replay_lines::{Item, Items, copy_at, part, place_of, read_items, row_of, shape_fits};
 
-// What becomes of the line, given the list, at whose head the rows are, and a memory of so many bytes; none where it can't be read. `old` and `bytes` are room to
-// work in.
-pub fn one_line(
+// What becomes of the line, given the list, at whose head the rows are, and the memory; none where it can't be read. `old` and `bytes` are room to work in.
+pub fn one_line<const N: usize>(
     line: &[u8],
     list: &[u8],
-    store: &mut [u8],
+    memory: &mut Memory<N>,
     old: &mut [u8],
     bytes: &mut [u8],
-    size: usize,
 ) -> Option<Outcome> {
     if let [] | [b'#', ..] = line {
         return Some(Outcome::Passed);
     }
     let n = line.iter().position(|&b| b == b' ').unwrap_or(line.len());
     let name = part(line, 0, n);
-    let mut letters = [0u8; 24];
-    let mut items = [0u64; 48];
-    let rest = part(line, n, line.len());
-    let count = read_items(rest, bytes, &mut letters, &mut items)?;
-    let letters = part(&letters, 0, count);
-    let Some((number, row)) = row_of(list, name) else {
-        let size = set_memory(name, letters, bytes, &items, store, size)?;
-        return Some(Outcome::Memory(size));
+    let mut room = [Item::NONE; 24];
+    let count = read_items(part(line, n, line.len()), bytes, &mut room)?;
+    let items = Items {
+        bytes,
+        list: part(&room, 0, count),
     };
-    if !shape_fits(row.shape, letters) {
+    let Some((number, row)) = row_of(list, name) else {
+        memory.set(name, items)?;
+        return Some(Outcome::Passed);
+    };
+    if !shape_fits(row.shape, items) {
         return None;
     }
-    replay_call(number, row.shape, count, bytes, &items, store, old, size)
+    let same = replay_call(number, row.shape, items, memory, old)?;
+    Some(Outcome::Called { row: number, same })
 }
 
-// Makes the call and compares all that it answers.
-fn replay_call(
+// Makes the call: whether all that it answers is as recorded.
+fn replay_call<const N: usize>(
     row: usize,
     shape: &[u8],
-    count: usize,
-    bytes: &[u8],
-    items: &[u64; 48],
-    store: &mut [u8],
+    items: Items<'_>,
+    memory: &mut Memory<N>,
     old: &mut [u8],
-    size: usize,
-) -> Option<Outcome> {
-    let equals = place_of(shape, b'=');
-    let lent = lent_length(shape, items, b's');
-    let out_lent = lent_length(shape, items, b'o');
-    if size < lent {
-        return None;
-    }
-    if 65536 < out_lent {
-        return None;
-    }
-    let mut out = [0u8; 65536];
+) -> Option<bool> {
+    let equals = place_of(shape, b'=')?;
     let mut o = [0u64; 8];
-    fill_outs(shape, items, equals, &mut o);
-    copy_at(text(bytes, items, place_of(shape, b'o')), &mut out, 0);
-    copy_at(part(store, 0, size), old, 0);
-    let r = lend(row, bytes, items, store, lent, &mut out, out_lent, &mut o);
-    if as_recorded(
-        shape,
-        count,
-        bytes,
-        items,
-        r,
-        &o,
-        part(&out, 0, out_lent),
-        part(store, 0, size),
-        part(old, 0, size),
-    ) {
-        return Some(Outcome::Same(row));
+    fill_outs(shape, equals, items, &mut o);
+    let mut room = [0u8; 65536];
+    let out = room.get_mut(..lent_length(shape, items, b'o'))?;
+    if let Some(k) = place_of(shape, b'o') {
+        copy_at(items.text(k), out, 0);
     }
-    Some(Outcome::Differs(row))
-}
-
-// The call, lent so many bytes of the memory and of the output.
-fn lend(
-    row: usize,
-    bytes: &[u8],
-    items: &[u64; 48],
-    store: &mut [u8],
-    lent: usize,
-    out: &mut [u8],
-    out_lent: usize,
-    o: &mut [u64; 8],
-) -> u64 {
-    if store.len() < lent {
-        return 0;
-    }
-    if out.len() < out_lent {
-        return 0;
-    }
-    call(
-        row,
-        bytes,
-        items,
-        &mut store[..lent],
-        &mut out[..out_lent],
-        o,
-    )
+    copy_at(memory.bytes(), old, 0);
+    let store = memory.lend(lent_length(shape, items, b's'))?;
+    let r = call(row, items, store, out, &mut o);
+    let store = memory.bytes();
+    let old = part(old, 0, store.len());
+    Some(as_recorded(shape, equals, items, r, &o, out, store, old))
 }

@@ -8,7 +8,7 @@ mod lines;
 ghost use Rattle.std.specs.Prelude.{◌≡◌, ◌≤◌, IfOk, length};
 
 use lines::one_line;
-use replay_answers::{Tallies, report, show, take};
+use replay_answers::{Memory, Tallies, report, show, take};
 use std::io;
 use std::io::Read;
 
@@ -18,7 +18,7 @@ fn main(rt: HostRuntime) -> io::Result<()> {
     replay(&rt, &list[..n])
 }
 
-// Room for a list, or for the memory of a store.
+// Room for a list, for a memory as it was, or for a line's texts.
 // Kept (6): no heap, so the room is an array.
 fn zeros() -> [u8; 786432]
     ensures { 786432 ≡ length result }
@@ -27,6 +27,7 @@ fn zeros() -> [u8; 786432]
 }
 
 // Reads to the end, or until the bytes are full: how many there are.
+// Kept (2): listing_output has it for the listings; this program would stand on the listing's crate for these lines alone.
 fn read_full(input: &mut impl Read, bytes: &mut [u8]) -> io::Result<usize>
     ensures { IfOk result (λ n. n ≤ length bytes.new) }
 {
@@ -55,13 +56,12 @@ fn replay(rt: &impl Print, list: &[u8]) -> io::Result<()> {
 
 // Goes through the lines behind the head. They are numbered from 1 at the list's start.
 fn each_line(rt: &impl Print, list: &[u8], tallies: &mut Tallies) -> io::Result<()> {
-    let mut store = zeros();
+    let mut memory = Memory::<786432>::new();
     let mut old = zeros();
     let mut bytes = zeros();
-    let mut size = 0;
     for (before, line) in list.split(|b| *b == b'\n').enumerate().skip(84) {
-        let outcome = one_line(line, list, &mut store, &mut old, &mut bytes, size);
-        size = take(rt, outcome, before + 1, tallies, size)?;
+        let outcome = one_line(line, list, &mut memory, &mut old, &mut bytes);
+        take(rt, outcome, before + 1, tallies)?;
     }
     Ok(())
 }

@@ -6,14 +6,12 @@ mod memory;
 mod tallies;
 
 pub use answers::{as_recorded, fill_outs, lent_length};
-pub use memory::set_memory;
+pub use memory::Memory;
 pub use tallies::{Tallies, report, show, take};
 
-// What became of a line that can be read: nothing was asked; the memory has so many bytes; the call of that row answered as recorded, or not.
+// What became of a line that can be read: no call was asked for; or that of a row was made, and all that it answered is the same as recorded, or not.
 #[derive(Clone, Copy)]
 pub enum Outcome {
     Passed,
-    Memory(usize),
-    Same(usize),
-    Differs(usize),
+    Called { row: usize, same: bool },
 }

@@ -1,4 +1,6 @@
 // The counts, and what is printed of them.
+ghost use Rattle.std.specs.Prelude.{◌≡◌};
+
 use crate::Outcome;
 use replay_lines::row_at;
 use std::io;
@@ -19,7 +21,9 @@ pub struct Tallies {
 }
 
 impl Tallies {
-    pub fn new() -> Tallies {
+    pub fn new() -> Tallies
+        ensures { result.unreadable ≡ 0 }
+    {
         let none = Tally {
             calls: 0,
             differ: 0,
@@ -32,39 +36,30 @@ impl Tallies {
     }
 }
 
-// Counts what became of a line, none where it can't be read; how many bytes the memory then has.
+// Counts what became of a line, none where it can't be read.
 pub fn take(
     rt: &impl Print,
     outcome: Option<Outcome>,
     line: usize,
     tallies: &mut Tallies,
-    size: usize,
-) -> io::Result<usize> {
+) -> io::Result<()> {
     match outcome {
-        Some(Outcome::Passed) => Ok(size),
-        Some(Outcome::Memory(n)) => Ok(n),
-        Some(Outcome::Same(row)) => {
-            add(tallies, row, false, line);
-            Ok(size)
-        }
-        Some(Outcome::Differs(row)) => {
-            add(tallies, row, true, line);
-            Ok(size)
-        }
+        Some(Outcome::Passed) => {}
+        Some(Outcome::Called { row, same }) => add(tallies, row, same, line),
         None => {
             println!(rt; "line {line} can't be read")?;
             tallies.unreadable = tallies.unreadable.saturating_add(1);
-            Ok(size)
         }
     }
+    Ok(())
 }
 
-fn add(tallies: &mut Tallies, row: usize, differs: bool, line: usize) {
+fn add(tallies: &mut Tallies, row: usize, same: bool, line: usize) {
     let Some(tally) = tallies.rows.get_mut(row) else {
         return;
     };
     tally.calls = tally.calls.saturating_add(1);
-    if !differs {
+    if same {
         return;
     }
     if tally.differ == 0 {

@@ -1,5 +1,5 @@
 // The calls on the three kinds of stores, and on a run of verdicts. `store` is the part of the memory that they are lent; the used length is the first of the out numbers.
-use replay_lines::{low8, low16, low32, text};
+use replay_lines::{Items, four, low8, low16, low32, one, three, two};
 use sip_dialog::prack_lists::{
     sip_dialog_prack_get_pending, sip_dialog_prack_is_pracked, sip_dialog_prack_register,
     sip_dialog_prack_remove_dialog, sip_dialog_prack_remove_pracked, sip_dialog_prack_validate,
@@ -18,241 +18,104 @@ use sip_dialog::stores::{
 };
 use sip_dialog::verdicts::{sip_dialog_add_verdict, sip_dialog_worst_minute};
 
-// The used length alone.
-pub fn used_only(row: usize, b: &[u8], v: &[u64; 48], store: &mut [u8], o: &mut [u64; 8]) -> u8 {
-    let s = text(b, v, 0);
-    let t = text(b, v, 1);
-    let u = text(b, v, 2);
-    let mut used = o[0] as usize;
-    if row == 55 {
-        let r = sip_dialog_request(s, t, store, &mut used);
-        o[0] = used as u64;
-        return r;
-    }
-    if row == 56 {
-        let r = sip_dialog_response(s, t, u, low16(v[3]), text(b, v, 4), store, &mut used);
-        o[0] = used as u64;
-        return r;
-    }
-    if row == 57 {
-        let r = sip_dialog_terminate(s, t, u, store, &mut used);
-        o[0] = used as u64;
-        return r;
-    }
-    if row == 61 {
-        let r = sip_dialog_sweep(store, &mut used);
-        o[0] = used as u64;
-        return r;
-    }
-    let r = sip_dialog_rseq_remove(s, t, u, store, &mut used);
-    o[0] = used as u64;
-    r
-}
-
-// The same for a PRACK store.
-pub fn prack_used_only(
-    row: usize,
-    b: &[u8],
-    v: &[u64; 48],
-    store: &mut [u8],
-    o: &mut [u64; 8],
-) -> u8 {
-    let s = text(b, v, 0);
-    let mut used = o[0] as usize;
-    if row == 73 {
-        let r = sip_dialog_prack_register(
-            s,
-            low32(v[1]),
-            low32(v[2]),
-            low8(v[3]),
-            low16(v[4]),
-            v[5],
-            store,
-            &mut used,
-        );
-        o[0] = used as u64;
-        return r;
-    }
-    if row == 77 {
-        let r = sip_dialog_prack_remove_dialog(s, store, &mut used);
-        o[0] = used as u64;
-        return r;
-    }
-    let r = sip_dialog_prack_remove_pracked(s, low32(v[1]), store, &mut used);
-    o[0] = used as u64;
-    r
-}
-
-// The used length and a number of 64 bits.
-pub fn used_and_count(
-    row: usize,
-    b: &[u8],
-    v: &[u64; 48],
-    store: &mut [u8],
-    o: &mut [u64; 8],
-) -> u8 {
-    let s = text(b, v, 0);
-    let t = text(b, v, 1);
-    let u = text(b, v, 2);
-    let mut used = o[0] as usize;
-    let mut n = o[1];
-    if row == 54 {
-        let r = sip_dialog_put(s, store, &mut used, &mut n);
-        o[0] = used as u64;
-        o[1] = n;
-        return r;
-    }
-    if row == 59 {
-        let r = sip_dialog_set_session_expires(s, t, u, v[3], store, &mut used, &mut n);
-        o[0] = used as u64;
-        o[1] = n;
-        return r;
-    }
-    let r = sip_dialog_remove(s, t, u, store, &mut used, &mut n);
-    o[0] = used as u64;
-    o[1] = n;
-    r
-}
-
-// The used length and a number of 32 bits.
-pub fn used_and_number(
-    row: usize,
-    b: &[u8],
-    v: &[u64; 48],
-    store: &mut [u8],
-    o: &mut [u64; 8],
-) -> u8 {
-    let s = text(b, v, 0);
-    let t = text(b, v, 1);
-    let u = text(b, v, 2);
-    let mut used = o[0] as usize;
-    let mut n = low32(o[1]);
-    if row == 58 {
-        let r = sip_dialog_next_local_cseq(s, t, u, store, &mut used, &mut n);
-        o[0] = used as u64;
-        o[1] = n as u64;
-        return r;
-    }
-    if row == 68 {
-        let r = sip_dialog_rseq_next(s, t, u, low32(v[3]), store, &mut used, &mut n);
-        o[0] = used as u64;
-        o[1] = n as u64;
-        return r;
-    }
-    let r = sip_dialog_rseq_current(s, t, u, store, used, &mut n);
-    o[0] = used as u64;
-    o[1] = n as u64;
-    r
-}
-
-// Place and length.
-pub fn find(row: usize, b: &[u8], v: &[u64; 48], store: &[u8], o: &mut [u64; 8]) -> u8 {
-    let s = text(b, v, 0);
-    let used = o[0] as usize;
-    let mut place = o[1] as usize;
-    let mut length = o[2] as usize;
-    let r = match row {
-        62 => sip_dialog_get(
-            s,
-            text(b, v, 1),
-            text(b, v, 2),
-            store,
-            used,
-            &mut place,
-            &mut length,
+// A dialog store: what asks for a change of it.
+pub fn change(row: usize, i: Items<'_>, store: &mut [u8], o: &mut [u64; 8]) -> u8 {
+    let s = i.text(0);
+    let t = i.text(1);
+    let u = i.text(2);
+    match row {
+        54 => two(o, |used, n| sip_dialog_put(s, store, used, n)),
+        55 => one(o, |used| sip_dialog_request(s, t, store, used)),
+        56 => one(o, |used| {
+            sip_dialog_response(s, t, u, low16(i.value(3)), i.text(4), store, used)
+        }),
+        57 => one(o, |used| sip_dialog_terminate(s, t, u, store, used)),
+        58 => two(
+            o,
+            |used, n| sip_dialog_next_local_cseq(s, t, u, store, used, n),
         ),
-        63 => sip_dialog_find_by_call_id(s, store, used, &mut place, &mut length),
-        _ => sip_dialog_find_by_request(s, store, used, &mut place, &mut length),
-    };
-    o[1] = place as u64;
-    o[2] = length as u64;
-    r
-}
-
-// How many there are.
-pub fn count(row: usize, store: &[u8], o: &mut [u64; 8]) -> u8 {
-    let used = o[0] as usize;
-    let mut n = o[1] as usize;
-    let r = match row {
-        65 => sip_dialog_count(store, used, &mut n),
-        _ => sip_dialog_rseq_len(store, used, &mut n),
-    };
-    o[1] = n as u64;
-    r
-}
-
-// Yes or no.
-pub fn ask(row: usize, b: &[u8], v: &[u64; 48], store: &[u8], o: &mut [u64; 8]) -> u8 {
-    let used = o[0] as usize;
-    let mut n = low8(o[1]);
-    let r = match row {
-        72 => sip_dialog_rseq_is_empty(store, used, &mut n),
-        _ => sip_dialog_prack_is_pracked(text(b, v, 0), low32(v[1]), store, used, &mut n),
-    };
-    o[1] = n as u64;
-    r
-}
-
-// Lent output, and how many bytes are written there.
-pub fn listed(
-    row: usize,
-    b: &[u8],
-    v: &[u64; 48],
-    store: &mut [u8],
-    out: &mut [u8],
-    o: &mut [u64; 8],
-) -> u8 {
-    let mut used = o[0] as usize;
-    let mut n = o[1] as usize;
-    if row == 66 {
-        let r = sip_dialog_all_ids(store, used, out, &mut n);
-        o[0] = used as u64;
-        o[1] = n as u64;
-        return r;
+        59 => two(o, |used, least| {
+            sip_dialog_set_session_expires(s, t, u, i.value(3), store, used, least)
+        }),
+        60 => two(o, |used, n| sip_dialog_remove(s, t, u, store, used, n)),
+        _ => one(o, |used| sip_dialog_sweep(store, used)),
     }
-    let r = sip_dialog_prack_get_pending(text(b, v, 0), v[1], store, &mut used, out, &mut n);
-    o[0] = used as u64;
-    o[1] = n as u64;
-    r
 }
 
-// The used length, and a RAck's RSeq, CSeq and method.
-pub fn validate(b: &[u8], v: &[u64; 48], store: &mut [u8], o: &mut [u64; 8]) -> u8 {
-    let mut used = o[0] as usize;
-    let mut rseq = low32(o[1]);
-    let mut cseq = low32(o[2]);
-    let mut n = low8(o[3]);
-    let r = sip_dialog_prack_validate(
-        text(b, v, 0),
-        text(b, v, 1),
-        v[2],
-        store,
-        &mut used,
-        &mut rseq,
-        &mut cseq,
-        &mut n,
-    );
-    o[0] = used as u64;
-    o[1] = rseq as u64;
-    o[2] = cseq as u64;
-    o[3] = n as u64;
-    r
+// A dialog store that is read: the used length stays.
+pub fn read(row: usize, i: Items<'_>, store: &[u8], out: &mut [u8], o: &mut [u64; 8]) -> u8 {
+    let s = i.text(0);
+    match row {
+        62 => three(o, |used, place, length| {
+            sip_dialog_get(s, i.text(1), i.text(2), store, *used, place, length)
+        }),
+        63 => three(o, |used, place, length| {
+            sip_dialog_find_by_call_id(s, store, *used, place, length)
+        }),
+        64 => three(o, |used, place, length| {
+            sip_dialog_find_by_request(s, store, *used, place, length)
+        }),
+        65 => two(o, |used, n| sip_dialog_count(store, *used, n)),
+        _ => two(o, |used, n| sip_dialog_all_ids(store, *used, out, n)),
+    }
+}
+
+// An RSeq store.
+pub fn rseq(row: usize, i: Items<'_>, store: &mut [u8], o: &mut [u64; 8]) -> u8 {
+    let s = i.text(0);
+    let t = i.text(1);
+    let u = i.text(2);
+    match row {
+        68 => two(o, |used, n| {
+            sip_dialog_rseq_next(s, t, u, low32(i.value(3)), store, used, n)
+        }),
+        69 => two(
+            o,
+            |used, n| sip_dialog_rseq_current(s, t, u, store, *used, n),
+        ),
+        70 => one(o, |used| sip_dialog_rseq_remove(s, t, u, store, used)),
+        71 => two(o, |used, n| sip_dialog_rseq_len(store, *used, n)),
+        _ => two(o, |used, n| sip_dialog_rseq_is_empty(store, *used, n)),
+    }
+}
+
+// A PRACK store.
+pub fn prack(row: usize, i: Items<'_>, store: &mut [u8], out: &mut [u8], o: &mut [u64; 8]) -> u8 {
+    let s = i.text(0);
+    match row {
+        73 => one(o, |used| register(i, store, used)),
+        74 => four(o, |used, rseq, cseq, n| {
+            sip_dialog_prack_validate(s, i.text(1), i.value(2), store, used, rseq, cseq, n)
+        }),
+        75 => two(o, |used, n| {
+            sip_dialog_prack_is_pracked(s, low32(i.value(1)), store, *used, n)
+        }),
+        76 => two(o, |used, n| {
+            sip_dialog_prack_get_pending(s, i.value(1), store, used, out, n)
+        }),
+        77 => one(o, |used| sip_dialog_prack_remove_dialog(s, store, used)),
+        _ => one(o, |used| {
+            sip_dialog_prack_remove_pracked(s, low32(i.value(1)), store, used)
+        }),
+    }
+}
+
+fn register(i: Items<'_>, store: &mut [u8], used: &mut usize) -> u8 {
+    let rseq = low32(i.value(1));
+    let cseq = low32(i.value(2));
+    let method = low8(i.value(3));
+    let code = low16(i.value(4));
+    sip_dialog_prack_register(i.text(0), rseq, cseq, method, code, i.value(5), store, used)
 }
 
 // A run of verdicts.
-pub fn verdicts(row: usize, v: &[u64; 48], store: &mut [u8], o: &mut [u64; 8]) -> u8 {
-    let mut used = o[0] as usize;
-    if row == 82 {
-        let r = sip_dialog_add_verdict(v[0], low8(v[1]), store, &mut used);
-        o[0] = used as u64;
-        return r;
+pub fn verdicts(row: usize, i: Items<'_>, store: &mut [u8], o: &mut [u64; 8]) -> u8 {
+    match row {
+        82 => one(o, |used| {
+            sip_dialog_add_verdict(i.value(0), low8(i.value(1)), store, used)
+        }),
+        _ => four(o, |used, refusals, found, start| {
+            sip_dialog_worst_minute(store, *used, refusals, found, start)
+        }),
     }
-    let mut refusals = o[1] as usize;
-    let mut found = low8(o[2]);
-    let mut start = o[3];
-    let r = sip_dialog_worst_minute(store, used, &mut refusals, &mut found, &mut start);
-    o[1] = refusals as u64;
-    o[2] = found as u64;
-    o[3] = start;
-    r
 }

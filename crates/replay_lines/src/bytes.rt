@@ -1,4 +1,5 @@
 // Parts of texts, copies into them, and numbers cut to a width. Each is total: what lies outside is passed over.
+ghost use Rattle.std.specs.Prelude.{◌≡◌, ◌%◌};
 
 // At most n items from a place on.
 pub fn part<T>(s: &[T], from: usize, n: usize) -> &[T] {
@@ -26,18 +27,20 @@ pub fn write_digits(n: u64, out: &mut [u8], at: usize, end: usize) {
     }
 }
 
-pub fn low8(n: u64) -> u8 {
+pub fn low8(n: u64) -> u8
+    ensures { result ≡ n % 256 }
+{
     (n % 256) as u8
 }
 
-pub fn low16(n: u64) -> u16 {
+pub fn low16(n: u64) -> u16
+    ensures { result ≡ n % 65536 }
+{
     (n % 65536) as u16
 }
 
-pub fn low32(n: u64) -> u32 {
+pub fn low32(n: u64) -> u32
+    ensures { result ≡ n % 4294967296 }
+{
     (n % 4294967296) as u32
-}
-
-pub fn flag(b: bool) -> u64 {
-    b as u64
 }

@@ -3,9 +3,11 @@
 
 mod bytes;
 mod items;
+mod outs;
 mod rows;
 mod texts;
 
-pub use bytes::{copy_at, flag, low8, low16, low32, part, write_digits};
-pub use items::{read_items, text, value};
-pub use rows::{Row, numbers_behind, place_of, row_at, row_of, shape_fits};
+pub use bytes::{copy_at, low8, low16, low32, part, write_digits};
+pub use items::{Item, Items, read_items};
+pub use outs::{Number, four, one, six, three, two};
+pub use rows::{Row, kinds_are, numbers_behind, place_of, row_at, row_of, shape_fits};

@@ -1,4 +1,7 @@
 // The rows at the head of the list: an operation's name, a blank, and the letters of its items. Its number is its place among the rows.
+ghost use Rattle.std.specs.Prelude.{◌≡◌, IfSome, true, length};
+
+use crate::items::{Item, Items};
 
 #[derive(Clone, Copy)]
 pub struct Row<'a> {
@@ -19,7 +22,9 @@ pub fn row_at(head: &[u8], number: usize) -> Option<Row<'_>> {
 }
 
 // The row of a name, and its number.
-pub fn row_of<'a>(head: &'a [u8], name: &[u8]) -> Option<(usize, Row<'a>)> {
+pub fn row_of<'a>(head: &'a [u8], name: &[u8]) -> Option<(usize, Row<'a>)>
+    ensures { IfSome result (λ p. p.1.name.now ≡ name.now) }
+{
     for (number, line) in head.split(|b| *b == b'\n').enumerate() {
         let row = read_row(line)?;
         if row.name == name {
@@ -29,24 +34,26 @@ pub fn row_of<'a>(head: &'a [u8], name: &[u8]) -> Option<(usize, Row<'a>)> {
     None
 }
 
-// Whether the kinds of a line's items are those of a row's shape, `o` for a text that is lent to be written; a store's change may follow them.
-pub fn shape_fits(shape: &[u8], letters: &[u8]) -> bool {
-    let Some((own, more)) = letters.split_at_checked(shape.len()) else {
+// Whether a line's items are of the kinds of a row's shape, `o` for a text that is lent to be written; a store's change may follow them.
+pub fn shape_fits(shape: &[u8], items: Items<'_>) -> bool {
+    let Some((own, more)) = items.list.split_at_checked(shape.len()) else {
         return false;
     };
-    let fits = own
-        .iter()
-        .zip(shape)
-        .all(|(&kind, &b)| kind == b || (kind == b't' && b == b'o'));
-    fits && matches!(more, b"" | b"nnt")
+    let fits = own.iter().zip(shape).all(|(item, &b)| item.letter == b
+        || (item.letter == b't' && b == b'o'));
+    fits && (more.is_empty() || kinds_are(more, b"nnt"))
 }
 
-// Where a kind first stands in a shape; its length where it doesn't.
-pub fn place_of(shape: &[u8], letter: u8) -> usize {
-    shape
-        .iter()
-        .position(|&b| b == letter)
-        .unwrap_or(shape.len())
+// Whether items are of those kinds.
+pub fn kinds_are(list: &[Item], kinds: &[u8]) -> bool
+    ensures { result ≡ true → length list.now ≡ length kinds.now }
+{
+    list.len() == kinds.len() && list.iter().zip(kinds).all(|(item, &b)| item.letter == b)
+}
+
+// Where a kind first stands in a shape.
+pub fn place_of(shape: &[u8], letter: u8) -> Option<usize> {
+    shape.iter().position(|&b| b == letter)
 }
 
 // How many numbers stand in a shape behind a place.

@@ -43,9 +43,9 @@ fn repeat(bytes: &mut [u8], from: usize, to: usize, times: u64) -> Option<usize>
         return Some(from);
     }
     let end = n.checked_mul(times as usize)?.checked_add(from)?;
-    let written = bytes.get_mut(from..end)?;
-    for i in n..written.len() {
-        written[i] = written[i - n];
+    let (first, more) = bytes.get_mut(from..end)?.split_at_mut_checked(n)?;
+    for copy in more.chunks_exact_mut(n) {
+        copy.copy_from_slice(first);
     }
     Some(end)
 }

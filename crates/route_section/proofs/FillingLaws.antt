@@ -1,9 +1,9 @@
 -- The turns of the two loops of `fill_routes`. Assumes nothing.
 use Prim.Native.Nat.{ℕ, zero, suc, ◌+◌, ◌*◌, ◌≤◌, ◌<◌}
 use native.Mathlib.Omega.{arith}
-use mathlib.Core.Path.{◌≡◌, refl, sym, ap, subst, ◌∙◌}
+use mathlib.Core.Path.{◌≡◌, refl, sym, ap, ◌∙◌}
 use mathlib.Core.Bool.{Bool, false}
-use mathlib.Core.List.{List, [], ◌∷◌, ◌++◌, map}
+use mathlib.Core.List.{List, [], ◌∷◌, ◌++◌}
 use lib.ListN.{length}
 use lib.Dec.{leb}
 use borrow.Author.Tests.{le-leb, lt-leb}
@@ -31,7 +31,7 @@ use Rattle.route_set.specs.Elements.{elements_left}
 use Rattle.route_set.specs.Scan.{element_from}
 use Rattle.route_set.proofs.WalkLaws.{Told, part_told, part_none}
 use Rattle.route_set.proofs.ScanLaws.{no_unread, is_long, is_route, ahead, elements_among}
-use Rattle.route_section.specs.Filling.{Filling, place_for, text_put, with_text, fill_element, filled, Answered, Bounded}
+use Rattle.route_section.specs.Filling.{Filling, place_for, text_put, with_text, fill_element, filled, Answered}
 
 -- ---- one text
 
@@ -47,9 +47,9 @@ module _ (b : ℕ) (skipped : Result Filling Refusal) (more : List ℕ → Resul
   by_unread None q = refl
   by_unread (Some r) q = absurd (no_unread (over_estimate rust_limits r.uri) (moved_piece b r.piece) q)
 
-  by_long : (o : Option ReadUri) (cause : Refusal) → element_from rust_limits b o ≡ Err cause → fill_element rust_limits o skipped more ≡ Err cause
+  by_long : (o : Option ReadUri) (cause : Refusal) → element_from rust_limits b o ≡ Err cause → fill_element rust_limits o skipped more ≡ Err UriTooLong
   by_long None cause q = absurd (let z : ◌≡◌ {A = ℕ} 0 1 = cc in omega arith)
-  by_long (Some r) cause q = let k = is_long (over_estimate rust_limits r.uri) (moved_piece b r.piece) cause q in rw (k.0, k.1)
+  by_long (Some r) cause q = let k = is_long (over_estimate rust_limits r.uri) (moved_piece b r.piece) cause q in rw k.0
 
   by_route : (o : Option ReadUri) (u : Piece) → element_from rust_limits b o ≡ Ok (Some u) → fill_element rust_limits o skipped more ≡ more u.text
   by_route None u q = absurd (let z : ◌≡◌ {A = ℕ} 0 1 = cc in omega arith)
@@ -67,7 +67,7 @@ module _ (reversed : Bool) (f : Filling) (es ms : List Piece) (p : Piece) (rest 
     unfolding filled
     fill_unread q = rw (e, lt-leb 50 f.count h) (by_unread p.place _ _ (header_uri p.text) q)
 
-    pub fill_long : (cause : Refusal) → element_from rust_limits p.place (header_uri p.text) ≡ Err cause → filled rust_limits reversed f (es ++ rest) ≡ Err cause
+    pub fill_long : (cause : Refusal) → element_from rust_limits p.place (header_uri p.text) ≡ Err cause → filled rust_limits reversed f (es ++ rest) ≡ Err UriTooLong
     unfolding filled
     fill_long cause q = rw (e, lt-leb 50 f.count h) (by_long p.place _ _ (header_uri p.text) cause q)
 
@@ -176,6 +176,3 @@ answered_held (Ok f) n k bytes r a e =
 pub answered_refused : (o : Result Filling Refusal) (cause : Refusal) (bytes : List ℕ) (r : Result (ℕ × ℕ) Refusal) → Answered o r bytes → r ≡ Err cause → o ≡ Err cause
 answered_refused (Err own) cause bytes r a e = let q : own ≡ cause = cc in ap Err q
 answered_refused (Ok f) cause bytes r a e = absurd (let z : ◌≡◌ {A = ℕ} 0 1 = cc a.0 in omega arith)
-
-pub bounded_held : (n k : ℕ) (r : Result (ℕ × ℕ) Refusal) → Bounded r → r ≡ Ok (n, k) → (n ≤ 50) × (k ≤ n * 8194)
-bounded_held n k r b e = (rw e at b)

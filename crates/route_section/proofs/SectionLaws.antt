@@ -13,6 +13,7 @@ use Rattle.limits.specs.Limits.{rust_limits}
 use Rattle.limits.specs.Outcome.{refuse_if, and_then}
 use Rattle.limits.specs.declared.Refusal.{Refusal}
 use Rattle.limits.specs.declared.Refusal.TheVariants.{UriTooLong}
+use Rattle.limits.proofs.Laws.{ok_pair}
 use Rattle.text.specs.Text.{Piece, moved_piece}
 use Rattle.uri.specs.SipUri.{over_estimate}
 use Rattle.uri.specs.HeaderUri.{ReadUri, header_uri}
@@ -85,6 +86,14 @@ section_none reversed (p ∷ ps) e = absurd (omega arith)
 pub section_size : (reversed : Bool) (ps : List Piece) → length (section_of (route_texts reversed ps)) ≡ length (section_of (route_texts false ps))
 section_size reversed [] = ap length (section_none reversed [] refl)
 section_size reversed (p ∷ ps) = ap length (section_filled reversed (p ∷ ps) (omega arith)) ∙ ap suc (order_long reversed (p ∷ ps)) ∙ sym (ap length (section_filled false (p ∷ ps) (omega arith)))
+
+-- what was measured is the size in either order
+pub measured_size : (reversed : Bool) (block : List ℕ) {count size : ℕ} → section_from (routes_of rust_limits block) ≡ Ok (count, size) → size ≡ length (section_in reversed (routes_of rust_limits block))
+measured_size reversed block {count} {size} e = by (routes_of rust_limits block) e
+  where
+    by : (o : Result (List Piece) Refusal) → section_from o ≡ Ok (count, size) → size ≡ length (section_in reversed o)
+    by (Err cause) h = absurd (let z : ◌≡◌ {A = ℕ} 0 1 = cc in omega arith)
+    by (Ok ps) h = sym (ok_pair h).1 ∙ sym (section_size reversed ps)
 
 -- ---- what is held after routes
 

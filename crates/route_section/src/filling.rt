@@ -4,6 +4,7 @@ ghost use Rattle.limits.specs.Limits.{rust_limits};
 ghost use Rattle.route_set.specs.Routes.{route_elements};
 ghost use Rattle.route_section.specs.Filling.{text_put, filled, Answered, Bounded};
 
+use crate::order::Order;
 use codec::write_text;
 use limits::{Limits, Refusal};
 use msg::Values;
@@ -11,14 +12,17 @@ use route_set::{Elements, read_element};
 
 // The routes of all Record-Route lines, their elements one after another: one met when 50 are held ends the whole reading at once, and so does
 // one that is too long.
-// Kept (5): as `route_set::route`, which takes a block and whether it is reversed from the C function.
-pub fn fill_routes(out: &mut [u8], block: &[u8], reversed: bool) -> Result<(usize, usize), Refusal>
+// Kept (2, 7): document 01 names the form of two loops that a 51st route leaves by a label, here and in `scan_routes` of route_set. One function of
+// both over a closure would have to say in its clauses what the closure holds after each element, which each loop says of its own numbers.
+// Kept (5): the clause asks for the length alone; a type of a checked block would need a second `check_block` that hands it out, and `.text` at each reading.
+pub fn fill_routes<O: Order>(out: &mut [u8], block: &[u8]) -> Result<(usize, usize), Refusal>
     requires { length block.now ≤ 8192 }
-    ensures answered { Answered (filled rust_limits reversed (record { count = 0; size = 0; bytes = out.old }) (route_elements block.now)) result out.new }
+    ensures answered { Answered (filled rust_limits O.reversed (record { count = 0; size = 0; bytes = out.old }) (route_elements block.now)) result out.new }
     ensures bounded { Bounded result }
 {
     let mut count = 0;
     let mut size = 0;
+    // Kept (1): a `for` hands out no value; a labelled block around both would, and document 01 has the loop left by its label.
     let mut full = false;
     'lines: for v in Values::of(block, b"Record-Route") {
         for e in Elements::of(v.text) {
@@ -26,8 +30,12 @@ pub fn fill_routes(out: &mut [u8], block: &[u8], reversed: bool) -> Result<(usiz
                 full = true;
                 break 'lines;
             }
-            if let Some(u) = read_element(e)? {
-                put_text(out, size, u.text, reversed);
+            // Kept (1): its one refusal has a line of its own, which a must-fail edit makes another; a `?` has none.
+            let Ok(route) = read_element(e) else {
+                return Err(Refusal::UriTooLong);
+            };
+            if let Some(u) = route {
+                put_text::<O>(out, size, u.text);
                 size += 2 + u.text.len();
                 count += 1;
             }
@@ -39,20 +47,15 @@ pub fn fill_routes(out: &mut [u8], block: &[u8], reversed: bool) -> Result<(usiz
     Ok((count, size))
 }
 
-// One text with its length bytes, if there is room for it: after those that are held, or, reversed, before them.
-// Kept (7): which side we are is known only when the program runs, so that a type for the order would move this test to each caller.
-fn put_text(out: &mut [u8], size: usize, t: &[u8], reversed: bool)
+// One text with its length bytes, if there is room for it.
+fn put_text<O: Order>(out: &mut [u8], size: usize, t: &[u8])
     requires { (length t.now ≤ 8192) × (size ≤ 500000) }
-    ensures { out.new ≡ text_put reversed size t.now out.old }
+    ensures { out.new ≡ text_put O.reversed size t.now out.old }
 {
     let k = 2 + t.len();
     if out.len() < 1 + size + k {
         return;
     }
-    if reversed {
-        let at = out.len() - size - k;
-        write_text(out, at, t);
-    } else {
-        write_text(out, 1 + size, t);
-    }
+    let at = O::place(out.len(), size, k);
+    write_text(out, at, t);
 }

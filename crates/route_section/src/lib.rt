@@ -11,6 +11,9 @@ use codec::write_byte;
 use limits::Refusal;
 
 mod filling;
+mod order;
+
+pub use order::{AsReceived, Order, Reversed};
 
 // The block of a peer's Record-Route lines, and what `measure_routes` answers of it: how many routes it gives, and how many bytes their section has.
 #[derive(Clone, Copy)]
@@ -21,25 +24,26 @@ pub struct PeerRoutes<'a> {
 }
 
 // How many routes the block gives, and how many bytes their section has, in either order.
+// Kept (5): the clause asks for the length alone; a type of a checked block would need a second `check_block` that hands it out, and `.text` at each reading.
 pub fn measure_routes(block: &[u8]) -> Result<(usize, usize), Refusal>
     requires { length block.now ≤ 8192 }
     ensures value { result ≡ section_from (routes_of rust_limits block.now) }
     ensures small { Small result }
 {
-    let (count, size) = fill_routes(&mut [], block, false)?;
+    let (count, size) = fill_routes::<AsReceived>(&mut [], block)?;
     if count == 0 {
         return Ok((0, 0));
     }
     Ok((count, 1 + size))
 }
 
-// The section over lent bytes that are as long as it is, its routes as received or reversed.
-// Kept (5): as `route_set::route`, which takes a block and whether it is reversed from the C function.
-pub fn write_routes(out: &mut [u8], block: &[u8], reversed: bool)
-    requires { (length block.now ≤ 8192) × (length out.old ≡ length (section_in reversed (routes_of rust_limits block.now))) }
-    ensures { out.new ≡ section_in reversed (routes_of rust_limits block.now) }
+// The section over lent bytes that are as long as it is, its routes in this order.
+// Kept (5): the clause asks for the length alone; a type of a checked block would need a second `check_block` that hands it out, and `.text` at each reading.
+pub fn write_routes<O: Order>(out: &mut [u8], block: &[u8])
+    requires { (length block.now ≤ 8192) × (length out.old ≡ length (section_in O.reversed (routes_of rust_limits block.now))) }
+    ensures { out.new ≡ section_in O.reversed (routes_of rust_limits block.now) }
 {
-    let Ok((count, _)) = fill_routes(out, block, reversed) else {
+    let Ok((count, _)) = fill_routes::<O>(out, block) else {
         return;
     };
     if 0 < count {

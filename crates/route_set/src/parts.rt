@@ -24,13 +24,7 @@ pub fn next_part(value: &[u8], from: usize) -> Option<(Span, usize)>
     for g in Segments::from(value, from, Comma {}) {
         let p = text::trim_span(g.text);
         if 0 < p.length {
-            return Some((
-                Span {
-                    start: g.place + p.start,
-                    length: p.length,
-                },
-                g.place + g.text.len() + 1,
-            ));
+            return Some((p.moved(g.place), g.place + g.text.len() + 1));
         }
     }
     None
@@ -71,22 +65,13 @@ fn part_length(s: &[u8]) -> usize
 fn is_cut(quoted: bool, depth: usize, b: u8) -> bool
     ensures { result ≡ is_cut quoted depth b }
 {
-    if b != 44 {
-        return false;
-    }
-    if quoted {
-        return false;
-    }
-    depth == 0
+    b == b',' && !quoted && depth == 0
 }
 
 fn quote_after(quoted: bool, b: u8) -> bool
     ensures { result ≡ quote_after quoted b }
 {
-    if b == 34 {
-        return !quoted;
-    }
-    quoted
+    if b == b'"' { !quoted } else { quoted }
 }
 
 fn depth_after(depth: usize, b: u8) -> usize
@@ -94,14 +79,9 @@ fn depth_after(depth: usize, b: u8) -> usize
     ensures value { result ≡ depth_after depth b }
     ensures upper_bound { result ≤ depth + 1 }
 {
-    if b == 60 {
-        return depth + 1;
+    match b {
+        b'<' => depth + 1,
+        b'>' => depth.saturating_sub(1),
+        _ => depth,
     }
-    if b == 62 {
-        if depth == 0 {
-            return 0;
-        }
-        return depth - 1;
-    }
-    depth
 }

@@ -31,17 +31,15 @@ pub fn find_contact(block: &[u8]) -> Option<Span>
 }
 
 // The URI of a line that was looked up.
-// Kept (5): the line is one of many that a table holds of the same block; a struct of both would be made at each call and taken apart in it.
+// Kept (5): a line is a value that definitions give (`found_of`, `table_of`); with its text in it, which is lent, it is none, and the table of the
+// definitions would be a second type beside `HeaderTable`.
 pub fn contact_at(block: &[u8], line: Option<(Span, usize)>) -> Option<Span>
     requires { end_of line ≤ length block.now }
     ensures { result ≡ contact_from (uri_in (value_at line block.now)) }
 {
     let (v, _) = line?;
     let (u, _) = uri::header_uri(v.text(block))?;
-    Some(Span {
-        start: v.start + u.start,
-        length: u.length,
-    })
+    Some(u.moved(v.start))
 }
 
 // How many routes the Record-Route lines give: 1, 2, then 7 or 8.
@@ -62,28 +60,28 @@ pub fn route(block: &[u8], reversed: bool, index: usize) -> Result<Option<Span>,
     if n <= index {
         return Ok(None);
     }
-    if reversed {
-        return nth_route(block, n - index - 1);
-    }
-    nth_route(block, index)
+    let at = if reversed { n - index - 1 } else { index };
+    Ok(nth_route(block, at))
 }
 
 // The route at an index, as received, where the routes up to it can be read.
-fn nth_route(block: &[u8], index: usize) -> Result<Option<Span>, Refusal>
-    ensures { result ≡ route_in (scan rust_limits index 0 (route_elements block.now)) }
+fn nth_route(block: &[u8], index: usize) -> Option<Span>
+    ensures { Ok result ≡ route_in (scan rust_limits index 0 (route_elements block.now)) }
 {
     match scan_routes(block, index) {
-        Ok((_, found)) => Ok(found),
-        Err(_) => Ok(None),
+        Ok((_, found)) => found,
+        Err(_) => None,
     }
 }
 
 // How many routes the Record-Route lines have up to the wanted one, and the wanted one, if they have it: an element met when 50 are held ends the
 // whole reading at once.
+// Kept (2, 7): document 01 names the form of these loops; `fill_routes` of route_section says why one function over a closure is no plainer.
 fn scan_routes(block: &[u8], wanted: usize) -> Result<(usize, Option<Span>), Refusal>
     ensures { result ≡ scan rust_limits wanted 0 (route_elements block.now) }
 {
     let mut held = 0;
+    // Kept (1): a `for` hands out no value; a labelled block around both would, and document 01 has the loop left by its label.
     let mut full = false;
     'lines: for v in Values::of(block, b"Record-Route") {
         for e in Elements::of(v.text) {

@@ -1,1 +1,1 @@
-pub mod RoutesLaws
+pub mod LentLaws

@@ -1,77 +1,87 @@
-// A record changed in its place in lent bytes, its numbers and its routes in one step: what a 2xx does that confirms an Early record. The caller
-// has read the record, has measured the routes, and has measured that the change fits.
+// A record's numbers and its routes in one step: what a 2xx gives that confirms an Early record.
 #![tactic(auto)]
 
-ghost use Rattle.std.specs.Prelude.{◌≡◌, true, ◌++◌, ◌+◌, ◌-◌, ◌≤◌, length, take};
-ghost use Rattle.edit.specs.Edit.{over, put_at, spliced};
+ghost use Rattle.std.specs.Prelude.{◌≡◌, true, [], ◌++◌, ◌+◌, List, Result};
+ghost use mathlib.Core.Path.{sym, ap, ◌∙◌};
+ghost use mathlib.Core.List.{append-nil};
+ghost use native.Mathlib.Omega.{arith};
+ghost use lib.ListN.{length-append};
+ghost use Rattle.limits.specs.declared.Refusal.{Refusal};
+ghost use Rattle.text.specs.Text.{Piece};
 ghost use Rattle.record.specs.NumbersForm.{meaning};
 ghost use Rattle.image_writer.specs.Parts.{numbers_bytes};
-ghost use Rattle.image_edit.specs.Changes.{changed};
-ghost use Rattle.image_edit.specs.Stands.{StandsAt};
-ghost use Rattle.route_section.specs.Section.{section_in};
+ghost use Rattle.image_writer.proofs.FieldLaws.{numbers_size_lem};
+ghost use Rattle.image_edit.proofs.RoutesLaws.{measured, routes_long};
+ghost use Rattle.route_section.specs.Section.{route_texts, section_in, section_of};
 ghost use Rattle.route_section.specs.Measured.{Measured, given_by};
 ghost use Rattle.routes_edit.specs.Rerouted.{renewed_by};
 
-use codec::{write_byte, write_two};
-use edit::move_tail;
-use image::either;
-use image_edit::{RecordPlace, new_map};
-use image_writer::{numbers_size, state_byte, write_numbers};
+use image::RecordAt;
+use image_edit::Tail;
+use image_writer::{numbers_size, write_numbers};
 use record::Numbers;
-use route_section::{PeerRoutes, write_routes};
+use route_section::{PeerRoutes, Reversed, write_routes};
 
-// Other numbers, the state among them, and the routes of a response's block, reversed. The new used length.
-// Kept (5): each call has its own numbers, so that a struct of bytes, place and numbers would be made for it alone.
-pub fn change_numbers_and_routes(
-    bytes: &mut [u8],
-    p: RecordPlace,
-    numbers: Numbers,
-    peer: PeerRoutes<'_>,
-) -> usize
-    requires stands { StandsAt bytes.old p }
-    requires measured { Measured peer }
-    requires bytes_in_bounds { length (changed (renewed_by (meaning numbers) (given_by peer)) p.at (take p.used bytes.old)) ≤ length bytes.old }
-    ensures value { result ≡ length (changed (renewed_by (meaning numbers) (given_by peer.entry)) p.at (take p.used bytes.old)) }
-    ensures bytes_after { bytes.new ≡ over (changed (renewed_by (meaning numbers) (given_by peer.entry)) p.at (take p.used bytes.old)) bytes.old }
-{
-    let r = p.record;
-    let ids = r.ids;
-    let uris = r.uris;
-    let state_at = r.state;
-    let map = new_map(numbers, ids, peer.count);
-    let secure = either(uris.local_secure, uris.remote_secure);
-    let state = state_byte(numbers, r.we_are_uac, secure);
-    let n = replace_sections(bytes, p, numbers, peer);
-    write_byte(bytes, state_at, state);
-    write_two(bytes, p.at, map);
-    n
+// What a record is given by the response that confirms it: its new numbers, the state among them, and the peer's routes, which were measured.
+#[derive(Clone, Copy)]
+pub struct Renewal<'a> {
+    pub numbers: Numbers,
+    pub peer: PeerRoutes<'a>,
+    pub ghost measured: { Measured peer },
 }
 
-// The numbers' section of the record and that of its routes replaced by those of these numbers and of the block's routes. The new used length.
-// Kept (5): each call has its own numbers, so that a struct of bytes, place and numbers would be made for it alone.
-fn replace_sections(bytes: &mut [u8], p: RecordPlace, x: Numbers, peer: PeerRoutes<'_>) -> usize
-    requires in_order { (p.record.uris.end ≤ p.record.end) × (p.record.end ≤ p.used) × (p.used ≤ length bytes.old) }
-    requires measured { Measured peer }
-    requires bytes_in_bounds { p.used - (p.record.end - p.record.uris.end) + (length (numbers_bytes (meaning x)) + peer.size) ≤ length bytes.old }
-    ensures value { result ≡ p.used - (p.record.end - p.record.uris.end) + (length (numbers_bytes (meaning x)) + peer.entry.size) }
-    ensures bytes_after { bytes.new ≡ over (spliced p.record.uris.end (p.record.end - p.record.uris.end) (numbers_bytes (meaning x) ++ section_in true (given_by peer.entry)) (take p.used bytes.old)) bytes.old }
-{
-    let r = p.record;
-    let uris = r.uris;
-    let at = uris.end;
-    let n = move_tail(bytes, p.used, at, r.end - at, numbers_size(x) + peer.size);
-    write_tail(bytes, at, x, peer);
-    n
-}
+// The numbers, and the routes of the block, reversed, behind them.
+impl Tail for Renewal<'_> {
+    ghost makes = { λ r. renewed_by (meaning r.numbers) (given_by r.peer) };
 
-// The section of these numbers at a place, and that of the block's routes, reversed, behind it.
-// Kept (5): each call has its own numbers, so that a struct of bytes, place and numbers would be made for it alone.
-pub fn write_tail(bytes: &mut [u8], at: usize, numbers: Numbers, peer: PeerRoutes<'_>)
-    requires measured { Measured peer }
-    requires size_in_bounds { at + (length (numbers_bytes (meaning numbers)) + peer.size) ≤ length bytes.old }
-    ensures { bytes.new ≡ put_at at (numbers_bytes (meaning numbers) ++ section_in true (given_by peer.entry)) bytes.old }
-{
-    let a = write_numbers(bytes, at, numbers);
-    let e = a + peer.size;
-    write_routes(&mut bytes[a..e], peer.block, true);
+    ghost values = { λ r. meaning r.numbers };
+
+    ghost routes = { λ r v. route_texts true (measured r.peer r.measured).pieces };
+
+    ghost section = { λ r. numbers_bytes (meaning r.numbers) ++ section_in true (given_by r.peer) };
+
+    ghost old = { λ v. numbers_bytes v.numbers ++ section_of v.routes };
+
+    ghost rest = { λ v. [] };
+
+    ghost ended = { λ r. r.end };
+
+    ghost counted = { λ r at. r.peer.count };
+
+    ghost made = { λ r v. ap (λ (o : Result (List Piece) Refusal). renewed_by (meaning r.numbers) o v) (measured r.peer r.measured).is };
+
+    ghost tail_is = { λ v. sym (append-nil (numbers_bytes v.numbers ++ section_of v.routes)) };
+
+    ghost new_tail = { λ r v. ap (λ (o : Result (List Piece) Refusal). numbers_bytes (meaning r.numbers) ++ section_in true o) (sym (measured r.peer r.measured).is) ∙ sym (append-nil (numbers_bytes (meaning r.numbers) ++ section_in true (given_by r.peer))) };
+
+    ghost end_is = { λ at v. Prim.omega (arith, numbers_size_lem v.numbers, routes_long v.routes, length-append (numbers_bytes v.numbers) (section_of v.routes)) };
+
+    ghost count_is = { λ r at v. (measured r.peer r.measured).count_is };
+
+    fn numbers(self) -> Numbers {
+        self.numbers
+    }
+
+    fn size(self) -> usize {
+        let peer = self.peer;
+        numbers_size(self.numbers) + peer.size
+    }
+
+    fn end(r: RecordAt) -> usize
+        ensures { result ≡ r.end }
+    {
+        r.end
+    }
+
+    fn count(self, _: RecordAt) -> usize {
+        let peer = self.peer;
+        peer.count
+    }
+
+    fn write(self, bytes: &mut [u8], at: usize) {
+        let peer = self.peer;
+        let a = write_numbers(bytes, at, self.numbers);
+        let e = a + peer.size;
+        write_routes::<Reversed>(&mut bytes[a..e], peer.block);
+    }
 }

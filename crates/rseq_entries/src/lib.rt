@@ -16,7 +16,7 @@ mod entries;
 pub use entries::EntryAt;
 
 // Of lent bytes of which so many are used: the entry of an identifier, or the place where it would go; 3.
-// Kept (5, 6): a C caller lends bytes and says how many are used.
+// Kept (5, 6): lent bytes and how many are used, as its callers have them, which C calls; that the used length lies within is checked here.
 pub fn find(id: IdTexts<'_>, bytes: &[u8], used: usize) -> Result<Result<EntryAt, usize>, Refusal>
     ensures { result ≡ slot_for (key_of_ident (ident_of id.entry)) bytes.now used }
 {

@@ -9,10 +9,11 @@ use lib.ListN.{length, take}
 use lib.Dec.{ltb}
 use borrow.Author.Tests.{ltb-false}
 use Rattle.std.specs.Option.{ok_or}
-use Rattle.std.specs.Prelude.{Err, None, Ok, Option, Result, Some}
+use Rattle.std.specs.Prelude.{MatchResult, Err, None, Ok, Option, Result, Some}
 use Rattle.limits.specs.Limits.{rust_limits}
 use Rattle.limits.specs.Outcome.{cause_if, or_else, check_of}
 use Rattle.limits.specs.declared.Refusal.{Refusal}
+use Rattle.limits.proofs.Laws.{passed, stopped}
 use Rattle.limits.specs.declared.Refusal.TheVariants.{BadStore, NotFound, TextTooLong}
 use Rattle.text.specs.Answers.{length_cause}
 use Rattle.edit.specs.Edit.{over, put_at, spliced}
@@ -34,14 +35,6 @@ use Rattle.rseq_entries.proofs.SlotLaws.{holds, lacks, unreadable}
 use Rattle.rseq_manager.proofs.OperationLaws.{accepted, by_arguments, by_store, by_keeping, current_held, current_free, remove_held, remove_free, next_held, next_free, left_by}
 
 -- ---- the arguments
-
-pub passed : (o : Option Refusal) → check_of o ≡ Ok tt → o ≡ None
-passed None e = refl
-passed (Some x) e = absurd (let z : ◌≡◌ {A = ℕ} 0 1 = cc in omega arith)
-
-turned : (o : Option Refusal) {x : Refusal} → check_of o ≡ Err x → o ≡ Some x
-turned None e = absurd (let z : ◌≡◌ {A = ℕ} 0 1 = cc in omega arith)
-turned (Some y) {x} e = let z : y ≡ x = cc in ap Some z
 
 none_first : (o p : Option Refusal) → or_else o p ≡ None → (o ≡ None) × (p ≡ None)
 none_first None p e = (refl, e)
@@ -93,6 +86,14 @@ DoneCurrent bytes used l r = (r ≡ current_of l.answer) × ((bytes ≡ l.bytes)
 abbrev DoneLen : List ℕ → ℕ → Left ℕ → Result ℕ Refusal → Type 0
 DoneLen bytes used l r = (r ≡ counted_of l.answer) × ((bytes ≡ l.bytes) × (used ≡ l.used))
 
+-- ---- what is absent is refused
+
+pub refused_by : {P : Type 0} (o : Option P) (x : Refusal) {cause : Refusal} {r : Result P Refusal} → r ≡ ok_or o x → r ≡ Err cause → cause ≡ x
+refused_by None x e w = cc
+refused_by {P} (Some v) x {cause} e w =
+    let q : ◌≡◌ {A = Result P Refusal} (Err cause) (Ok v) = sym w ∙ e in
+    absurd (let z : ◌≡◌ {A = ℕ} 0 1 = cc in omega arith)
+
 module _ (i : Ident) (bytes : List ℕ) (used : ℕ) (b : Bytes bytes) where
   -- ---- next_rseq
 
@@ -102,7 +103,7 @@ module _ (i : Ident) (bytes : List ℕ) (used : ℕ) (b : Bytes bytes) where
 
     pub next_refused : {x : Refusal} → check_of (ident_cause rust_limits i) ≡ Err x → DoneNext used next_left (Err x) bytes
     next_refused {x} e =
-        subst (λ (l : Left ℕ). DoneNext used l (Err x) bytes) (sym (by_arguments rust_limits bytes used (next i n) (next_cause i n (turned (ident_cause rust_limits i) e)))) (refl, (refl, refl))
+        subst (λ (l : Left ℕ). DoneNext used l (Err x) bytes) (sym (by_arguments rust_limits bytes used (next i n) (next_cause i n (stopped (ident_cause rust_limits i) e)))) (refl, (refl, refl))
 
     module _ (p : check_of (ident_cause rust_limits i) ≡ Ok tt) where
       next_clear : action_cause rust_limits (next i n) ≡ None
@@ -145,7 +146,7 @@ module _ (i : Ident) (bytes : List ℕ) (used : ℕ) (b : Bytes bytes) where
 
   pub current_refused : {x : Refusal} → check_of (ident_cause rust_limits i) ≡ Err x → DoneCurrent bytes used current_left (Err x)
   current_refused {x} e =
-      subst (λ (l : Left ℕ). DoneCurrent bytes used l (Err x)) (sym (by_arguments rust_limits bytes used (current i) (current_cause i 0 (turned (ident_cause rust_limits i) e)))) (refl, (refl, refl))
+      subst (λ (l : Left ℕ). DoneCurrent bytes used l (Err x)) (sym (by_arguments rust_limits bytes used (current i) (current_cause i 0 (stopped (ident_cause rust_limits i) e)))) (refl, (refl, refl))
 
   module _ (p : check_of (ident_cause rust_limits i) ≡ Ok tt) where
     current_clear : action_cause rust_limits (current i) ≡ None
@@ -165,6 +166,17 @@ module _ (i : Ident) (bytes : List ℕ) (used : ℕ) (b : Bytes bytes) where
     current_none s =
         subst (λ (l : Left ℕ). DoneCurrent bytes used l (Err NotFound)) (sym (current_free bytes used b i (lacks (key_of_ident i) bytes used s) rust_limits current_clear)) (refl, (refl, refl))
 
+    -- the slot asked for its entry
+    pub current_held_there : (s : Result EntryAt ℕ) → slot_for (key_of_ident i) bytes used ≡ Ok s → {m : Result EntryAt Refusal} {e : EntryAt} → MatchResult s (λ x. m ≡ Ok x) (λ _. m ≡ Err NotFound) → m ≡ Ok e
+        → DoneCurrent bytes used current_left (Ok e.number)
+    current_held_there (Ok x) q {m} {e} n w = let z : x ≡ e = cc in subst (λ (y : EntryAt). DoneCurrent bytes used current_left (Ok y.number)) z (current_is q)
+    current_held_there (Err at) q n w = absurd (let z : ◌≡◌ {A = ℕ} 0 1 = cc in omega arith)
+
+    pub current_lacking : (s : Result EntryAt ℕ) → slot_for (key_of_ident i) bytes used ≡ Ok s → {m : Result EntryAt Refusal} {x : Refusal} → MatchResult s (λ e. m ≡ Ok e) (λ _. m ≡ Err NotFound) → m ≡ Err x
+        → DoneCurrent bytes used current_left (Err x)
+    current_lacking (Ok e) q n w = absurd (let z : ◌≡◌ {A = ℕ} 0 1 = cc in omega arith)
+    current_lacking (Err at) q {m} {x} n w = let z : NotFound ≡ x = cc in subst (λ (y : Refusal). DoneCurrent bytes used current_left (Err y)) z (current_none q)
+
   -- ---- remove
 
   abbrev remove_left : Left ℕ
@@ -172,7 +184,7 @@ module _ (i : Ident) (bytes : List ℕ) (used : ℕ) (b : Bytes bytes) where
 
   pub remove_refused : {x : Refusal} → check_of (ident_cause rust_limits i) ≡ Err x → DoneRemove used remove_left (Err x) bytes
   remove_refused {x} e =
-      subst (λ (l : Left ℕ). DoneRemove used l (Err x) bytes) (sym (by_arguments rust_limits bytes used (remove i) (remove_cause i 0 (turned (ident_cause rust_limits i) e)))) (refl, (refl, refl))
+      subst (λ (l : Left ℕ). DoneRemove used l (Err x) bytes) (sym (by_arguments rust_limits bytes used (remove i) (remove_cause i 0 (stopped (ident_cause rust_limits i) e)))) (refl, (refl, refl))
 
   module _ (p : check_of (ident_cause rust_limits i) ≡ Ok tt) where
     remove_clear : action_cause rust_limits (remove i) ≡ None

@@ -48,10 +48,8 @@ pub fn current_rseq(id: IdTexts<'_>, bytes: &[u8], used: usize) -> Result<u32, R
     ensures used_value { used ≡ (ran rust_limits (current (ident_of id.entry)) bytes.now used).used }
 {
     id.check_lengths()?;
-    match find(id, bytes, used)? {
-        Ok(e) => Ok(e.number),
-        Err(_) => Err(Refusal::NotFound),
-    }
+    let entry = find(id, bytes, used)?.map_err(|_| Refusal::NotFound)?;
+    Ok(entry.number)
 }
 
 // RSeqManager::remove: 1, 3. The bytes behind the entry move over it; where there is none, nothing changes. The new used length.
@@ -78,10 +76,8 @@ pub fn len(bytes: &[u8], used: usize) -> Result<usize, Refusal>
     ensures bytes_value { bytes.now ≡ (ran rust_limits len bytes.now used).bytes }
     ensures used_value { used ≡ (ran rust_limits len bytes.now used).used }
 {
-    if bytes.len() < used {
-        return Err(Refusal::BadStore);
-    }
-    count_entries(&bytes[..used]).ok_or(Refusal::BadStore)
+    let held = bytes.get(..used).ok_or(Refusal::BadStore)?;
+    count_entries(held).ok_or(Refusal::BadStore)
 }
 
 // RSeqManager::is_empty: 3. Whether no dialog has a number.

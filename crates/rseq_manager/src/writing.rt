@@ -7,11 +7,12 @@ ghost use Rattle.rseq_entries.specs.Entries.{entry_form};
 ghost use Rattle.rseq_manager.specs.RSeq.{numbered};
 ghost use Rattle.rseq_manager.specs.Answers.{numbered_from};
 
+use codec::LENGTH_SIZE;
 use dialog_id::IdTexts;
 use limits::Refusal;
 
 // A new entry put in at a place of the used bytes: 18. The number, and the new used length.
-// Kept (5, 6): a C caller lends bytes and says how many are used.
+// Kept (5, 6): the bytes past the used ones are room for the entry.
 pub fn insert(
     id: IdTexts<'_>,
     number: u32,
@@ -24,7 +25,9 @@ pub fn insert(
     ensures value { result ≡ numbered_from number (fitted (length bytes.old) (spliced at 0 (entry_form.write (numbered (ident_of id.entry) number)) (take used bytes.old))) }
     ensures bytes_after { bytes.new ≡ leaves (fitted (length bytes.old) (spliced at 0 (entry_form.write (numbered (ident_of id.entry) number)) (take used bytes.old))) bytes.old }
 {
-    let size = 2 + id.call_id.len() + (2 + id.local_tag.len()) + (2 + id.remote_tag.len()) + 4;
+    let lengths = LENGTH_SIZE * 3;
+    let texts = id.call_id.len() + id.local_tag.len() + id.remote_tag.len();
+    let size = lengths + texts + 4;
     if bytes.len() - used < size {
         return Err(Refusal::NoRoom);
     }

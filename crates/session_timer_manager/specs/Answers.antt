@@ -1,5 +1,6 @@
 -- The arguments and answers of this crate's functions as values of its enums. Document 01, "The shape of each place": a refusal's number and value are those of
 -- its cause, `number_of` and `least_of` of the crate `limits`; an accepted call's number is 0.
+use denote.Ref.{Bor}
 use Rattle.limits.specs.declared.Refusal.{Refusal}
 use Rattle.std.specs.Prelude.{ℕ, Bool, cond, List, Err, None, Ok, Option, Result, Some}
 
@@ -15,6 +16,10 @@ seconds_of None = None
 
 abbrev pub text_if : Bool → List ℕ → Option (List ℕ)
 text_if present text = cond present (Some text) None
+
+abbrev pub text_in : Option (Bor (List ℕ)) → Option (List ℕ)
+text_in (Some text) = Some text.now
+text_in None = None
 
 -- ---- answers
 

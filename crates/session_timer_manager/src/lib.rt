@@ -2,9 +2,9 @@
 // Times are whole nanoseconds where nothing is said of seconds.
 #![tactic(auto)]
 
-ghost use Rattle.std.specs.Prelude.{◌≡◌, min, max};
+ghost use Rattle.std.specs.Prelude.{◌≡◌};
 ghost use Rattle.limits.specs.Limits.{rust_limits};
-ghost use Rattle.session_timer_manager.specs.Answers.{time_of, seconds_of, text_if, interval_from, role_from};
+ghost use Rattle.session_timer_manager.specs.Answers.{time_of, seconds_of, text_in, interval_from, role_from};
 ghost use Rattle.session_timer_manager.specs.Intervals.{minimum_or_default, validated, joint_minimum, negotiated, non_refresher_expiry, refresh_time, refresh_due};
 ghost use Rattle.session_timer_manager.specs.Refresher.{we_refresh, refresher_role};
 
@@ -60,18 +60,16 @@ pub fn negotiate_session_expires(
     Ok(requested.min(preferred.max(least)))
 }
 
-// Whether we refresh the session, by the refresher parameter, whose bytes count only if it is present.
-// Kept (7): a C caller says by a flag whether there is a parameter and lends bytes in either case; `sip_dialog` hands on both.
-pub fn determine_refresher_role(present: bool, param: &[u8], is_uac: bool) -> Result<bool, Refusal>
-    ensures { result ≡ role_from (refresher_role rust_limits (text_if present param.now) is_uac) }
+// Whether we refresh the session, by the refresher parameter, if there is one.
+#[tactic(auto, unfolding(crate::specs::Refresher::refresher_role))]
+pub fn determine_refresher_role(param: Option<&[u8]>, is_uac: bool) -> Result<bool, Refusal>
+    ensures { result ≡ role_from (refresher_role rust_limits (text_in param.entry) is_uac) }
 {
-    if !present {
+    let Some(given) = param else {
         return Ok(is_uac);
-    }
-    if Limits::MAX_TEXT_LENGTH < param.len() {
-        return Err(Refusal::TextTooLong);
-    }
-    Ok(we_refresh(param, is_uac))
+    };
+    text::check_length(given)?;
+    Ok(we_refresh(given, is_uac))
 }
 
 // lib.rs's `Dialog::needs_refresh`: whether two thirds of the interval have passed. Without an interval, no.
@@ -100,21 +98,13 @@ fn minimum_or_default(minimum: Option<u64>) -> u64
 fn joint_minimum(local: u64, remote: Option<u64>) -> u64
     ensures { result ≡ joint_minimum local (time_of remote) }
 {
-    match remote {
-        Some(given) => local.max(given),
-        None => local,
-    }
+    remote.map_or(local, |given| local.max(given))
 }
 
 // Whether we refresh by this parameter. `uac` and `UAC` need no test: they say what holds for any other text too.
 fn we_refresh(param: &[u8], is_uac: bool) -> bool
     ensures { result ≡ we_refresh param.now is_uac }
 {
-    if text::equal_text(param, b"uas") {
-        return !is_uac;
-    }
-    if text::equal_text(param, b"UAS") {
-        return !is_uac;
-    }
-    is_uac
+    let uas = text::equal_text(param, b"uas") || text::equal_text(param, b"UAS");
+    if uas { !is_uac } else { is_uac }
 }

@@ -1,6 +1,8 @@
 // Header blocks: their lines and the look-up of names.
+use limits::Refusal;
 use sheet_lines::{ask, ask_block, end_line, show_check, show_lookup, show_next};
 use std::io;
+use text::Span;
 
 // No example has more.
 const MOST_ANSWERS: usize = 10;
@@ -206,6 +208,7 @@ fn lists(rt: &impl Print) -> io::Result<()> {
     elements(rt, b"01 Routes", b" , ,")
 }
 
+// Kept (5): the place is a word of the line that is printed; a struct of it and `rt` would be made anew for each line.
 fn block(rt: &impl Print, place: &[u8], b: &[u8]) -> io::Result<()> {
     ask_block(rt, place, b"check", b)?;
     show_check(rt, msg::check_block(b))?;
@@ -221,35 +224,31 @@ fn value(rt: &impl Print, place: &[u8], name: &[u8], b: &[u8]) -> io::Result<()>
 // The answers for all lines of a name.
 fn lines(rt: &impl Print, place: &[u8], name: &[u8], b: &[u8]) -> io::Result<()> {
     ask_block(rt, place, name, b)?;
-    show_lines(rt, name, b)?;
+    show_all(rt, b, |from| msg::next_header(b, name, from))?;
     end_line(rt)
-}
-
-fn show_lines(rt: &impl Print, name: &[u8], b: &[u8]) -> io::Result<()> {
-    let mut from = 0;
-    for _ in 0..MOST_ANSWERS {
-        let Some(next) = show_next(rt, b, msg::next_header(b, name, from))? else {
-            break;
-        };
-        from = next;
-    }
-    Ok(())
 }
 
 // The answers for all elements of a value.
 fn elements(rt: &impl Print, place: &[u8], v: &[u8]) -> io::Result<()> {
     ask(rt, place, b"elements of ", v)?;
-    show_elements(rt, v)?;
+    show_all(rt, v, |from| route_set::next_header_value(v, from))?;
     end_line(rt)
 }
 
-fn show_elements(rt: &impl Print, v: &[u8]) -> io::Result<()> {
+// Each of several texts of s, given how the next from a place on is found.
+fn show_all<F: Fn(usize) -> Result<Option<(Span, usize)>, Refusal>>(
+    rt: &impl Print,
+    s: &[u8],
+    next: F,
+) -> io::Result<()>
+    requires { F.IsAlwaysCallable next }
+{
     let mut from = 0;
     for _ in 0..MOST_ANSWERS {
-        let Some(next) = show_next(rt, v, route_set::next_header_value(v, from))? else {
+        let Some(after) = show_next(rt, s, next(from))? else {
             break;
         };
-        from = next;
+        from = after;
     }
     Ok(())
 }

@@ -90,6 +90,7 @@ fn session_timer(rt: &impl Print) -> io::Result<()> {
 }
 
 // From is the local side of a request.
+// Kept (5): the place is a word of the line that is printed; a struct of it and `rt` would be made anew for each line.
 fn request(rt: &impl Print, place: &[u8], message: &[u8], block: &[u8]) -> io::Result<()> {
     ask(rt, place, message, b", identifier")?;
     show_id(rt, block, DialogId::from_request(block))?;

@@ -32,6 +32,7 @@ pub fn identifiers(rt: &impl Print) -> io::Result<()> {
     tag_of(rt, &long[..129])
 }
 
+// Kept (5): the place is a word of the line that is printed; a struct of it and `rt` would be made anew for each line.
 fn identifier(
     rt: &impl Print,
     place: &[u8],

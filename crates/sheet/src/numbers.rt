@@ -27,6 +27,7 @@ pub fn numbers(rt: &impl Print) -> io::Result<()> {
     cseq(rt, after_20_16, b"Subject: no CSeq\r\n")
 }
 
+// Kept (5): the place is a word of the line that is printed; a struct of it and `rt` would be made anew for each line.
 fn number(rt: &impl Print, place: &[u8], s: &[u8]) -> io::Result<()> {
     ask(rt, place, b"number ", s)?;
     show_number(rt, text::read_u32(s))?;

@@ -1,6 +1,8 @@
 // Texts and blocks of 8,192 bytes, which are read, and of 8,193, which are not.
+use limits::Refusal;
 use sheet_lines::{ask_size, end_line, show, show_check, show_expires, show_refusal, show_size};
 use std::io;
+use text::Span;
 
 pub fn sizes(rt: &impl Print) -> io::Result<()> {
     let mut block = [b'a'; 8193];
@@ -44,43 +46,19 @@ fn block_of(rt: &impl Print, block: &[u8]) -> io::Result<()> {
     show_check(rt, msg::check_block(block))?;
     end_line(rt)?;
     ask_size(rt, b"01 sheet", b"value in a block", block)?;
-    match msg::header(block, b"a") {
-        Ok(Some(part)) => {
-            show_size(rt, part)?;
-        }
-        Ok(None) => {
-            show(rt, b"nothing")?;
-        }
-        Err(x) => {
-            show_refusal(rt, x)?;
-        }
-    }
+    show_sized(rt, msg::header(block, b"a"))?;
     end_line(rt)
 }
 
 fn tag_of(rt: &impl Print, value: &[u8]) -> io::Result<()> {
     ask_size(rt, b"01 sheet", b"tag in a value", value)?;
-    match headers::extract_tag(value) {
-        Ok(part) => {
-            show_size(rt, part)?;
-        }
-        Err(x) => {
-            show_refusal(rt, x)?;
-        }
-    }
+    show_sized(rt, headers::extract_tag(value).map(Some))?;
     end_line(rt)
 }
 
 fn uri_of(rt: &impl Print, s: &[u8]) -> io::Result<()> {
     ask_size(rt, b"01 sheet", b"host in a URI", s)?;
-    match uri::sip_uri(s) {
-        Ok(parts) => {
-            show_size(rt, parts.host)?;
-        }
-        Err(x) => {
-            show_refusal(rt, x)?;
-        }
-    }
+    show_sized(rt, uri::sip_uri(s).map(|parts| Some(parts.host)))?;
     end_line(rt)
 }
 
@@ -88,4 +66,13 @@ fn expires_of(rt: &impl Print, value: &[u8]) -> io::Result<()> {
     ask_size(rt, b"01 sheet", b"Session-Expires", value)?;
     show_expires(rt, headers::parse_session_expires(value))?;
     end_line(rt)
+}
+
+// How long the part is that was found, and where it stands.
+fn show_sized(rt: &impl Print, l: Result<Option<Span>, Refusal>) -> io::Result<()> {
+    match l {
+        Ok(Some(part)) => show_size(rt, part),
+        Ok(None) => show(rt, b"nothing"),
+        Err(x) => show_refusal(rt, x),
+    }
 }

@@ -19,6 +19,7 @@ pub fn statuses(rt: &impl Print) -> io::Result<()> {
     class(rt, after_7_2, 700)
 }
 
+// Kept (5): the place is a word of the line that is printed; a struct of it and `rt` would be made anew for each line.
 fn class(rt: &impl Print, place: &[u8], code: u16) -> io::Result<()> {
     ask_number(rt, place, b"class of ", code as u64)?;
     show_class(rt, code)?;

@@ -1,9 +1,9 @@
 // Each call on one record, and its line.
-use crate::records::{show_cause, show_record};
+use crate::records::show_record;
 use creation_checks::NewDialog;
 use limits::Refusal;
 use sheet_lines::{
-    Held, ask, ask_block, ask_number, end_line, show, show_block, show_time, show_yes,
+    Held, ask, ask_block, ask_number, end_line, show, show_block, show_cause, show_time, show_yes,
 };
 use std::io;
 
@@ -11,6 +11,8 @@ use std::io;
 pub type Record = Held<512>;
 
 // A record by an INVITE that we sent.
+// Kept (2, 5): `uas` differs in a word and in the function that is called, and one of both would be given the two at each of its calls; the place is a word of the
+// line that is printed; a struct of it and `rt` would be made anew for each line.
 pub fn uac(
     rt: &impl Print,
     place: &[u8],
@@ -127,6 +129,7 @@ fn answered(rt: &impl Print, status: u16, block: &[u8], record: &mut Record) -> 
     updated(rt, answer, record)
 }
 
+// Kept (2): `terminate` differs in a word and in the function that is called, and one of both would be given the two at each of its calls.
 pub fn confirm(rt: &impl Print, place: &[u8], record: &mut Record) -> io::Result<()> {
     ask(rt, place, b"confirm", b"")?;
     let answer = dialog_changes::confirm(&mut record.bytes, record.used);

@@ -3,9 +3,8 @@
 use dialog::{image_route, read_image};
 use headers::Refresher;
 use image::UrisAt;
-use limits::Refusal;
 use record::{Numbers, State};
-use sheet_lines::{show, show_bracketed, show_part, show_refusal, show_seconds};
+use sheet_lines::{show, show_bracketed, show_part};
 use std::io;
 
 pub fn show_record(rt: &impl Print, image: &[u8]) -> io::Result<()> {
@@ -88,16 +87,6 @@ fn show_route(rt: &impl Print, image: &[u8], index: usize) -> io::Result<()> {
     if let Ok(Some(part)) = image_route(image, index) {
         show(rt, b" ")?;
         show_bracketed(rt, image, part)?;
-    }
-    Ok(())
-}
-
-// The number of a refusal, and the least interval where it names one.
-pub fn show_cause(rt: &impl Print, x: Refusal) -> io::Result<()> {
-    show_refusal(rt, x)?;
-    if let Refusal::SessionExpiresTooSmall(least) = x {
-        show(rt, b" with ")?;
-        show_seconds(rt, least)?;
     }
     Ok(())
 }

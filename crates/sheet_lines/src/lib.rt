@@ -25,6 +25,7 @@ pub fn end_line(rt: &impl Print) -> io::Result<()> {
 }
 
 // The beginning of a line: where the example stands, what is asked, and of which text.
+// Kept (5): the place is a word of the line that is printed; a struct of it and `rt` would be made anew for each line.
 pub fn ask(rt: &impl Print, place: &[u8], question: &[u8], given: &[u8]) -> io::Result<()> {
     show(rt, place)?;
     show(rt, b"  ")?;
@@ -181,11 +182,13 @@ pub fn show_uri(rt: &impl Print, s: &[u8], u: Result<SipUri, Refusal>) -> io::Re
             } else {
                 show(rt, b"sip, ")?;
             }
-            if parts.user.length == 0 {
-                show(rt, b"no user")?;
-            } else {
-                show(rt, b"user ")?;
-                show_part(rt, s, parts.user)?;
+            let user = parts.user;
+            match user {
+                Some(part) => {
+                    show(rt, b"user ")?;
+                    show_part(rt, s, part)?;
+                }
+                None => show(rt, b"no user")?,
             }
             show(rt, b", host ")?;
             show_part(rt, s, parts.host)?;
@@ -264,15 +267,18 @@ pub fn show_interval(rt: &impl Print, i: Result<u64, Refusal>) -> io::Result<()>
 pub fn show_checked(rt: &impl Print, c: Result<u32, Refusal>) -> io::Result<()> {
     match c {
         Ok(seconds) => show_seconds(rt, seconds as u64),
-        Err(x) => {
-            show_refusal(rt, x)?;
-            if let Refusal::SessionExpiresTooSmall(least) = x {
-                show(rt, b" with ")?;
-                show_seconds(rt, least)?;
-            }
-            Ok(())
-        }
+        Err(x) => show_cause(rt, x),
     }
+}
+
+// The number of a refusal, and the least seconds where it names some.
+pub fn show_cause(rt: &impl Print, x: Refusal) -> io::Result<()> {
+    show_refusal(rt, x)?;
+    if let Refusal::SessionExpiresTooSmall(least) = x {
+        show(rt, b" with ")?;
+        show_seconds(rt, least)?;
+    }
+    Ok(())
 }
 
 // Yes or no, or why neither.

@@ -1,4 +1,5 @@
 // Each call on a run of verdicts, and its line.
+use c_answers::check_number;
 use limits::Refusal;
 use sheet_lines::{Held, show, show_refusal};
 use std::io;
@@ -10,7 +11,7 @@ pub fn add<const N: usize>(
     verdict: Result<(), Refusal>,
     run: &mut Held<N>,
 ) -> io::Result<()> {
-    let number = number_of(verdict);
+    let number = check_number(verdict);
     print!(rt; "add_verdict at {time}, number {number}: ")?;
     let answer = worst_minute::add_verdict(time, number, &mut run.bytes, run.used);
     run.changed(rt, answer)
@@ -24,7 +25,7 @@ pub fn add_many<const N: usize>(
     verdict: Result<(), Refusal>,
     run: &mut Held<N>,
 ) -> io::Result<()> {
-    let number = number_of(verdict);
+    let number = check_number(verdict);
     print!(rt; "add_verdict at {time}, number {number}, times {count}: ")?;
     for _ in 0..count {
         match worst_minute::add_verdict(time, number, &mut run.bytes, run.used) {
@@ -44,12 +45,4 @@ pub fn worst<const N: usize>(rt: &impl Print, run: &Held<N>) -> io::Result<()> {
         Err(x) => show_refusal(rt, x)?,
     }
     run.end(rt)
-}
-
-// A verdict's number: 0 where the request was taken.
-fn number_of(verdict: Result<(), Refusal>) -> u8 {
-    match verdict {
-        Ok(()) => 0,
-        Err(x) => x.number(),
-    }
 }

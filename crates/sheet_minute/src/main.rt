@@ -13,7 +13,7 @@ use std::io;
 const MINUTE: u64 = 60000000000;
 
 // The largest time.
-const LAST: u64 = 18446744073709551615;
+const LAST: u64 = u64::MAX;
 
 // The verdicts that are given.
 const TAKEN: Result<(), Refusal> = Ok(());

@@ -6,6 +6,7 @@ use sheet_lines::{
 use std::io;
 
 // The beginning of a line: where the example stands, the call, and the dialog.
+// Kept (5): the place is a word of the line that is printed; a struct of it and `rt` would be made anew for each line.
 pub fn begin(rt: &impl Print, place: &[u8], call: &[u8], id: &[u8]) -> io::Result<()> {
     show(rt, place)?;
     show(rt, b"  ")?;

@@ -1,8 +1,8 @@
 // Who sets the interval: what a callee can force, for offers on both sides of every bound. Times are seconds.
-use sheet_lines::{end_line, show, show_checked, show_seconds, show_yes};
+use sheet_lines::{end_line, show, show_cause, show_seconds, show_yes};
 use std::io;
 
-const LARGEST: u64 = 18446744073709551615;
+const LARGEST: u64 = u64::MAX;
 
 pub fn contests(rt: &impl Print) -> io::Result<()> {
     within(rt)?;
@@ -64,9 +64,7 @@ fn contest(rt: &impl Print, requested: u64, min_se: u64) -> io::Result<()> {
             show(rt, b"; only the request or 13: ")?;
             show_yes(rt, c.only_requested)?;
         }
-        Err(x) => {
-            show_checked(rt, Err(x))?;
-        }
+        Err(x) => show_cause(rt, x)?,
     }
     end_line(rt)
 }

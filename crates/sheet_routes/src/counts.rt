@@ -3,7 +3,7 @@ use metrics::DialogMetrics;
 use sheet_lines::ask;
 use std::io;
 
-const LARGEST: u64 = 18446744073709551615;
+const LARGEST: u64 = u64::MAX;
 
 pub fn counts(rt: &impl Print) -> io::Result<()> {
     let none = DialogMetrics::new();

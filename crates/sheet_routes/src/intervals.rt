@@ -71,17 +71,18 @@ fn roles(rt: &impl Print) -> io::Result<()> {
     let after_9: &[u8] = b"RFC 4028 after 9";
     let errors: &[u8] = b"01 errors";
     let rule: &[u8] = b"01 Intervals";
-    role(rt, after_7_2, true, b"uac", true)?;
-    role(rt, after_7_2, true, b"uas", true)?;
-    role(rt, after_9, true, b"uac", false)?;
-    role(rt, after_9, true, b"uas", false)?;
-    role(rt, errors, true, b"Uas", true)?;
-    role(rt, errors, true, b"Uas", false)?;
-    role(rt, errors, true, b"UAS", false)?;
-    role(rt, rule, false, b"", true)?;
-    role(rt, rule, false, b"", false)
+    role(rt, after_7_2, Some(b"uac"), true)?;
+    role(rt, after_7_2, Some(b"uas"), true)?;
+    role(rt, after_9, Some(b"uac"), false)?;
+    role(rt, after_9, Some(b"uas"), false)?;
+    role(rt, errors, Some(b"Uas"), true)?;
+    role(rt, errors, Some(b"Uas"), false)?;
+    role(rt, errors, Some(b"UAS"), false)?;
+    role(rt, rule, None, true)?;
+    role(rt, rule, None, false)
 }
 
+// Kept (5): the place is a word of the line that is printed; a struct of it and `rt` would be made anew for each line.
 fn due(rt: &impl Print, place: &[u8], interval: Option<u32>, elapsed: u64) -> io::Result<()> {
     show(rt, place)?;
     show(rt, b"  refresh due, interval ")?;
@@ -171,20 +172,10 @@ fn negotiate(
     end_line(rt)
 }
 
-fn role(
-    rt: &impl Print,
-    place: &[u8],
-    present: bool,
-    param: &[u8],
-    is_uac: bool,
-) -> io::Result<()> {
+fn role(rt: &impl Print, place: &[u8], param: Option<&[u8]>, is_uac: bool) -> io::Result<()> {
     show(rt, place)?;
     show(rt, b"  we refresh, refresher ")?;
-    if present {
-        show(rt, param)?;
-    } else {
-        show(rt, b"none")?;
-    }
+    show(rt, param.unwrap_or(b"none"))?;
     if is_uac {
         show(rt, b", we are uac: ")?;
     } else {
@@ -192,7 +183,7 @@ fn role(
     }
     show_verdict(
         rt,
-        session_timer_manager::determine_refresher_role(present, param, is_uac),
+        session_timer_manager::determine_refresher_role(param, is_uac),
     )?;
     end_line(rt)
 }

@@ -89,6 +89,7 @@ fn writings(rt: &impl Print) -> io::Result<()> {
     written(rt, row, 776656, 1, 15)
 }
 
+// Kept (5): the place is a word of the line that is printed; a struct of it and `rt` would be made anew for each line.
 fn method(rt: &impl Print, place: &[u8], s: &[u8]) -> io::Result<()> {
     ask(rt, place, b"number of ", s)?;
     show_method_number(rt, methods::method_number(s))?;

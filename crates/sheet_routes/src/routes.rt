@@ -128,6 +128,7 @@ fn fields(rt: &impl Print) -> io::Result<()> {
     contact(rt, after_20_10, b"Contact: *\r\n")
 }
 
+// Kept (5): the place is a word of the line that is printed; a struct of it and `rt` would be made anew for each line.
 fn contact(rt: &impl Print, place: &[u8], block: &[u8]) -> io::Result<()> {
     ask_block(rt, place, b"Contact", block)?;
     show_lookup(rt, block, route_set::read_contact(block))?;
@@ -150,19 +151,11 @@ fn reversed(rt: &impl Print, place: &[u8], block: &[u8]) -> io::Result<()> {
 fn show_routes(rt: &impl Print, block: &[u8], reversed: bool) -> io::Result<()> {
     show_answer(rt, route_set::route_count(block))?;
     for i in 0..MOST_ROUTES {
-        if !show_route(rt, block, reversed, i)? {
+        let Ok(Some(part)) = route_set::route(block, reversed, i) else {
             break;
-        }
+        };
+        show(rt, b" ")?;
+        show_bracketed(rt, block, part)?;
     }
     Ok(())
-}
-
-// The route at an index, if there is one.
-fn show_route(rt: &impl Print, block: &[u8], reversed: bool, index: usize) -> io::Result<bool> {
-    let Ok(Some(part)) = route_set::route(block, reversed, index) else {
-        return Ok(false);
-    };
-    show(rt, b" ")?;
-    show_bracketed(rt, block, part)?;
-    Ok(true)
 }

@@ -12,8 +12,8 @@ ghost use Rattle.dialog_updates.specs.Messages.{requested, responded};
 ghost use Rattle.c_answers.specs.Given.{ValueGives, FlagGives, WithUsedGives, WithLeastGives, LookupGives};
 ghost use Rattle.c_image_answers.specs.Given.{ImageIdGives, StateGives, UrisGives, NumbersGives, RouteCountGives};
 
-use c_answers::{give, give_flag, give_lookup, give_with_least, give_with_used};
-use c_image_answers::{give_image_id, give_numbers, give_route_count, give_state, give_uris};
+use c_answers::{give, give_flag, give_id, give_lookup, give_with_least, give_with_used};
+use c_image_answers::{give_numbers, give_state, give_uris};
 
 // Where the parts of the identifier lie: 3.
 // Kept (2): the C header's parameters, and each function has a clause of its own.
@@ -28,8 +28,9 @@ pub fn sip_dialog_image_id(
 ) -> u8
     ensures { ImageIdGives (image_answer (one_record image.now)) (record { call = call_id.old; call_length = call_id_length.old; local = local_tag.old; local_length = local_tag_length.old; remote = remote_tag.old; remote_length = remote_tag_length.old }) result (record { call = call_id.new; call_length = call_id_length.new; local = local_tag.new; local_length = local_tag_length.new; remote = remote_tag.new; remote_length = remote_tag_length.new }) }
 {
-    give_image_id(
-        dialog::read_image(image),
+    let id = dialog::read_image(image).map(|r| r.ids.id);
+    give_id(
+        id,
         call_id,
         call_id_length,
         local_tag,
@@ -105,7 +106,8 @@ pub fn sip_dialog_image_numbers(
 pub fn sip_dialog_image_route_count(image: &[u8], count: &mut usize) -> u8
     ensures { RouteCountGives (image_answer (one_record image.now)) count.old result count.new }
 {
-    give_route_count(dialog::read_image(image), count)
+    let routes = dialog::read_image(image).map(|r| r.route_count);
+    give(routes, count)
 }
 
 // Where the route at an index from 0 lies: 3.

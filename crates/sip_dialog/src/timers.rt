@@ -81,7 +81,7 @@ pub fn sip_dialog_determine_refresher_role(
     ensures { FlagGives (role_from (refresher_role rust_limits (text_if given text.now) is_uac)) we_refresh.old result we_refresh.new }
 {
     give_flag(
-        session_timer_manager::determine_refresher_role(given, text, is_uac),
+        session_timer_manager::determine_refresher_role(given.then_some(text), is_uac),
         we_refresh,
     )
 }

@@ -1,15 +1,16 @@
 -- What the count of whole records and the comparison of their identifiers say of the store. Assumes nothing.
-use Prim.Native.Nat.{ℕ, ◌≤◌}
+use Prim.Native.Nat.{ℕ}
 use native.Mathlib.Omega.{arith}
 use mathlib.Core.Path.{◌≡◌, refl, sym, ap, ◌∙◌}
-use mathlib.Core.Bool.{Bool, true, false, cond, false≢true, true≢false}
+use mathlib.Core.Bool.{Bool, true, false, cond}
 use mathlib.Core.List.{List}
-use lib.ListN.{length, take}
+use lib.ListN.{length}
+use Rattle.std.specs.Bool.{then_some}
 use Rattle.std.specs.Prelude.{None, Option, Some}
 use Rattle.record.specs.Record.{Record, is_given}
 use Rattle.record.specs.Store.{distinct, only_distinct, decode_all}
-use Rattle.distinct.specs.Distinct.{Places, is_distinct}
-use Rattle.store.specs.Reading.{store_from, whole_records, Tabled}
+use Rattle.distinct.specs.Distinct.{is_distinct}
+use Rattle.store.specs.Reading.{store_from, whole_records}
 
 -- the bytes are so many whole records
 pub record Counted (s : List ℕ) (count : ℕ) : Type 0 where
@@ -34,28 +35,15 @@ not_whole s e = by (whole_records s) e
     by None e = refl
     by (Some rs) e = absurd (let z : ◌≡◌ {A = ℕ} 0 1 = cc in omega arith)
 
--- the front of the table, where it holds them all, is their places
-pub places : (s table : List ℕ) (count : ℕ) → Counted s count → Tabled s table → count ≤ length table → Places s (take count table)
-places s table count k t l =
-    (k.records, (k.are, ap (λ (n : ℕ). take n table) (sym k.many) ∙ t k.records k.are (omega (arith, k.many))))
-
--- one identifier twice
-pub twice : (s : List ℕ) → is_distinct s ≡ false → None ≡ store_from (decode_all s)
-twice s e = by (decode_all s) e
-  where
-    by : (o : Option (List Record)) → is_given o ≡ false → None ≡ store_from o
-    by None e = refl
-    by (Some rs) e = absurd (true≢false e)
-
--- an identifier for each
-pub once : (s : List ℕ) (count : ℕ) → Counted s count → is_distinct s ≡ true → Some count ≡ store_from (decode_all s)
+-- with an identifier for each they are a store's, and only then
+pub decided : (s : List ℕ) (count : ℕ) → Counted s count → {unique : Bool} → unique ≡ is_distinct s → then_some unique count ≡ store_from (decode_all s)
 unfolding decode_all
-once s count k e = by (whole_records s) k.are e
+decided s count k e = ap (λ (b : Bool). then_some b count) e ∙ by (whole_records s) k.are
   where
-    is : (rs : List Record) (b : Bool) → length rs ≡ count → is_given (cond b (Some rs) None) ≡ true → Some count ≡ store_from (cond b (Some rs) None)
-    is rs true n e = ap Some (sym n)
-    is rs false n e = absurd (false≢true e)
+    is : (rs : List Record) (b : Bool) → length rs ≡ count → then_some (is_given (cond b (Some rs) None)) count ≡ store_from (cond b (Some rs) None)
+    is rs true n = ap Some (sym n)
+    is rs false n = refl
 
-    by : (o : Option (List Record)) → o ≡ Some k.records → is_given (only_distinct o) ≡ true → Some count ≡ store_from (only_distinct o)
-    by None q e = absurd (false≢true e)
-    by (Some rs) q e = let w : rs ≡ k.records = cc in is rs (distinct rs) (ap length w ∙ k.many) e
+    by : (o : Option (List Record)) → o ≡ Some k.records → then_some (is_given (only_distinct o)) count ≡ store_from (only_distinct o)
+    by None q = refl
+    by (Some rs) q = let w : rs ≡ k.records = cc in is rs (distinct rs) (ap length w ∙ k.many)

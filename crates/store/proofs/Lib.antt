@@ -1,5 +1,6 @@
 pub mod AnswerLaws
 pub mod CountLaws
+pub mod HeldLaws
 pub mod IdLaws
 pub mod TableLaws
 pub mod WalkLaws

@@ -3,26 +3,27 @@ ghost use Rattle.std.specs.Prelude.{◌≤◌};
 ghost use Rattle.record_walk.specs.Walk.{At};
 ghost use Rattle.store.specs.Identifiers.{IdsRead, TextTo};
 
+use codec::LENGTH_SIZE;
+use dialog_id::DialogId;
 use image::IdsAt;
-use record_walk::{past, two};
+use record_walk::id_ends;
 use text::Span;
 
 // The parts of the identifier of the record at a place.
-// Kept (5): one slice is lent, and many places in it are asked about.
+// Kept (5): bytes and a place apart: a slice in a struct does not say that its elements are bytes, which the laws of records ask.
 pub fn ids_at(bytes: &[u8], p: usize) -> IdsAt
     requires { At bytes.now p }
     ensures { IdsRead bytes.now p result }
 {
-    let map = two(bytes, p);
-    let first = p + 2;
-    let second = past(bytes, first, map % 2 == 1);
-    let third = past(bytes, second, map / 2 % 2 == 1);
-    let end = past(bytes, third, map / 4 % 2 == 1);
+    let ends = id_ends(bytes, p);
+    let id = DialogId {
+        call_id: span_to(p + 2, ends.call_id),
+        local_tag: span_to(ends.call_id, ends.local_tag),
+        remote_tag: span_to(ends.local_tag, ends.remote_tag),
+    };
     IdsAt {
-        call_id: span_to(first, second),
-        local_tag: span_to(second, third),
-        remote_tag: span_to(third, end),
-        end,
+        id,
+        end: ends.remote_tag,
     }
 }
 
@@ -31,14 +32,14 @@ fn span_to(at: usize, end: usize) -> Span
     requires { at ≤ end }
     ensures { TextTo at end result }
 {
-    if end - at < 2 {
+    if end - at < LENGTH_SIZE {
         return Span {
             start: at,
             length: 0,
         };
     }
     Span {
-        start: at + 2,
-        length: end - at - 2,
+        start: at + LENGTH_SIZE,
+        length: end - at - LENGTH_SIZE,
     }
 }

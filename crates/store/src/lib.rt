@@ -1,15 +1,17 @@
 // The used bytes of a store: whole records one after another, each with an identifier of its own (document 01, "Record image").
 #![tactic(auto)]
 
-ghost use Rattle.std.specs.Prelude.{◌≡◌, length};
+ghost use Rattle.std.specs.Prelude.{◌≡◌, ◌≤◌, length};
 ghost use Rattle.record.specs.Store.{decode_all};
-ghost use Rattle.store.specs.Counting.{records_held, count_answer};
+ghost use Rattle.store.specs.Counting.{records_held, count_answer, ReadAs};
 ghost use Rattle.store.specs.Reading.{store_from, whole_records, Tabled};
 
 use limits::Refusal;
 
+mod held;
 mod ids;
 
+pub use held::Held;
 pub use ids::ids_at;
 
 // A store of at most so many bytes is read with a smaller table, which costs less to clear. An image has at least 24 bytes.
@@ -25,10 +27,18 @@ pub fn count(bytes: &[u8], used: usize) -> Result<usize, Refusal>
     if bytes.len() < used {
         return Err(Refusal::BadStore);
     }
-    let Some(n) = read_store(&bytes[..used]) else {
-        return Err(Refusal::BadStore);
-    };
-    Ok(n)
+    read_store(&bytes[..used]).ok_or(Refusal::BadStore)
+}
+
+// The used bytes of a lent store: 3.
+// Kept (5, 6): a C caller lends bytes and says how many are used.
+pub fn read<'a>(bytes: &'a [u8], used: usize) -> Result<Held<'a>, Refusal>
+    ensures { ReadAs bytes.now used result }
+{
+    count(bytes, used)?;
+    Ok(Held {
+        bytes: &bytes[..used],
+    })
 }
 
 // How many records the used bytes of a store are.
@@ -36,17 +46,21 @@ pub fn read_store(bytes: &[u8]) -> Option<usize>
     ensures { result ≡ store_from (decode_all bytes.now) }
 {
     if bytes.len() <= SMALL_STORE {
-        let mut places = [0usize; 176];
-        let mut scratch = [0usize; 176];
-        return read_with(bytes, &mut places, &mut scratch);
+        return read_in::<176>(bytes);
     }
     if bytes.len() <= MIDDLE_STORE {
-        let mut places = [0usize; 2736];
-        let mut scratch = [0usize; 2736];
-        return read_with(bytes, &mut places, &mut scratch);
+        return read_in::<2736>(bytes);
     }
-    let mut places = [0usize; 16384];
-    let mut scratch = [0usize; 16384];
+    read_in::<16384>(bytes)
+}
+
+// The same, with tables for the places of N records.
+fn read_in<const N: usize>(bytes: &[u8]) -> Option<usize>
+    requires { N ≤ 16384 }
+    ensures { result ≡ store_from (decode_all bytes.now) }
+{
+    let mut places = [0usize; N];
+    let mut scratch = [0usize; N];
     read_with(bytes, &mut places, &mut scratch)
 }
 
@@ -57,16 +71,12 @@ fn read_with(bytes: &[u8], places: &mut [usize], scratch: &mut [usize]) -> Optio
     ensures { result ≡ store_from (decode_all bytes.now) }
 {
     let count = read_records(bytes, places)?;
-    if places.len() < count {
-        if !distinct::is_distinct_by_pairs(bytes) {
-            return None;
-        }
-        return Some(count);
-    }
-    if !distinct::is_distinct(bytes, &mut places[..count], &mut scratch[..count]) {
-        return None;
-    }
-    Some(count)
+    let unique = if places.len() < count {
+        distinct::is_distinct_by_pairs(bytes)
+    } else {
+        distinct::is_distinct(bytes, &mut places[..count], &mut scratch[..count])
+    };
+    unique.then_some(count)
 }
 
 // The records from the front to the end, identifiers not compared; the places of as many as the table holds.
@@ -77,7 +87,8 @@ fn read_records(bytes: &[u8], places: &mut [usize]) -> Option<usize>
 {
     let mut at = 0;
     let mut count = 0;
-    // Kept (3): the bytes may not be whole records: each reading gives the end or ends the walk; `Records` is for bytes that are known to be.
+    // Kept (3): `?` hands on the first bytes that are no record. An iterator of records would end there as at the end of the bytes, and leave it to
+    // be asked behind the loop which it was; of an iterator of `Option`, one loop reads so: a struct, a relation and its words for it alone.
     while at < bytes.len() {
         let r = image::read_record(bytes, at)?;
         if count < places.len() {

@@ -31,7 +31,7 @@ use Rattle.book.proofs.IdentLaws.{ident_is}
 use Rattle.book.proofs.JudgeLaws.{remove_causes, remove_unheld, remove_held}
 use Rattle.book.proofs.WayLaws.{kept_with, way_arguments, way_over, way_unread, way_judged, way_taken}
 use Rattle.dialog_manager.specs.Lookups.{getting}
-use Rattle.dialog_manager.proofs.LookupLaws.{Kept, kept, arguments_refuse, store_refuses, replies, get_cause}
+use Rattle.dialog_manager.proofs.LookupLaws.{Kept, kept, same_Err, arguments_refuse, store_refuses, replies, get_cause}
 use Rattle.dialog_manager.specs.Answers.{written_in}
 use Rattle.store_edits.specs.Edits.{removing}
 
@@ -51,14 +51,14 @@ images s used hb k =
 
 -- 3, of a call whose arguments are in order
 pub unheld : (L : LimitSet) (c : Call) (s : List ℕ) (used : ℕ) {cause : Refusal} → argument_cause L c ≡ None → count_answer (records_held s used) ≡ Err cause
-    → run L c s used ≡ kept_with L c s used BadStore
+    → run L c s used ≡ kept_with L c s used cause
 unfolding records_held
 unheld L c s used {cause} a e = by (ltb (length s) used) refl (decode_all (take used s)) refl e
   where
     by : (t : Bool) → ltb (length s) used ≡ t → (o : Option (List Record)) → decode_all (take used s) ≡ o → count_answer (refuse_if t BadStore (or_refuse BadStore o)) ≡ Err cause
-        → run L c s used ≡ kept_with L c s used BadStore
-    by true q o p e = way_over L c s used a (ltb-true (length s) used q)
-    by false q None p e = way_unread L c s used a (ltb-false (length s) used q) (ap contents_of p)
+        → run L c s used ≡ kept_with L c s used cause
+    by true q o p e = way_over L c s used a (ltb-true (length s) used q) ∙ ap (kept_with L c s used) (same_Err BadStore cause e)
+    by false q None p e = way_unread L c s used a (ltb-false (length s) used q) (ap contents_of p) ∙ ap (kept_with L c s used) (same_Err BadStore cause e)
     by false q (Some b) p e = absurd (let z : ◌≡◌ {A = ℕ} 0 1 = cc in omega arith)
 
 -- what a refused call answers and leaves
@@ -186,7 +186,7 @@ module _ (L : LimitSet) (m : ℕ) (c l r : List ℕ) (s : List ℕ) (used : ℕ)
       by : (o : Option Refusal) → ident_cause L (ident c l r) ≡ o → (a : Result ℕ Refusal) → count_answer (records_held s used) ≡ a → run L gone s used ≡ kept_with L gone s used cause
       by (Some x) p a w = way_arguments L gone s used cause (remove_causes L m (ident c l r) ∙ p ∙ ap Some (same x (arguments_refuse L m (getting c l r) s used hb (get_cause L c l r ∙ p))))
       by None p (Err x) w =
-          let z : BadStore ≡ cause = same BadStore (store_refuses L m (getting c l r) s used hb (get_cause L c l r ∙ p) w) in
+          let z : x ≡ cause = same x (store_refuses L m (getting c l r) s used hb (get_cause L c l r ∙ p) w) in
           subst (λ (y : Refusal). run L gone s used ≡ kept_with L gone s used y) z (unheld L gone s used (remove_causes L m (ident c l r) ∙ p) w)
       by None p (Ok x) w = let k = kept s used w in on k p (place_of (is_of (ident c l r)) first_place k.contents.records) refl
 
@@ -233,6 +233,6 @@ module _ (L : LimitSet) (m : ℕ) (c l r : List ℕ) (s : List ℕ) (used : ℕ)
             let z : Err x ≡ Ok (image_at at n) = arguments_refuse L m (getting c l r) s used hb (get_cause L c l r ∙ p) ∙ sym e in
             absurd (let y : ◌≡◌ {A = ℕ} 0 1 = cc in omega arith)
         by None p (Err x) w =
-            let z : Err BadStore ≡ Ok (image_at at n) = store_refuses L m (getting c l r) s used hb (get_cause L c l r ∙ p) w ∙ sym e in
+            let z : Err x ≡ Ok (image_at at n) = store_refuses L m (getting c l r) s used hb (get_cause L c l r ∙ p) w ∙ sym e in
             absurd (let y : ◌≡◌ {A = ℕ} 0 1 = cc in omega arith)
         by None p (Ok x) w = let k = kept s used w in on k p (place_of (is_of (ident c l r)) first_place k.contents.records) refl

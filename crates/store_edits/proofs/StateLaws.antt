@@ -2,32 +2,31 @@
 use Prim.Native.Nat.{ℕ, ◌+◌, ◌*◌, ◌%◌, ◌<◌}
 use native.Mathlib.Omega.{arith}
 use mathlib.Core.Path.{◌≡◌, refl, sym, ap, ◌∙◌}
-use mathlib.Core.Bool.{Bool, true, false, cond}
+use mathlib.Core.Bool.{Bool}
 use mathlib.Core.List.{List, ◌++◌}
 use lib.ListN.{length, get_or, length-append}
+use lib.Dec.{eqb}
 use Rattle.record.specs.Record.{State, early, confirmed, terminated, StateByte, state_number, state_byte_number, fields_of}
 use Rattle.codec.proofs.CodecLaws.{Bytes}
 use Rattle.image.specs.Places.{record_places}
-use Rattle.image.specs.declared.sections.IdsAt.{IdsAt}
 use Rattle.image_edit.proofs.ImageCuts.{ids_end_lem}
-use Rattle.record_walk.specs.Walk.{At, id_bytes}
+use Rattle.record_walk.specs.Walk.{At, id_bytes, ids_end}
 use Rattle.record_walk.proofs.Parts.{lies_length, lies_get_or}
-use Rattle.record_walk.proofs.Images.{ids, after, third_end, after_at}
-use Rattle.store.specs.Identifiers.{IdsRead}
+use Rattle.record_walk.proofs.Images.{ids, after, third_end, after_at, ids_end_is}
 use Rattle.book.specs.Book.{is_terminated}
-use Rattle.store_edits.specs.Edits.{StayingAt}
+use Rattle.store_edits.specs.Edits.{TerminatedAt}
 
 -- ---- the low two bits
 
-is_three : (t : State) (u v : ℕ) → (state_number t + 4 * u + 8 * v) % 4 ≡ 3 → is_terminated t ≡ true
-is_three early u v h = absurd (omega (arith, h))
-is_three confirmed u v h = absurd (omega (arith, h))
-is_three terminated u v h = refl
+low_two : (t : State) (u v : ℕ) → (state_number t + 4 * u + 8 * v) % 4 ≡ state_number t
+low_two early u v = omega arith
+low_two confirmed u v = omega arith
+low_two terminated u v = omega arith
 
-not_three : (t : State) (u v : ℕ) → ((state_number t + 4 * u + 8 * v) % 4 ≡ 3 → ⊥) → is_terminated t ≡ false
-not_three early u v h = refl
-not_three confirmed u v h = refl
-not_three terminated u v h = absurd (h (omega arith))
+is_three : (t : State) → eqb (state_number t) 3 ≡ is_terminated t
+is_three early = refl
+is_three confirmed = refl
+is_three terminated = refl
 
 -- ---- where the state byte lies: past the identifier
 
@@ -52,26 +51,19 @@ module _ (s : List ℕ) (p : ℕ) (b : Bytes s) (x : At s p) where
       let z : place ≡ third_end s p b x + 0 = omega (arith, behind_ids) in
       ap (λ (n : ℕ). get_or s n 0) z ∙ lies_get_or s (third_end s p b x) (after s p b x) (after_at s p b x) 0
 
--- ---- whether the bytes stay, by the state byte past the identifier that was found
+-- ---- whether it is Terminated, by the state byte past the identifier
 
-module _ (s : List ℕ) (p : ℕ) (b : Bytes s) (i : IdsAt) (r : IdsRead s p i) where
-  at_end_lem : (x : At s p) → i.end ≡ place s p b x
-  at_end_lem x = ap (λ (j : IdsAt). j.end) (r x.reading x.reads)
+module _ (s : List ℕ) (p : ℕ) (b : Bytes s) (e : ℕ) (r : e ≡ ids_end s p) where
+  at_end_lem : (x : At s p) → e ≡ place s p b x
+  at_end_lem x = r ∙ sym (ids_end_is s p b x) ∙ sym (behind_ids s p b x)
 
-  pub state_within : At s p → i.end < length s
+  pub state_within : At s p → e < length s
   state_within x = omega (arith, at_end_lem x, state_here s p b x)
 
-  low_bits : (x : At s p) → get_or s i.end 0 % 4 ≡ state_byte_number (byte s p b x) % 4
-  low_bits x = ap (λ (n : ℕ). get_or s n 0 % 4) (at_end_lem x) ∙ ap (λ (m : ℕ). m % 4) (state_is s p b x)
+  low_bits : (x : At s p) → get_or s e 0 % 4 ≡ state_number (byte s p b x).state
+  low_bits x = ap (λ (n : ℕ). get_or s n 0 % 4) (at_end_lem x) ∙ ap (λ (m : ℕ). m % 4) (state_is s p b x) ∙ low_two (byte s p b x).state _ _
 
-  -- none of a Terminated record's bytes
-  pub none_stay : (n : ℕ) → get_or s i.end 0 % 4 ≡ 3 → StayingAt s p n 0
-  none_stay n h y e =
-      let x : At s p = record { reading = y; reads = e } in
-      sym (ap (λ (t : Bool). cond t 0 n) (is_three (byte s p b x).state _ _ (sym (low_bits x) ∙ h)))
-
-  -- all of any other's
-  pub all_stay : (n : ℕ) → (get_or s i.end 0 % 4 ≡ 3 → ⊥) → StayingAt s p n n
-  all_stay n h y e =
-      let x : At s p = record { reading = y; reads = e } in
-      sym (ap (λ (t : Bool). cond t 0 n) (not_three (byte s p b x).state _ _ (λ q. h (low_bits x ∙ q))))
+  pub told_terminated : {t : Bool} → t ≡ eqb (get_or s e 0 % 4) 3 → TerminatedAt s p t
+  told_terminated q y f =
+      let x : At s p = record { reading = y; reads = f } in
+      q ∙ ap (λ (n : ℕ). eqb n 3) (low_bits x) ∙ is_three (byte s p b x).state

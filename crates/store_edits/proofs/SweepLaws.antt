@@ -9,7 +9,6 @@ use lib.Seq.{take-append_seam, drop-append-add, drop-drop}
 use Rattle.std.specs.Prelude.{Err, Ok}
 use Rattle.limits.specs.Limits.{LimitSet}
 use Rattle.limits.specs.declared.Refusal.{Refusal}
-use Rattle.limits.specs.declared.Refusal.TheVariants.{BadStore}
 use Rattle.edit.specs.Edit.{over, put_at}
 use Rattle.output.proofs.OutputLaws.{put_next}
 use Rattle.codec.specs.Codec.{write_all}
@@ -27,7 +26,7 @@ use Rattle.book.proofs.JudgeLaws.{sweep_clear, sweep_judged}
 use Rattle.book.proofs.WayLaws.{kept_with, way_taken}
 use Rattle.dialog_manager.specs.Search.{Stored}
 use Rattle.dialog_manager.proofs.LookupLaws.{Kept}
-use Rattle.store_edits.specs.Edits.{sweeping, living_in, StayingAt}
+use Rattle.store_edits.specs.Edits.{sweeping, living_in, TerminatedAt}
 use Rattle.store_edits.proofs.AheadLaws.{Ahead, all_ahead, Front, front, none_ahead}
 use Rattle.store_edits.proofs.RemoveLaws.{images, unheld}
 
@@ -56,38 +55,17 @@ start s used hb h k = record {
   within = h;
 }
 
--- the image of a record that stays
-abbrev piece : Bool → Record → List ℕ
-piece t x = cond t [] (image.write x)
-
-piece_taken : (t : Bool) (x : Record) (after : List ℕ) → take (cond t 0 (length (image.write x))) (image.write x ++ after) ≡ piece t x
-piece_taken true x after = refl
-piece_taken false x after = take-append_seam (image.write x) after
-
-piece_length : (t : Bool) (x : Record) → length (piece t x) ≡ cond t 0 (length (image.write x))
-piece_length true x = refl
-piece_length false x = refl
-
-piece_small : (t : Bool) (n : ℕ) → cond t 0 n ≤ n
-piece_small true n = omega arith
-piece_small false n = omega arith
-
-piece_kept : (t : Bool) (x : Record) (front : List ℕ) (more : Book) → front ++ records_image (cond (not t) (x ∷ keep living more) (keep living more)) ≡ (front ++ piece t x) ++ records_image (keep living more)
-unfolding write_all
-piece_kept true x front more = ap (λ (l : List ℕ). l ++ records_image (keep living more)) (sym (append-nil front))
-piece_kept false x front more = sym (append_assoc front (image.write x) (records_image (keep living more)))
-
 past_front : (front s : List ℕ) (at : ℕ) → length front ≤ at → drop at (over front s) ≡ drop at s
 past_front front s at h =
     let z : length front + (at - length front) ≡ at = omega (arith, h) in
     ap (λ (n : ℕ). drop n (over front s)) (sym z) ∙ (drop-append-add front (drop (length front) s) (at - length front) ∙ (drop-drop (at - length front) (length front) s ∙ ap (λ (n : ℕ). drop n s) z))
 
--- a turn: how many bytes stay of the record at the place, and what is so after them
+-- a turn: what is so after the record at the place, if it stays and if it goes
 pub record Next (s : List ℕ) (used : ℕ) (bytes : List ℕ) (at to end : ℕ) : Type 0 where
   pub moves : at < end
   pub fits : end ≤ used
-  pub few : (n : ℕ) → StayingAt bytes at (end - at) n → n ≤ end - at
-  pub again : (n : ℕ) (after : List ℕ) → StayingAt bytes at (end - at) n → after ≡ put_at to (take n (drop at bytes)) bytes → Closing s used after end (to + n)
+  pub stays : {after : List ℕ} → TerminatedAt bytes at false → after ≡ put_at to (take (end - at) (drop at bytes)) bytes → Closing s used after end (to + (end - at))
+  pub goes : TerminatedAt bytes at true → Closing s used bytes end to
 
 module _ (s : List ℕ) (used : ℕ) (bytes : List ℕ) (at to : ℕ) (g : Closing s used bytes at to) where
   same_ahead : drop at bytes ≡ drop at s
@@ -106,34 +84,42 @@ module _ (s : List ℕ) (used : ℕ) (bytes : List ℕ) (at to : ℕ) (g : Closi
     its_end = rw stands.reads (sym first.ends)
 
     pub next : (end : ℕ) → end ≡ end_at bytes at → Next s used bytes at to end
-    unfolding stands
+    unfolding stands write_all
     next end q =
         let x : Record = first.value in
-        let t : Bool = is_terminated x.numbers.state in
         let i : List ℕ = image.write x in
         let after : List ℕ = drop (record_places at x).end s in
         let here : drop at bytes ≡ i ++ after = same_ahead ∙ first.starts in
         let e : end ≡ (record_places at x).end = q ∙ its_end in
         let l : end - at ≡ length i = omega (arith, e, first.ends) in
-        let so_many : (n : ℕ) → StayingAt bytes at (end - at) n → n ≡ cond t 0 (length i) = λ n k. k stands.reading stands.reads ∙ ap (cond t 0) l in
-        let small : cond t 0 (length i) ≤ length i = piece_small t (length i) in
+        let ahead : Ahead s used end first.more = subst (λ (m : ℕ). Ahead s used m first.more) (sym e) first.next in
+        let split : (t : Bool) → t ≡ is_terminated x.numbers.state → living_in (decode_all (take used s)) ≡ g.front ++ records_image (cond (not t) (x ∷ keep living first.more) (keep living first.more)) =
+        λ t k. g.all ∙ (ap (λ (b : Book). g.front ++ records_image (keep living b)) first.split ∙ ap (λ (u : Bool). g.front ++ records_image (cond (not u) (x ∷ keep living first.more) (keep living first.more))) (sym k)) in
         record {
           moves = omega (arith, e, first.moves);
           fits = omega (arith, e, first.fits);
-          few = λ n k. omega (arith, so_many n k, small, l);
-          again = λ n new k w.
-              let p : n ≡ cond t 0 (length i) = so_many n k in
-              let took : take n (drop at bytes) ≡ piece t x = ap₂ (λ (m : ℕ) (u : List ℕ). take m u) p here ∙ piece_taken t x after in
+          stays = λ k w.
+              let took : take (end - at) (drop at bytes) ≡ i = ap₂ (λ (m : ℕ) (u : List ℕ). take m u) l here ∙ take-append_seam i after in
               record {
-                front = g.front ++ piece t x;
+                front = g.front ++ i;
                 rest = first.more;
-                all = g.all ∙ (ap (λ (b : Book). g.front ++ records_image (keep living b)) first.split ∙ piece_kept t x g.front first.more);
-                ahead = subst (λ (m : ℕ). Ahead s used m first.more) (sym e) first.next;
-                to_is = omega (arith, g.to_is, p, length-append g.front (piece t x), piece_length t x);
-                below = omega (arith, g.below, e, first.ends, p, small);
-                are = w ∙ (ap₂ (λ (u v : List ℕ). put_at to u v) took g.are ∙ put_next g.front (piece t x) s to (sym g.to_is));
+                all = split false (k stands.reading stands.reads) ∙ sym (append_assoc g.front i (records_image (keep living first.more)));
+                ahead = ahead;
+                to_is = omega (arith, g.to_is, l, length-append g.front i);
+                below = omega (arith, g.below, first.moves, e);
+                are = w ∙ (ap₂ (λ (u v : List ℕ). put_at to u v) took g.are ∙ put_next g.front i s to (sym g.to_is));
                 within = g.within;
               };
+          goes = λ k. record {
+            front = g.front;
+            rest = first.more;
+            all = split true (k stands.reading stands.reads);
+            ahead = ahead;
+            to_is = g.to_is;
+            below = omega (arith, g.below, e, first.moves);
+            are = g.are;
+            within = g.within;
+          };
         }
 
   -- all records are read
@@ -151,7 +137,7 @@ abbrev taken : Taken
 taken = record { change = only living; value = no_value }
 
 pub unswept : (L : LimitSet) (n : ℕ) (s : List ℕ) (used : ℕ) {cause : Refusal} → count_answer (records_held s used) ≡ Err cause
-    → run L (sweeping n) s used ≡ kept_with L (sweeping n) s used BadStore
+    → run L (sweeping n) s used ≡ kept_with L (sweeping n) s used cause
 unswept L n s used e = unheld L (sweeping n) s used (sweep_clear L n) e
 
 pub swept : (L : LimitSet) (n : ℕ) (s : List ℕ) (used : ℕ) → Bytes s → Kept s used

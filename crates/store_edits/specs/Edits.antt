@@ -1,6 +1,6 @@
 -- Steps of the code: the calls that take records out of a store (document 01, "The book of demand 3": "A removal drops one, a sweep all that are Terminated").
 -- What they leave is `run` (book/specs/Store.antt); here the call of each is set out, and what the functions below it promise.
-use Rattle.std.specs.Prelude.{ℕ, ◌≡◌, cond, List, [], drop, None, Option, Some}
+use Rattle.std.specs.Prelude.{ℕ, ◌≡◌, Bool, List, [], drop, None, Option, Some}
 use Rattle.codec.specs.Codec.{Reading}
 use Rattle.record.specs.Record.{Record, image}
 use Rattle.dialog_id.specs.Ident.{ident}
@@ -21,6 +21,6 @@ abbrev pub living_in : Option Book → List ℕ
 living_in None = []
 living_in (Some b) = records_image (keep living b)
 
--- so many stay of the n bytes of the record that is read at a place: none if it is Terminated
-abbrev pub StayingAt : List ℕ → ℕ → ℕ → ℕ → Type 0
-StayingAt s at n m = (x : Reading Record) → image.read (drop at s) ≡ Some x → m ≡ cond (is_terminated x.value.numbers.state) 0 n
+-- whether the record that is read at a place is Terminated
+abbrev pub TerminatedAt : List ℕ → ℕ → Bool → Type 0
+TerminatedAt s at t = (x : Reading Record) → image.read (drop at s) ≡ Some x → t ≡ is_terminated x.value.numbers.state

@@ -7,11 +7,11 @@ ghost use Rattle.record.specs.Store.{decode_all};
 ghost use Rattle.book.specs.Store.{run};
 ghost use Rattle.dialog_manager.specs.Answers.{written_in};
 ghost use Rattle.dialog_manager.specs.Search.{Stored};
-ghost use Rattle.store_edits.specs.Edits.{sweeping, living_in, StayingAt};
+ghost use Rattle.store_edits.specs.Edits.{sweeping, living_in, TerminatedAt};
 
 use limits::Refusal;
-use record_walk::record_end;
-use store::ids_at;
+use record::State;
+use record_walk::{ids_end, record_end};
 
 // DialogManager::cleanup_terminated: 3. The records that stay keep their order.
 // Kept (5, 6): a C caller lends bytes and says how many are used.
@@ -19,9 +19,7 @@ pub fn sweep(bytes: &mut [u8], used: usize) -> Result<usize, Refusal>
     ensures value { result ≡ written_in (run rust_limits (sweeping (length bytes.old)) bytes.old used) }
     ensures bytes_after { bytes.new ≡ (run rust_limits (sweeping (length bytes.old)) bytes.old used).bytes }
 {
-    let Ok(_) = store::count(bytes, used) else {
-        return Err(Refusal::BadStore);
-    };
+    store::count(bytes, used)?;
     Ok(close_up(bytes, used))
 }
 
@@ -38,24 +36,21 @@ fn close_up(bytes: &mut [u8], used: usize) -> usize
     // Kept (3): the bytes are written as they are walked, so that no iterator can hold them.
     while at < used {
         let end = record_end(bytes, at);
-        let n = staying(bytes, at, end - at);
-        edit::shift(bytes, at, to, n);
-        to += n;
+        if !is_terminated(bytes, at) {
+            let n = end - at;
+            edit::shift(bytes, at, to, n);
+            to += n;
+        }
         at = end;
     }
     to
 }
 
-// How many stay of the n bytes of the record at a place. Its state byte stands behind its identifier: low two bits 3, Terminated.
-// Kept (5): one slice is lent, and many places in it are asked about.
-fn staying(bytes: &[u8], at: usize, n: usize) -> usize
+// The state byte of the record at a place stands behind its identifier; its low two bits tell the state.
+// Kept (5): bytes and a place apart: a slice in a struct does not say that its elements are bytes, which the laws of records ask.
+fn is_terminated(bytes: &[u8], at: usize) -> bool
     requires { At bytes.now at }
-    ensures { StayingAt bytes.now at n result }
+    ensures { TerminatedAt bytes.now at result }
 {
-    let ids = ids_at(bytes, at);
-    let state = ids.end;
-    if bytes[state] % 4 == 3 {
-        return 0;
-    }
-    n
+    bytes[ids_end(bytes, at)] % 4 == State::Terminated as u8
 }

@@ -22,7 +22,7 @@ use Rattle.codec.proofs.CodecLaws.{Bytes, bytes_take}
 use Rattle.record.proofs.StoreLaws.{decoded}
 use Rattle.image.specs.Places.{record_places}
 use Rattle.image_edit.specs.declared.RecordPlace.{RecordPlace}
-use Rattle.dialog_updates.specs.AtPlace.{stepped_by, stepped}
+use Rattle.store_steps.specs.AtPlace.{stepped_by, stepped}
 use Rattle.dialog_id.specs.Ident.{Ident}
 use Rattle.book.specs.Calls.{Update, update, Call, Value, no_value}
 use Rattle.record.specs.Store.{decode_all}

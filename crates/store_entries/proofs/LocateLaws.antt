@@ -21,7 +21,7 @@ use Rattle.store.specs.Counting.{records_held, count_answer}
 use Rattle.dialog_id.specs.Ident.{Ident}
 use Rattle.book.specs.Book.{Book, is_of, first_place}
 use Rattle.dialog_manager.specs.Search.{Spot, first, found_of, found_in, Stands}
-use Rattle.dialog_manager.proofs.LookupLaws.{Kept}
+use Rattle.dialog_manager.proofs.LookupLaws.{Kept, same_Err}
 use Rattle.store_entries.specs.Entries.{spot_in, spot_named, standing_of, Ready}
 
 module _ (bytes : List ℕ) (used : ℕ) where
@@ -30,28 +30,28 @@ module _ (bytes : List ℕ) (used : ℕ) where
   ready k at r w = (k.within, omega (arith, w.0, length-take-le used bytes k.within), w.1)
 
   -- no identifier is named
-  pub nowhere_unread : {cause : Refusal} → count_answer (records_held bytes used) ≡ Err cause → Err BadStore ≡ standing_of used (spot_named None bytes used)
+  pub nowhere_unread : {cause : Refusal} → count_answer (records_held bytes used) ≡ Err cause → Err cause ≡ standing_of used (spot_named None bytes used)
   unfolding records_held
   nowhere_unread {cause} e = by (ltb (length bytes) used) (decode_all (take used bytes)) e
     where
       by : (t : Bool) (o : Option (List Record)) → count_answer (refuse_if t BadStore (or_refuse BadStore o)) ≡ Err cause
-          → Err BadStore ≡ standing_of used (refuse_if t BadStore (and_then (or_refuse BadStore o) (λ b. Err NotFound)))
-      by true o e = refl
-      by false None e = refl
+          → Err cause ≡ standing_of used (refuse_if t BadStore (and_then (or_refuse BadStore o) (λ b. Err NotFound)))
+      by true o e = ap Err (sym (same_Err BadStore cause e))
+      by false None e = ap Err (sym (same_Err BadStore cause e))
       by false (Some b) e = absurd (let z : ◌≡◌ {A = ℕ} 0 1 = cc in omega arith)
 
   pub nowhere_read : Kept bytes used → Err NotFound ≡ standing_of used (spot_named None bytes used)
   nowhere_read k = rw (le-ltb (length bytes) used k.within, k.are) refl
 
   module _ (i : Ident) where
-    pub unread : {cause : Refusal} → count_answer (records_held bytes used) ≡ Err cause → Err BadStore ≡ standing_of used (spot_in i bytes used)
+    pub unread : {cause : Refusal} → count_answer (records_held bytes used) ≡ Err cause → Err cause ≡ standing_of used (spot_in i bytes used)
     unfolding records_held spot_in
     unread {cause} e = by (ltb (length bytes) used) (decode_all (take used bytes)) e
       where
         by : (t : Bool) (o : Option (List Record)) → count_answer (refuse_if t BadStore (or_refuse BadStore o)) ≡ Err cause
-            → Err BadStore ≡ standing_of used (refuse_if t BadStore (and_then (or_refuse BadStore o) (λ b. or_refuse NotFound (first (is_of i) first_place b))))
-        by true o e = refl
-        by false None e = refl
+            → Err cause ≡ standing_of used (refuse_if t BadStore (and_then (or_refuse BadStore o) (λ b. or_refuse NotFound (first (is_of i) first_place b))))
+        by true o e = ap Err (sym (same_Err BadStore cause e))
+        by false None e = ap Err (sym (same_Err BadStore cause e))
         by false (Some b) e = absurd (let z : ◌≡◌ {A = ℕ} 0 1 = cc in omega arith)
 
     module _ (k : Kept bytes used) where

@@ -74,8 +74,3 @@ standing_of used (Ok x) = Ok (record { used = used; at = x.place; «record» = r
 abbrev pub Ready : List ℕ → Result RecordPlace Refusal → Type 0
 Ready bytes (Ok p) = StandsAt bytes p
 Ready bytes (Err cause) = Unit {0}
-
--- the number of the changed record beside the used length that was answered
-abbrev pub raised_with : ℕ → Result ℕ Refusal → Result (ℕ × ℕ) Refusal
-raised_with number (Err cause) = Err cause
-raised_with number (Ok n) = Ok (number, n)

@@ -12,16 +12,12 @@ use image_edit::RecordPlace;
 use limits::Refusal;
 
 // 3, 15.
-// Kept (5, 6): that the used length lies within the lent bytes is checked here, by `count`.
+// Kept (5, 6): that the used length lies within the lent bytes is checked here, by `store::read`.
 pub fn locate(bytes: &[u8], used: usize, id: IdTexts<'_>) -> Result<RecordPlace, Refusal>
     ensures value { result ≡ standing_of used (spot_in (ident_of id.entry) bytes.now used) }
     ensures ready { Ready bytes.now result }
 {
-    let Ok(_) = store::count(bytes, used) else {
-        return Err(Refusal::BadStore);
-    };
-    let Some((at, record)) = search_id(&bytes[..used], id) else {
-        return Err(Refusal::NotFound);
-    };
+    let held = store::read(bytes, used)?;
+    let (at, record) = search_id(held, id).ok_or(Refusal::NotFound)?;
     Ok(RecordPlace { used, at, record })
 }

@@ -10,7 +10,7 @@ use Rattle.std.proofs.lemmas.Option.{same_Some}
 use Rattle.std.specs.Prelude.{Err, None, Ok, Some}
 use Rattle.limits.specs.Limits.{LimitSet}
 use Rattle.limits.specs.declared.Refusal.{Refusal}
-use Rattle.limits.specs.declared.Refusal.TheVariants.{BadStore, NoRoom}
+use Rattle.limits.specs.declared.Refusal.TheVariants.{NoRoom}
 use Rattle.text.specs.declared.Span.{Span}
 use Rattle.edit.specs.Edit.{over, put_at}
 use Rattle.output.proofs.OutputLaws.{put_next}
@@ -27,6 +27,8 @@ use Rattle.record_walk.specs.Walk.{At, end_at}
 use Rattle.store.specs.Counting.{records_held, count_answer}
 use Rattle.store.specs.Identifiers.{IdsRead}
 use Rattle.text.specs.Spans.{part_in}
+use Rattle.dialog_id.specs.Ident.{Ident}
+use Rattle.dialog_id.specs.IdTexts.{ident_in}
 use Rattle.book.specs.Calls.{all_ids, read, written}
 use Rattle.record.specs.Store.{decode_all}
 use Rattle.book.specs.Book.{Book, records_image, identifiers_of, reply, reading_cause}
@@ -34,7 +36,7 @@ use Rattle.book.specs.Store.{run}
 use Rattle.dialog_manager.specs.Search.{Stored, IdsWithin}
 use Rattle.dialog_manager.proofs.SearchLaws.{Turn, standing, its_end, ids_within}
 use Rattle.dialog_manager.proofs.LookupLaws.{Kept, store_refuses, replies}
-use Rattle.store_ids.specs.Identifiers.{ids_in, IdsShort, length_at, texts_at}
+use Rattle.store_ids.specs.Identifiers.{ids_in, IdsShort, length_at, TextsShort, texts_bytes, texts_at}
 
 -- ---- sizes
 
@@ -47,10 +49,25 @@ part_size s v h =
 -- three of them
 texts_size_lem : (s : List ℕ) (i : IdsAt) → IdsWithin s i → length (texts_at s i) ≡ length_at i
 texts_size_lem s i w =
-    let a = text.write (part_in s i.call_id) in
-    let b = text.write (part_in s i.local_tag) in
-    let c = text.write (part_in s i.remote_tag) in
-    omega (arith, length-append a (b ++ c), length-append b c, part_size s i.call_id w.0, part_size s i.local_tag w.1, part_size s i.remote_tag w.2)
+    let a = text.write (part_in s i.id.call_id) in
+    let b = text.write (part_in s i.id.local_tag) in
+    let c = text.write (part_in s i.id.remote_tag) in
+    omega (arith, length-append a (b ++ c), length-append b c, part_size s i.id.call_id w.0, part_size s i.id.local_tag w.1, part_size s i.id.remote_tag w.2)
+
+-- of any three texts
+pub bytes_size : (i : Ident) → length (texts_bytes i) ≡ 2 + length i.call_id + 2 + length i.local_tag + 2 + length i.remote_tag
+bytes_size i =
+    let a = text.write i.call_id in
+    let b = text.write i.local_tag in
+    let c = text.write i.remote_tag in
+    omega (arith, length-append a (b ++ c), length-append b c, text_size i.call_id, text_size i.local_tag, text_size i.remote_tag)
+
+-- what two length bytes hold of a part, they hold of its text
+part_short : (s : List ℕ) (v : Span) → v.start + v.length ≤ length s → v.length < 65536 → length (part_in s v) < 65536
+part_short s v h l = omega (arith, part_size s v h, text_size (part_in s v))
+
+pub texts_short : (s : List ℕ) (i : IdsAt) → IdsWithin s i → IdsShort i → TextsShort (ident_in s i.id)
+texts_short s i w l = (part_short s i.id.call_id w.0 l.0, part_short s i.id.local_tag w.1 l.1, part_short s i.id.remote_tag w.2 l.2)
 
 -- ---- the records so far
 
@@ -235,7 +252,7 @@ no_cause L room = refl
 
 module _ (L : LimitSet) (n room : ℕ) (bytes : List ℕ) (used : ℕ) (hb : Bytes bytes) where
   -- 3
-  pub unread : {cause : Refusal} → count_answer (records_held bytes used) ≡ Err cause → Err BadStore ≡ (run L (read n (all_ids room)) bytes used).answer
+  pub unread : {cause : Refusal} → count_answer (records_held bytes used) ≡ Err cause → Err cause ≡ (run L (read n (all_ids room)) bytes used).answer
   unread e = store_refuses L n (all_ids room) bytes used hb (no_cause L room) e
 
   module _ (k : Kept bytes used) where

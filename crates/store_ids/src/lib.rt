@@ -1,23 +1,21 @@
 // DialogManager::all_ids: the identifiers of all records of a lent store, written to lent output.
 #![tactic(auto)]
 
-ghost use Rattle.std.specs.Prelude.{◌≡◌, ◌+◌, ◌≤◌, ◌<◌, length};
+ghost use Rattle.std.specs.Prelude.{◌≡◌, ◌+◌, ◌≤◌, length};
 ghost use Rattle.limits.specs.Limits.{rust_limits};
 ghost use Rattle.edit.specs.Edit.{over, put_at};
-ghost use Rattle.codec.specs.Codec.{text};
-ghost use Rattle.text.specs.Spans.{part_in};
+ghost use Rattle.dialog_id.specs.IdTexts.{ident_of};
 ghost use Rattle.book.specs.Calls.{read, all_ids};
 ghost use Rattle.record.specs.Store.{decode_all};
 ghost use Rattle.book.specs.Store.{run, output_after};
 ghost use Rattle.dialog_manager.specs.Answers.{ids_written};
-ghost use Rattle.dialog_manager.specs.Search.{Stored, IdsWithin};
-ghost use Rattle.store_ids.specs.Identifiers.{ids_in, IdsShort, length_at, texts_at};
+ghost use Rattle.store_ids.specs.Identifiers.{ids_in, IdsShort, length_at, TextsShort, texts_bytes};
 
+use codec::{LENGTH_SIZE, write_text};
+use dialog_id::IdTexts;
 use image::IdsAt;
 use limits::Refusal;
-use record_walk::Records;
-use store::ids_at;
-use text::Span;
+use store::{Held, ids_at};
 
 // DialogManager::all_ids: 3, 18. Answers how many bytes of the output were written.
 // Kept (5, 6): a C caller lends bytes and says how many are used.
@@ -25,77 +23,65 @@ pub fn all_ids(bytes: &[u8], used: usize, out: &mut [u8]) -> Result<usize, Refus
     ensures value { result ≡ ids_written (run rust_limits (read (length bytes.now) (all_ids (length out.old))) bytes.now used).answer }
     ensures out_after { out.new ≡ output_after (run rust_limits (read (length bytes.now) (all_ids (length out.old))) bytes.now used).answer out.old }
 {
-    let Ok(_) = store::count(bytes, used) else {
-        return Err(Refusal::BadStore);
-    };
-    let n = ids_size(&bytes[..used]);
+    let held = store::read(bytes, used)?;
+    let n = ids_size(held);
     if out.len() < n {
         return Err(Refusal::NoRoom);
     }
-    write_all(&bytes[..used], out);
+    write_all(held, out);
     Ok(n)
 }
 
-// How many bytes the identifiers of all records take. The bytes are those of a store that was read.
-fn ids_size(bytes: &[u8]) -> usize
-    requires { Stored bytes.now }
-    ensures { result ≡ length (ids_in (decode_all bytes.now)) }
+// How many bytes the identifiers of all records take.
+fn ids_size(held: Held<'_>) -> usize
+    ensures { result ≡ length (ids_in (decode_all held.entry.bytes.now)) }
 {
+    let bytes = held.bytes;
     let mut n = 0;
-    for at in Records::new(bytes) {
+    for at in held.records() {
         let ids = ids_at(bytes, at);
         n += id_size(ids);
     }
     n
 }
 
-// How many bytes an identifier takes: three texts with two length bytes each.
+// How many bytes an identifier takes: three texts with their length bytes.
 fn id_size(ids: IdsAt) -> usize
     requires { IdsShort ids }
     ensures { result ≡ length_at ids }
 {
-    let call_id = ids.call_id;
-    let local_tag = ids.local_tag;
-    let remote_tag = ids.remote_tag;
-    2 + call_id.length + 2 + local_tag.length + 2 + remote_tag.length
+    let id = ids.id;
+    LENGTH_SIZE
+        + id.call_id.length
+        + LENGTH_SIZE
+        + id.local_tag.length
+        + LENGTH_SIZE
+        + id.remote_tag.length
 }
 
 // The identifiers of all records, over the front of the output.
-// Kept (5): bytes that are read and bytes that are written are lent by different callers.
-fn write_all(bytes: &[u8], out: &mut [u8])
-    requires stored { Stored bytes.now }
-    requires bytes_in_bounds { length (ids_in (decode_all bytes.now)) ≤ length out.old }
-    ensures { out.new ≡ over (ids_in (decode_all bytes.now)) out.old }
+fn write_all(held: Held<'_>, out: &mut [u8])
+    requires { length (ids_in (decode_all held.bytes.now)) ≤ length out.old }
+    ensures { out.new ≡ over (ids_in (decode_all held.entry.bytes.now)) out.old }
 {
+    let bytes = held.bytes;
     let mut to = 0;
-    for at in Records::new(bytes) {
+    for at in held.records() {
         let ids = ids_at(bytes, at);
-        to = write_id(bytes, ids, out, to);
+        let id = ids.id.texts(bytes);
+        to = write_id(out, to, id);
     }
 }
 
-// An identifier at a place of the output. The place after it.
-// Kept (5): places lie in bytes that are lent beside them.
-fn write_id(bytes: &[u8], ids: IdsAt, out: &mut [u8], to: usize) -> usize
-    requires ids_within { IdsWithin bytes.now ids }
-    requires ids_short { IdsShort ids }
-    requires ids_in_bounds { to + length_at ids ≤ length out.old }
-    ensures value { result ≡ to + length (texts_at bytes.now ids) }
-    ensures out_after { out.new ≡ put_at to (texts_at bytes.now ids) out.old }
+// An identifier at a place of the output: each text with its length bytes. The place after it.
+// Kept (2, 5): an empty text is written too, as two length bytes, while `image_writer::write_ids` leaves it out; the place goes in and comes back as the next.
+fn write_id(out: &mut [u8], to: usize, id: IdTexts<'_>) -> usize
+    requires texts_short { TextsShort (ident_of id) }
+    requires texts_in_bounds { to + length (texts_bytes (ident_of id)) ≤ length out.old }
+    ensures value { result ≡ to + length (texts_bytes (ident_of id.entry)) }
+    ensures out_after { out.new ≡ put_at to (texts_bytes (ident_of id.entry)) out.old }
 {
-    let a = write_part(bytes, ids.call_id, out, to);
-    let b = write_part(bytes, ids.local_tag, out, a);
-    write_part(bytes, ids.remote_tag, out, b)
-}
-
-// One text at a place of the output: two length bytes, and its bytes. The place after it.
-// Kept (5): a place in lent output, as `codec::write_text` takes it.
-fn write_part(bytes: &[u8], part: Span, out: &mut [u8], to: usize) -> usize
-    requires length_in_bounds { part.start + part.length ≤ length bytes.now }
-    requires length_bound { part.length < 65536 }
-    requires length_in_bounds_2 { to + 2 + part.length ≤ length out.old }
-    ensures value { result ≡ to + length (text.write (part_in bytes.now part)) }
-    ensures out_after { out.new ≡ put_at to (text.write (part_in bytes.now part)) out.old }
-{
-    codec::write_text(out, to, part.text(bytes))
+    let a = write_text(out, to, id.call_id);
+    let b = write_text(out, a, id.local_tag);
+    write_text(out, b, id.remote_tag)
 }

@@ -6,10 +6,8 @@ use mathlib.Core.Bool.{Bool, true, false, cond, not, ◌&&◌}
 use mathlib.Core.List.{List, ◌∷◌}
 use lib.ListN.{length, drop}
 use lib.Seq.{take-length}
-use lib.Dec.{eqb}
 use Rattle.std.specs.Prelude.{Some}
 use Rattle.text.specs.Text.{equal}
-use Rattle.text.specs.Spans.{part_in}
 use Rattle.record.specs.Record.{State, early, confirmed, terminated, Record, bit_of, state_number, state_of, StateByte, state_byte_number, state_byte_of}
 use Rattle.codec.proofs.CodecLaws.{Bytes}
 use Rattle.image.specs.Places.{record_places}
@@ -17,7 +15,9 @@ use Rattle.image.specs.declared.RecordAt.{RecordAt}
 use Rattle.image.specs.declared.sections.IdsAt.{IdsAt}
 use Rattle.record_walk.specs.Walk.{At, end_at}
 use Rattle.store.specs.Identifiers.{IdsRead}
-use Rattle.dialog_id.specs.Ident.{Ident, ident}
+use Rattle.text.specs.Spans.{part_in}
+use Rattle.dialog_id.specs.Ident.{Ident, ident, same_ident}
+use Rattle.dialog_id.specs.IdTexts.{ident_in}
 use Rattle.record.specs.Store.{decode_all}
 use Rattle.book.specs.Book.{Book, is_of, others, keep, is_early, is_early_of, early_of}
 use Rattle.dialog_manager.specs.Search.{IdsWithin, Stored}
@@ -27,15 +27,6 @@ use Rattle.store_edits.proofs.AheadLaws.{Ahead, all_ahead, Front, front, none_ah
 use Rattle.store_edits.proofs.StateLaws.{byte, place, state_here, state_is}
 
 -- ---- the state byte
-
--- its low two bits are 1 exactly if the state is Early
-pub early_bits : (n : ℕ) → eqb n 1 ≡ is_early (state_of n)
-early_bits n = by (eqb n 1) (eqb n 2)
-  where
-    by : (t u : Bool) → t ≡ is_early (cond t early (cond u confirmed terminated))
-    by true u = refl
-    by false true = refl
-    by false false = refl
 
 -- it tells the state that it was made of
 told : (b : StateByte) → (state_byte_of (state_byte_number b)).state ≡ b.state
@@ -57,32 +48,15 @@ state_told s p b x = ap (λ (n : ℕ). (state_byte_of n).state) (state_is s p b 
 
 -- ---- one record
 
--- the tests of the code, in their order: a test decides, or the next is asked
-module _ (s : List ℕ) (i : IdsAt) (c l r : List ℕ) where
-  pub not_early : is_early (state_at s i.end) ≡ false → 0 ≡ early_at s i c l r
-  not_early e = rw e
-
-  module _ (e : is_early (state_at s i.end) ≡ true) where
-    pub other_call : equal (part_in s i.call_id) c ≡ false → 0 ≡ early_at s i c l r
-    other_call f = rw (e, f)
-
-    module _ (f : equal (part_in s i.call_id) c ≡ true) where
-      pub other_local : equal (part_in s i.local_tag) l ≡ false → 1 ≡ early_at s i c l r
-      other_local g = rw (e, f, g)
-
-      module _ (g : equal (part_in s i.local_tag) l ≡ true) where
-        pub other_remote : equal (part_in s i.remote_tag) r ≡ false → 1 ≡ early_at s i c l r
-        other_remote h = rw (e, f, g, h)
-
-        pub itself : equal (part_in s i.remote_tag) r ≡ true → 0 ≡ early_at s i c l r
-        itself h = rw (e, f, g, h)
-
 -- what a record counts
+abbrev pub is_counted : Ident → Record → Bool
+is_counted i x = is_early x.numbers.state && (equal x.call_id i.call_id && not (is_of i x))
+
 abbrev pub counts : Ident → Record → ℕ
-counts i x = cond (is_early x.numbers.state && (equal x.call_id i.call_id && not (is_of i x))) 1 0
+counts i x = cond (is_counted i x) 1 0
 
 pub at_most_one : (i : Ident) (x : Record) → counts i x ≤ 1
-at_most_one i x = by (is_early x.numbers.state && (equal x.call_id i.call_id && not (is_of i x)))
+at_most_one i x = by (is_counted i x)
   where
     by : (t : Bool) → cond t 1 0 ≤ 1
     by true = omega arith
@@ -140,7 +114,7 @@ pub record Counted (c l r : List ℕ) (s : List ℕ) (at n : ℕ) (i : IdsAt) : 
   pub within : IdsWithin s i × (i.end < length s)
   pub moves : at < end_at s at
   pub fits : end_at s at ≤ length s
-  pub again : (m : ℕ) → m ≡ early_at s i c l r → Counting (ident c l r) s (end_at s at) (n + m)
+  pub again : {t : Bool} → t ≡ early_at s i c l r → Counting (ident c l r) s (end_at s at) (n + cond t 1 0)
 
 module _ (c l r : List ℕ) (s : List ℕ) (at n : ℕ) (g : Counting (ident c l r) s at n) where
   -- all records are read
@@ -166,7 +140,7 @@ module _ (c l r : List ℕ) (s : List ℕ) (at n : ℕ) (g : Counting (ident c l
       end_is : end_at s at ≡ places.end
       end_is = its_end s at hb (omega (arith, h)) here
 
-      weighed : early_at s places.ids c l r ≡ counts (ident c l r) f.value
+      weighed : early_at s places.ids c l r ≡ is_counted (ident c l r) f.value
       weighed = rw (state_told s at hb here, named_held s places.ids c l r f.value (texts_of s at places turn hb), call_held s places.ids c f.value (texts_of s at places turn hb))
 
       at_places : Counted c l r s at n places.ids
@@ -174,13 +148,35 @@ module _ (c l r : List ℕ) (s : List ℕ) (at n : ℕ) (g : Counting (ident c l
         within = (ids_within s at places turn, state_here s at hb here);
         moves = omega (arith, f.moves, end_is);
         fits = omega (arith, f.fits, end_is);
-        again = λ m q. subst (λ (e : ℕ). Counting (ident c l r) s e (n + m)) (sym end_is) (record {
-          rest = f.more;
-          ahead = f.next;
-          all = omega (arith, g.all, ap (λ (b : Book). early_others (ident c l r) (Some b)) f.split, one_more (ident c l r) f.value f.more, q, weighed);
-          few = omega (arith, g.few, q, weighed, at_most_one (ident c l r) f.value, f.moves);
-        });
+        again = λ {t} q.
+            let m : cond t 1 0 ≡ counts (ident c l r) f.value = ap (λ (u : Bool). cond u 1 0) (q ∙ weighed) in
+            subst (λ (e : ℕ). Counting (ident c l r) s e (n + cond t 1 0)) (sym end_is) (record {
+              rest = f.more;
+              ahead = f.next;
+              all = omega (arith, g.all, ap (λ (b : Book). early_others (ident c l r) (Some b)) f.split, one_more (ident c l r) f.value f.more, m);
+              few = omega (arith, g.few, m, at_most_one (ident c l r) f.value, f.moves);
+            });
       }
 
       pub counted : (i : IdsAt) → IdsRead s at i → Counted c l r s at n i
       counted i e = subst (Counted c l r s at n) (sym (e here.reading here.reads)) at_places
+
+-- ---- the texts of another identifier, read at their places
+
+module _ (s : List ℕ) (i : IdsAt) (o k : Ident) (e : o ≡ ident_in s i.id) where
+  -- its Call-ID is the same, so that the tags decide
+  pub other_met : is_early (state_at s i.end) ≡ true → equal o.call_id k.call_id ≡ true → not (same_ident o k) ≡ early_at s i k.call_id k.local_tag k.remote_tag
+  unfolding same_ident
+  other_met a q =
+      let c : equal (part_in s i.id.call_id) k.call_id ≡ true = ap (λ (x : Ident). equal x.call_id k.call_id) (sym e) ∙ q in
+      rw (e, a, c)
+
+  -- it has another
+  pub other_not : equal o.call_id k.call_id ≡ false → false ≡ early_at s i k.call_id k.local_tag k.remote_tag
+  other_not q =
+      let c : equal (part_in s i.id.call_id) k.call_id ≡ false = ap (λ (x : Ident). equal x.call_id k.call_id) (sym e) ∙ q in
+      rw c (by (is_early (state_at s i.end)))
+    where
+      by : (t : Bool) → false ≡ t && false
+      by true = refl
+      by false = refl

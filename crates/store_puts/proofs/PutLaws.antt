@@ -42,7 +42,7 @@ use Rattle.book.proofs.JudgeLaws.{put_unread, put_clear, put_full, put_crowded, 
 use Rattle.book.proofs.WayLaws.{kept_with, way_arguments, way_judged, way_full, way_taken}
 use Rattle.dialog_manager.specs.Lookups.{place_in}
 use Rattle.dialog_manager.specs.Search.{named, found_in, IdsWithin, Stands}
-use Rattle.dialog_manager.proofs.LookupLaws.{Kept, stored, none_found, one_found}
+use Rattle.dialog_manager.proofs.LookupLaws.{Kept, stored, same_Err, is_three, none_found, one_found}
 use Rattle.dialog_manager.proofs.SearchLaws.{turn}
 use Rattle.dialog_manager.specs.Answers.{written_in}
 use Rattle.store_puts.specs.Puts.{putting, Named, Open, crowded_in}
@@ -135,26 +135,30 @@ module _ (s img : List ℕ) (used : ℕ) (w : used ≤ length s) where
 -- ---- the whole call
 
 -- every refusal of an image is 3
-bad_image : (img : List ℕ) {cause : Refusal} → Err cause ≡ image_answer (one_record img) → one_record img ≡ Err BadStore
+bad_image : (img : List ℕ) {cause : Refusal} → Err cause ≡ image_answer (one_record img) → (one_record img ≡ Err BadStore) × (BadStore ≡ cause)
 unfolding one_record
 bad_image img {cause} e = by (only_one (image.read img)) e
   where
-    by : (o : Option Record) → Err cause ≡ image_answer (or_refuse BadStore o) → or_refuse BadStore o ≡ Err BadStore
-    by None h = refl
+    by : (o : Option Record) → Err cause ≡ image_answer (or_refuse BadStore o) → (or_refuse BadStore o ≡ Err BadStore) × (BadStore ≡ cause)
+    by None h = (refl, same_Err BadStore cause (sym h))
     by (Some r) h = absurd (let z : ◌≡◌ {A = ℕ} 0 1 = cc in omega arith)
 
 -- 3, of the image
 pub not_one : (L : LimitSet) (n : ℕ) (img s : List ℕ) (used : ℕ) {cause : Refusal} → Err cause ≡ image_answer (one_record img)
-    → run L (putting n img) s used ≡ kept_with L (putting n img) s used BadStore
-not_one L n img s used e = way_arguments L (putting n img) s used BadStore (put_unread L n img (bad_image img e))
+    → run L (putting n img) s used ≡ kept_with L (putting n img) s used cause
+not_one L n img s used e =
+    let b = bad_image img e in
+    way_arguments L (putting n img) s used BadStore (put_unread L n img b.0) ∙ ap (kept_with L (putting n img) s used) b.1
 
 -- 3, of the store
 pub store_unread : (L : LimitSet) (n : ℕ) (img s : List ℕ) (used : ℕ) {cause : Refusal} → count_answer (records_held s used) ≡ Err cause
-    → run L (putting n img) s used ≡ kept_with L (putting n img) s used BadStore
+    → run L (putting n img) s used ≡ kept_with L (putting n img) s used cause
 store_unread L n img s used {cause} e = by (one_record img) refl
   where
-    by : (v : Result Record Refusal) → one_record img ≡ v → run L (putting n img) s used ≡ kept_with L (putting n img) s used BadStore
-    by (Err x) q = not_one L n img s used (sym (ap image_answer q))
+    by : (v : Result Record Refusal) → one_record img ≡ v → run L (putting n img) s used ≡ kept_with L (putting n img) s used cause
+    by (Err x) q =
+        let u : Err x ≡ image_answer (one_record img) = sym (ap image_answer q) in
+        not_one L n img s used u ∙ ap (kept_with L (putting n img) s used) (sym (bad_image img u).1 ∙ is_three s used e)
     by (Ok r) q = unheld L (putting n img) s used (put_clear L n img r q) e
 
 module _ (L : LimitSet) (n : ℕ) (img s : List ℕ) (used : ℕ) (k : Kept s used) where
@@ -239,21 +243,21 @@ module _ (img : List ℕ) (p : RecordAt) (e : Ok p ≡ image_answer (one_record 
   texts_within = ids_within img p (one.held img p e)
 
   -- the record of the image, its state and its identifier
-  pub image_named : ((i : ℕ) → get_or img i 0 < 256) → Named img p.numbers.state (part_in img p.ids.call_id) (part_in img p.ids.local_tag) (part_in img p.ids.remote_tag)
+  pub image_named : ((i : ℕ) → get_or img i 0 < 256) → Named img p.numbers.state (part_in img p.ids.id.call_id) (part_in img p.ids.id.local_tag) (part_in img p.ids.id.remote_tag)
   image_named b =
       let h = one.held img p e in
       let w = image_read img p b e in
       let v : w.value ≡ h.value = (let z : Ok w.value ≡ Ok h.value = sym w.one ∙ h.one in cc) in
       let l : Lie img 2 (ids_of h.value) = subst (λ (r : Record). Lie img 2 (ids_of r)) h.whole (record_lies img 0 h.reading (bytes_all img b) h.reads) in
-      let c : part_in img p.ids.call_id ≡ h.value.call_id = ap (λ (q : RecordAt). part_in img q.ids.call_id) h.places ∙ l.call_id in
-      let d : part_in img p.ids.local_tag ≡ h.value.local_tag = ap (λ (q : RecordAt). part_in img q.ids.local_tag) h.places ∙ l.local_tag in
-      let f : part_in img p.ids.remote_tag ≡ h.value.remote_tag = ap (λ (q : RecordAt). part_in img q.ids.remote_tag) h.places ∙ l.remote_tag in
+      let c : part_in img p.ids.id.call_id ≡ h.value.call_id = ap (λ (q : RecordAt). part_in img q.ids.id.call_id) h.places ∙ l.call_id in
+      let d : part_in img p.ids.id.local_tag ≡ h.value.local_tag = ap (λ (q : RecordAt). part_in img q.ids.id.local_tag) h.places ∙ l.local_tag in
+      let f : part_in img p.ids.id.remote_tag ≡ h.value.remote_tag = ap (λ (q : RecordAt). part_in img q.ids.id.remote_tag) h.places ∙ l.remote_tag in
       record {
         value = h.value;
         one = h.one;
         is = ap image.write (sym v) ∙ sym w.bytes;
         state_is = ap (λ (q : RecordAt). state_in q.numbers.state) h.places ∙ state_same h.value.numbers.state;
-        ident_is = ap₂ (λ (x y : List ℕ). ident x y (part_in img p.ids.remote_tag)) c d ∙ ap (ident h.value.call_id h.value.local_tag) f;
+        ident_is = ap₂ (λ (x y : List ℕ). ident x y (part_in img p.ids.id.remote_tag)) c d ∙ ap (ident h.value.call_id h.value.local_tag) f;
       }
 
 -- ---- the place of the image

@@ -1,6 +1,6 @@
 -- Steps of the code: the put of one record image (document 01, "A request arrives", "Entry": "a put is an `insert` of one record image"). What it leaves is
 -- `run` (book/specs/Store.antt); here the call is set out, and what the functions below it promise.
-use Rattle.std.specs.Prelude.{ℕ, ◌≤◌, ◌≡◌, Bool, false, cond, not, ◌&&◌, List, length, take, get_or, leb, None, Ok, Option, Some}
+use Rattle.std.specs.Prelude.{ℕ, ◌≤◌, ◌≡◌, Bool, false, not, ◌&&◌, List, length, take, get_or, leb, None, Ok, Option, Some}
 use Rattle.limits.specs.Limits.{LimitSet}
 use Rattle.record.specs.Record.{State, Record, state_byte_of, image}
 use Rattle.record.specs.NumbersForm.{state_in}
@@ -47,6 +47,6 @@ crowded_in L state i o = is_early state && leb L.early_per_call_id (early_others
 abbrev pub state_at : List ℕ → ℕ → State
 state_at s at = (state_byte_of (get_or s at 0)).state
 
--- what one record counts, by the texts at the places of its identifier and the state byte past them
-abbrev pub early_at : List ℕ → IdsAt → List ℕ → List ℕ → List ℕ → ℕ
-early_at s i c l r = cond (is_early (state_at s i.end) && (of_call_id_at s i c && not (named_at s i c l r))) 1 0
+-- an Early record with this Call-ID and another identifier, by the texts at the places of its identifier and the state byte past them
+abbrev pub early_at : List ℕ → IdsAt → List ℕ → List ℕ → List ℕ → Bool
+early_at s i c l r = is_early (state_at s i.end) && (of_call_id_at s i c && not (named_at s i c l r))

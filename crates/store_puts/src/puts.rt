@@ -4,20 +4,16 @@ ghost use Rattle.limits.specs.Limits.{rust_limits};
 ghost use Rattle.edit.specs.Edit.{spliced};
 ghost use Rattle.output.specs.Output.{fitted, leaves, written_from};
 ghost use Rattle.book.specs.Store.{run};
-ghost use Rattle.text.specs.Spans.{part_in};
-ghost use Rattle.dialog_id.specs.Ident.{ident};
-ghost use Rattle.dialog_id.specs.IdTexts.{ident_of};
 ghost use Rattle.dialog_manager.specs.Answers.{written_in};
-ghost use Rattle.dialog_manager.specs.Search.{IdsWithin};
 ghost use Rattle.store_puts.specs.Puts.{putting, Named, Open};
 
 use crate::early::is_crowded;
 use dialog_id::IdTexts;
 use dialog_manager::search_id;
-use image::IdsAt;
 use image_writer::write_image;
 use limits::{Limits, Refusal};
 use record::State;
+use store::Held;
 
 // DialogManager::insert of one record image: 3, 16, 17, 18. A replacement keeps its place; a new record is written into the free end of the store.
 // Kept (5, 6): a C caller lends bytes and says how many are used.
@@ -25,31 +21,14 @@ pub fn put(image: &[u8], bytes: &mut [u8], used: usize) -> Result<usize, Refusal
     ensures value { result ≡ written_in (run rust_limits (putting (length bytes.old) image.now) bytes.old used) }
     ensures bytes_after { bytes.new ≡ (run rust_limits (putting (length bytes.old) image.now) bytes.old used).bytes }
 {
-    let Ok(n) = store::count(bytes, used) else {
-        return Err(Refusal::BadStore);
-    };
-    let Ok(r) = dialog::read_image(image) else {
-        return Err(Refusal::BadStore);
-    };
+    let n = store::count(bytes, used)?;
+    let r = dialog::read_image(image)?;
     if Limits::MAX_CONFIRMED_DIALOGS <= n {
         return Err(Refusal::TooManyDialogs);
     }
     let numbers = r.numbers;
-    let id = ids_texts(r.ids, image);
+    let id = r.ids.id.texts(image);
     put_named(image, numbers.state, id, bytes, used)
-}
-
-// The texts of an identifier that lies in bytes.
-// Kept (2): `DialogId::texts` does it for another type, the parts in a block.
-fn ids_texts<'a>(ids: IdsAt, bytes: &'a [u8]) -> IdTexts<'a>
-    requires { IdsWithin bytes.now ids }
-    ensures { ident_of result ≡ ident (part_in bytes.now ids.call_id) (part_in bytes.now ids.local_tag) (part_in bytes.now ids.remote_tag) }
-{
-    IdTexts {
-        call_id: ids.call_id.text(bytes),
-        local_tag: ids.local_tag.text(bytes),
-        remote_tag: ids.remote_tag.text(bytes),
-    }
 }
 
 // The image of a record of this state and identifier: 17, 18. The store was read, and isn't full.
@@ -66,10 +45,13 @@ fn put_named(
     ensures value { result ≡ written_in (run rust_limits (putting (length bytes.old) image.now) bytes.old used) }
     ensures bytes_after { bytes.new ≡ (run rust_limits (putting (length bytes.old) image.now) bytes.old used).bytes }
 {
-    if is_crowded(state, &bytes[..used], id) {
+    let held = Held {
+        bytes: &bytes[..used],
+    };
+    if is_crowded(state, held, id) {
         return Err(Refusal::TooManyEarlyDialogs);
     }
-    let Some((at, r)) = search_id(&bytes[..used], id) else {
+    let Some((at, r)) = search_id(held, id) else {
         return add(image, bytes, used);
     };
     replace_image(image, bytes, used, at, r.end - at)

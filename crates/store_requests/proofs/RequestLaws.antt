@@ -20,7 +20,7 @@ use Rattle.image_edit.specs.declared.RecordPlace.{RecordPlace}
 use Rattle.text.specs.Spans.{part_in}
 use Rattle.dialog_rules.specs.Updates.{kind_of, request_update}
 use Rattle.dialog_rules.proofs.PlacedLaws.{Asked}
-use Rattle.dialog_updates.specs.AtPlace.{stepped}
+use Rattle.store_steps.specs.AtPlace.{stepped}
 use Rattle.dialog_id.specs.Ident.{Ident, ident}
 use Rattle.book.specs.Calls.{request}
 use Rattle.book.specs.Book.{named_in, update_cause, revised}

@@ -9,7 +9,7 @@ ghost use Rattle.book.specs.Book.{named_in};
 ghost use Rattle.dialog_manager.specs.Answers.{written_in};
 ghost use Rattle.store_entries.specs.Entries.{used_after, requesting, spot_named, standing_of, Ready};
 
-use dialog_id::{IdTexts, request_id_in};
+use dialog_id::request_id_in;
 use dialog_requests::request_by;
 use image_edit::RecordPlace;
 use limits::Refusal;
@@ -23,9 +23,7 @@ pub fn request(method: &[u8], block: &[u8], bytes: &mut [u8], used: usize) -> Re
     ensures bytes_after { bytes.new ≡ (requesting rust_limits method.now block.now bytes.old used).bytes }
     ensures used_value { used_after result used ≡ (requesting rust_limits method.now block.now bytes.old used).used }
 {
-    if text::too_long(method) {
-        return Err(Refusal::TextTooLong);
-    }
+    text::check_length(method)?;
     let t = msg::read_headers(block)?;
     let cseq = t.cseq;
     let contact = t.contact;
@@ -34,7 +32,7 @@ pub fn request(method: &[u8], block: &[u8], bytes: &mut [u8], used: usize) -> Re
 }
 
 // By the identifier that a block names, if it names one: 3, 15. A request from the peer has From as remote tag.
-// Kept (5, 6): that the used length lies within the lent bytes is checked here, by `count`.
+// Kept (5, 6): 3 comes after 2, and after that the two that are called check the used length, so that the caller cannot.
 fn locate_named(
     bytes: &[u8],
     used: usize,
@@ -48,15 +46,7 @@ fn locate_named(
     let Some(i) = request_id_in(block, t) else {
         return nowhere(bytes, used);
     };
-    let named = i.texts(block);
-    let local_tag = named.remote_tag;
-    let remote_tag = named.local_tag;
-    let id = IdTexts {
-        call_id: named.call_id,
-        local_tag,
-        remote_tag,
-    };
-    locate(bytes, used, id)
+    locate(bytes, used, i.swapped().texts(block))
 }
 
 // No identifier is named: 3, 15.
@@ -65,8 +55,6 @@ fn nowhere(bytes: &[u8], used: usize) -> Result<RecordPlace, Refusal>
     ensures value { result ≡ standing_of used (spot_named None bytes.now used) }
     ensures ready { Ready bytes.now result }
 {
-    let Ok(_) = store::count(bytes, used) else {
-        return Err(Refusal::BadStore);
-    };
+    store::count(bytes, used)?;
     Err(Refusal::NotFound)
 }

@@ -6,7 +6,7 @@ use mathlib.Core.List.{List}
 use lib.ListN.{length, take}
 use Rattle.std.specs.Prelude.{Err, None, Ok, Option, Result, Some}
 use Rattle.limits.specs.Limits.{rust_limits}
-use Rattle.limits.specs.Outcome.{or_else, refuse_by, check_of}
+use Rattle.limits.specs.Outcome.{or_else, refuse_by}
 use Rattle.limits.specs.declared.Refusal.{Refusal}
 use Rattle.msg.specs.Block.{block_cause}
 use Rattle.output.specs.Output.{leaves, written_from}
@@ -18,16 +18,15 @@ use Rattle.record.proofs.NumberLaws.{meaning_same}
 use Rattle.image.specs.declared.RecordAt.{RecordAt}
 use Rattle.image_edit.specs.declared.RecordPlace.{RecordPlace}
 use Rattle.dialog_rules.specs.Updates.{local_update}
-use Rattle.dialog_rules.proofs.RefusalLaws.{no_causes}
-use Rattle.dialog_updates.specs.AtPlace.{stepped}
+use Rattle.store_steps.specs.AtPlace.{stepped, raised_with}
 use Rattle.dialog_id.specs.Ident.{Ident, ident_cause}
 use Rattle.book.specs.Calls.{Update, response, terminate, local_number, interval, number, Answer}
 use Rattle.book.specs.Book.{name_of, update_cause, revised}
 use Rattle.book.specs.Store.{Left}
 use Rattle.dialog_manager.specs.Answers.{written_by}
-use Rattle.store_entries.specs.Entries.{updating, raised_by, raised_in, used_raised, spot_in, standing_of, raised_with}
+use Rattle.store_entries.specs.Entries.{updating, raised_by, raised_in, used_raised, spot_in, standing_of}
 use Rattle.store_entries.proofs.EntryLaws.{permitted, Done, left_by, arguments_done, turned, step_left, step_done, not_standing}
-use Rattle.store_updates.specs.Finding.{cause_in, found_in}
+use Rattle.store_updates.specs.Finding.{found_in}
 
 -- an update that names its record by an identifier: its arguments are refused by the lengths of that, then by those of the others
 pub record ByIdent (u : Update) (i : Ident) (others : Option Refusal) : Type 0 where
@@ -42,17 +41,9 @@ pub terminates : (i : Ident) → ByIdent (terminate i) i None
 unfolding update_cause
 terminates i = record { named = refl; causes = or_none (ident_cause rust_limits i) }
 
-cause_told : (o : Option Refusal) → o ≡ cause_in (check_of o)
-cause_told None = refl
-cause_told (Some cause) = refl
-
-pub check_passed : (v : Result (Unit {0}) Refusal) → cause_in v ≡ None → v ≡ Ok tt
-check_passed (Ok tt) e = refl
-check_passed (Err cause) e = absurd (let z : ◌≡◌ {A = ℕ} 0 1 = cc in omega arith)
-
-pub responds : (i : Ident) (status : ℕ) (block : List ℕ) → ByIdent (response i status block) i (cause_in (check_of (block_cause rust_limits block)))
+pub responds : (i : Ident) (status : ℕ) (block : List ℕ) → ByIdent (response i status block) i (block_cause rust_limits block)
 unfolding update_cause
-responds i status block = record { named = refl; causes = ap (or_else (ident_cause rust_limits i)) (cause_told (block_cause rust_limits block)) }
+responds i status block = record { named = refl; causes = refl }
 
 pub sets : (i : Ident) (seconds : ℕ) → ByIdent (interval i seconds) i None
 unfolding update_cause
@@ -61,6 +52,24 @@ sets i seconds = record { named = refl; causes = or_none (ident_cause rust_limit
 pub raises : (i : Ident) → ByIdent (local_number i) i None
 unfolding update_cause
 raises i = record { named = refl; causes = or_none (ident_cause rust_limits i) }
+
+-- where the record is found, a check at a time
+module _ (i : Ident) (others : Option Refusal) (bytes : List ℕ) (used : ℕ) where
+  abbrev found_after : Option Refusal → Option Refusal → Result RecordPlace Refusal
+  found_after o p = standing_of used (refuse_by (or_else o p) (spot_in i bytes used))
+
+  -- 1 of the identifier
+  pub found_long : {cause : Refusal} → ident_cause rust_limits i ≡ Some cause → Err cause ≡ standing_of used (found_in i others bytes used)
+  found_long e = ap (λ (o : Option Refusal). found_after o others) (sym e)
+
+  module _ (clear : ident_cause rust_limits i ≡ None) where
+    -- what the other arguments refuse
+    pub found_other : {cause : Refusal} → others ≡ Some cause → Err cause ≡ standing_of used (found_in i others bytes used)
+    found_other e = ap (λ (o : Option Refusal). found_after None o) (sym e) ∙ ap (λ (o : Option Refusal). found_after o others) (sym clear)
+
+    -- 3, 15
+    pub found_then : others ≡ None → {t : Result RecordPlace Refusal} → t ≡ standing_of used (spot_in i bytes used) → t ≡ standing_of used (found_in i others bytes used)
+    found_then e w = w ∙ ap (λ (o : Option Refusal). found_after None o) (sym e) ∙ ap (λ (o : Option Refusal). found_after o others) (sym clear)
 
 -- t is where the record was found
 module _ {u : Update} {i : Ident} {others : Option Refusal} (n : ByIdent u i others) (bytes : List ℕ) (used : ℕ) {t : Result RecordPlace Refusal} (told : t ≡ standing_of used (found_in i others bytes used)) where
@@ -85,10 +94,6 @@ module _ {u : Update} {i : Ident} {others : Option Refusal} (n : ByIdent u i oth
         by : (o : Option Refusal) → Ok q ≡ standing_of used (refuse_by o (spot_in i bytes used)) → (o ≡ None) × (Ok q ≡ standing_of used (spot_in i bytes used))
         by None f = (refl, f)
         by (Some own) f = absurd (let z : ◌≡◌ {A = ℕ} 0 1 = cc in omega arith)
-
-    -- the other arguments are not refused
-    pub others_passed : others ≡ None
-    others_passed = (no_causes (ident_cause rust_limits i) others (sym n.causes ∙ stands.0)).1
 
     -- the step's refusals, 18, or the changed record
     pub call_done : Bytes bytes → {r : Result ℕ Refusal} {after : List ℕ}

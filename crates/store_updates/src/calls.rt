@@ -1,10 +1,10 @@
 // The calls that name their record by its identifier.
-ghost use Rattle.std.specs.Prelude.{◌≡◌};
+ghost use Rattle.std.specs.Prelude.{◌≡◌, None};
 ghost use Rattle.limits.specs.Limits.{rust_limits};
 ghost use Rattle.dialog_id.specs.IdTexts.{ident_of};
 ghost use Rattle.dialog_manager.specs.Answers.{written_in};
 ghost use Rattle.store_entries.specs.Entries.{raised_in, used_after, used_raised, terminating, responding, setting, raising, standing_of, Ready};
-ghost use Rattle.store_updates.specs.Finding.{cause_in, found_in};
+ghost use Rattle.store_updates.specs.Finding.{found_in};
 
 use dialog_id::IdTexts;
 use dialog_responses::response_at;
@@ -20,7 +20,7 @@ pub fn terminate(id: IdTexts<'_>, bytes: &mut [u8], used: usize) -> Result<usize
     ensures bytes_after { bytes.new ≡ (terminating rust_limits id.entry.call_id.now id.entry.local_tag.now id.entry.remote_tag.now bytes.old used).bytes }
     ensures used_value { used_after result used ≡ (terminating rust_limits id.entry.call_id.now id.entry.local_tag.now id.entry.remote_tag.now bytes.old used).used }
 {
-    let p = find_record(id, Ok(()), bytes, used)?;
+    let p = find_record(id, bytes, used)?;
     terminate_at(bytes, p)
 }
 
@@ -37,8 +37,9 @@ pub fn response(
     ensures bytes_after { bytes.new ≡ (responding rust_limits id.entry.call_id.now id.entry.local_tag.now id.entry.remote_tag.now status block.now bytes.old used).bytes }
     ensures used_value { used_after result used ≡ (responding rust_limits id.entry.call_id.now id.entry.local_tag.now id.entry.remote_tag.now status block.now bytes.old used).used }
 {
-    let others = msg::check_block(block);
-    let p = find_record(id, others, bytes, used)?;
+    id.check_lengths()?;
+    msg::check_block(block)?;
+    let p = locate(bytes, used, id)?;
     response_at(bytes, p, status, block)
 }
 
@@ -54,7 +55,7 @@ pub fn set_session_expires(
     ensures bytes_after { bytes.new ≡ (setting rust_limits id.entry.call_id.now id.entry.local_tag.now id.entry.remote_tag.now seconds bytes.old used).bytes }
     ensures used_value { used_after result used ≡ (setting rust_limits id.entry.call_id.now id.entry.local_tag.now id.entry.remote_tag.now seconds bytes.old used).used }
 {
-    let p = find_record(id, Ok(()), bytes, used)?;
+    let p = find_record(id, bytes, used)?;
     interval_at(bytes, p, seconds)
 }
 
@@ -69,22 +70,16 @@ pub fn next_local_cseq(
     ensures bytes_after { bytes.new ≡ (raising rust_limits id.entry.call_id.now id.entry.local_tag.now id.entry.remote_tag.now bytes.old used).bytes }
     ensures used_value { used_raised result used ≡ (raising rust_limits id.entry.call_id.now id.entry.local_tag.now id.entry.remote_tag.now bytes.old used).used }
 {
-    let p = find_record(id, Ok(()), bytes, used)?;
+    let p = find_record(id, bytes, used)?;
     local_at(bytes, p)
 }
 
-// Where the record of an identifier stands: 1 of the identifier, what the check of the other arguments found, 3, 15.
-// Kept (5, 6): that the used length lies within the lent bytes is checked by `locate`, after the other arguments.
-fn find_record(
-    id: IdTexts<'_>,
-    others: Result<(), Refusal>,
-    bytes: &[u8],
-    used: usize,
-) -> Result<RecordPlace, Refusal>
-    ensures value { result ≡ standing_of used (found_in (ident_of id.entry) (cause_in others) bytes.now used) }
+// Where the record of an identifier stands: 1, 3, 15.
+// Kept (5, 6): 3 comes after 1, so that the caller cannot check the used length before.
+fn find_record(id: IdTexts<'_>, bytes: &[u8], used: usize) -> Result<RecordPlace, Refusal>
+    ensures value { result ≡ standing_of used (found_in (ident_of id.entry) None bytes.now used) }
     ensures ready { Ready bytes.now result }
 {
     id.check_lengths()?;
-    others?;
     locate(bytes, used, id)
 }

@@ -1,5 +1,6 @@
 pub mod Alike
 pub mod Digits
+pub mod Lengths
 pub mod Runs
 pub mod Sames
 pub mod Trimming

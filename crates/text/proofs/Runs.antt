@@ -1,5 +1,5 @@
 -- How many bytes from the front on pass a test. Assumes nothing.
-use Prim.Native.Nat.{ℕ, suc, ◌+◌, ◌-◌, ◌≤◌}
+use Prim.Native.Nat.{ℕ, suc, ◌+◌, ◌-◌, ◌<◌, ◌≤◌}
 use native.Mathlib.Nat.{zero-add, suc-add}
 use native.Mathlib.Omega.{arith}
 use mathlib.Core.Path.{◌≡◌, refl, sym, ap, ◌∙◌}
@@ -9,6 +9,8 @@ use lib.ListN.{length, take, drop, length-drop}
 use lib.Seq.{take_all}
 use lib.Dec.{eqb}
 use borrow.Author.Tests.{eq-eqb, ne_eqb, eqb-true, eqb-false}
+use Rattle.std.specs.Prelude.{None, Option, Some, MatchOption}
+use Rattle.std.specs.Option.{unwrap_or}
 use Rattle.text.specs.Text.{span, all}
 
 -- the run of a test goes on past that of a stronger one
@@ -55,6 +57,11 @@ drop_part s a = take_all (length s - a) (drop a s) (simp length-drop (omega arit
 
 pub part_length : (s : List ℕ) (a : ℕ) → length (take (length s - a) (drop a s)) ≡ length s - a
 part_length s a = ap length (drop_part s a) ∙ length-drop a s
+
+-- where a byte was found, or else the length
+pub place_or : (n len : ℕ) (o : Option ℕ) → MatchOption o (len ≡ n) (λ k. (k ≡ n) × (k < len)) → unwrap_or o len ≡ n
+place_or n len None h = h
+place_or n len (Some k) h = h.0
 
 -- a run stops at the first byte that fails, and goes on past one that passes
 pub span_hit : (p : ℕ → Bool) (b : ℕ) (s : List ℕ) → p b ≡ false → span p (b ∷ s) ≡ 0

@@ -7,3 +7,7 @@ part_in s p = take p.length (drop p.start s)
 
 abbrev pub PartWithin : List ℕ → Span → Type 0
 PartWithin s p = p.start + p.length ≤ length s
+
+-- the same part, in a text in which the one that it was read in stands at `by`
+abbrev pub moved_span : ℕ → Span → Span
+moved_span by p = record { start = by + p.start; length = p.length }

@@ -1,6 +1,5 @@
 -- The text that is cut out of a header value: where it stands, and that its bytes are those of the value. Assumes nothing.
 use Prim.Native.Nat.{ℕ, ◌+◌, ◌-◌, ◌≤◌, ◌<◌}
-use native.Mathlib.Nat.{add-sub_cancel_left}
 use native.Mathlib.Omega.{arith}
 use mathlib.Core.Path.{◌≡◌, refl, sym, ap, ◌∙◌}
 use mathlib.Core.Bool.{Bool, true, false}
@@ -10,7 +9,7 @@ use lib.Seq.{take-take, drop-drop}
 use borrow.Author.Tests.{lt-ltb, le-ltb, ltb-true, ltb-false}
 use Rattle.std.specs.Prelude.{None, Some}
 use Rattle.text.specs.Text.{span, other, blanks, trimmed, trimmed_span, Piece}
-use Rattle.text.specs.Answers.{span_of}
+use Rattle.text.specs.Spans.{part_in}
 use Rattle.text.specs.declared.Span.{Span}
 use Rattle.text.proofs.Runs.{span_le}
 use Rattle.text.proofs.Trimming.{drop_take, trimmed_fits, trimmed_is, trimmed_at, trimmed_part}
@@ -44,11 +43,6 @@ bracket_cut v n hn h =
 
 -- ---- the code's steps
 
--- where the n bytes from `at` on stand without their blanks
-pub trimmed_there : (v : List ℕ) (at n : ℕ) (p : Span) → p ≡ trimmed_span (take (at + n - at) (drop at v))
-    → record { start = at + p.start; length = p.length } ≡ span_of (trimmed_piece at (take n (drop at v)))
-trimmed_there v at n p e = rw (rw add-sub_cancel_left at e)
-
 -- of the k bytes from `at` on, n stand before the first `>`
 module _ (v : List ℕ) (at k n : ℕ) (hn : n ≡ span (other 62) (take k (drop at v))) where
   pub unclosed : length (take k (drop at v)) ≤ n → in_brackets at (take k (drop at v)) ≡ None
@@ -61,23 +55,20 @@ module _ (v : List ℕ) (at k n : ℕ) (hn : n ≡ span (other 62) (take k (drop
       let l : n ≤ k = omega (arith, length-take k (drop at v)) in
       rw (← hn, lt-ltb n (length (take k (drop at v))) h, take-take n k (drop at v) l)
 
--- p is where the trimmed value stands
-module _ (v : List ℕ) (p : Span) (hp : p ≡ trimmed_span v) where
-  -- its bytes, as the code cuts them out
-  pub whole : take (p.start + p.length - p.start) (drop p.start v) ≡ trimmed v
-  whole = rw (add-sub_cancel_left, hp) (trimmed_is v)
+-- p is where the trimmed value stands, and t its bytes
+module _ (v : List ℕ) (p : Span) (hp : p ≡ trimmed_span v) (t : List ℕ) (ht : t ≡ part_in v p) where
+  pub whole : t ≡ trimmed v
+  whole = rw (ht, hp) (trimmed_is v)
 
   -- n bytes stand before the first `<`
-  module _ (n : ℕ) (hn : n ≡ span (other 60) (take (p.start + p.length - p.start) (drop p.start v))) where
-    pub bracket : n < length (take (p.start + p.length - p.start) (drop p.start v))
-        → in_brackets (p.start + n + 1) (take (p.start + p.length - (p.start + n + 1)) (drop (p.start + n + 1) v)) ≡ uri_text v
-    bracket h =
+  module _ (n : ℕ) (hn : n ≡ span (other 60) t) where
+    pub bracket : n < length t → (e : ℕ) → e ≡ p.start + p.length → in_brackets (p.start + n + 1) (take (e - (p.start + n + 1)) (drop (p.start + n + 1) v)) ≡ uri_text v
+    bracket h e he =
         let i : blanks v + length (trimmed v) - (blanks v + n + 1) ≡ length (trimmed v) - (n + 1) = omega arith in
-        rw (bracket_cut v n (rw whole at hn) (rw whole at h), hp, i)
+        rw (bracket_cut v n (rw whole at hn) (rw whole at h), he, hp, i)
 
     -- there is none, and m bytes stand before the first `;`
-    pub plain : (m : ℕ) → length (take (p.start + p.length - p.start) (drop p.start v)) ≤ n → m ≡ span (other 59) (take (p.start + p.length - p.start) (drop p.start v))
-        → uri_text v ≡ Some (trimmed_piece p.start (take m (drop p.start v)))
+    pub plain : (m : ℕ) → length t ≤ n → m ≡ span (other 59) t → uri_text v ≡ Some (trimmed_piece p.start (take m (drop p.start v)))
     plain m h hm = rw (plain_cut v n m (rw whole at hn) (rw whole at h) (rw whole at hm), hp)
 
 -- ---- where the text stands

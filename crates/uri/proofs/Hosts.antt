@@ -10,6 +10,7 @@ use lib.ListN.{length, take, drop, get_or, length-take, drop_of_length-le}
 use lib.Seq.{take_all, take-take, length-take-le, get_or-take, drop-cons}
 use lib.Dec.{eqb, ltb}
 use borrow.Author.Tests.{lt-ltb, le-ltb, ltb-true, eqb-true, not-true, not-false}
+use Rattle.std.proofs.lemmas.Bool.{and_parts}
 use Rattle.std.specs.Prelude.{None, Some}
 use Rattle.text.specs.Text.{span, all, other}
 use Rattle.text.specs.Number.{non_empty}
@@ -173,10 +174,6 @@ host_own s = by (begins 91 s)
     by true = take_own (span (other 93) s + 1) s
     by false = take_own (span (λ b. not (ends_host b)) s) s
 
-both : (a b : Bool) → (a && b) ≡ true → (a ≡ true) × (b ≡ true)
-both true b e = (refl, e)
-both false b e = absurd (true≢false (sym e))
-
 -- t stands after `[`: an address, then `]`
 module _ (t : List ℕ) (h : 2 < suc (length t)) where
   last : drop (length t - 1) t ≡ get_or t (length t - 1) 0 ∷ []
@@ -195,8 +192,8 @@ host_uris (b ∷ t) e = by (eqb b 91) refl e
   where
     closed : (i j : ℕ) → (2 < suc (length t) → i ≡ suc (length t - 1)) → (2 < suc (length t) → j ≡ length t - 1) → (ltb 2 (suc (length t)) && (eqb (get_or (b ∷ t) i 0) 93 && all is_address (take j t))) ≡ true → all is_uri t ≡ true
     closed i j p q e =
-        let x = both (ltb 2 (suc (length t))) _ e in
-        let y = both (eqb (get_or (b ∷ t) i 0) 93) _ x.1 in
+        let x = and_parts (ltb 2 (suc (length t))) _ e in
+        let y = and_parts (eqb (get_or (b ∷ t) i 0) 93) _ x.1 in
         let l = ltb-true 2 (suc (length t)) x.0 in
         inner t l (rw (q l) at y.1) (rw (p l) at y.0)
 

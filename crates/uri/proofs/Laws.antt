@@ -1,23 +1,24 @@
 -- What the answers say of the readings, and what callers know of a URI that was read. Assumes nothing.
-use Prim.Native.Nat.{ℕ, ◌+◌, ◌-◌, ◌≤◌}
-use native.Mathlib.Nat.{add-sub_cancel_left}
+use Prim.Native.Nat.{ℕ, zero, suc, ◌+◌, ◌≤◌}
 use native.Mathlib.Omega.{arith}
-use mathlib.Core.Path.{◌≡◌, refl}
+use mathlib.Core.Path.{◌≡◌, refl, ◌∙◌}
 use mathlib.Core.Bool.{true, false}
 use mathlib.Core.List.{List}
-use lib.ListN.{length, take, drop}
+use lib.ListN.{length}
 use lib.Dec.{ltb}
-use Rattle.std.specs.Prelude.{Err, None, Ok, Option, Some}
+use borrow.Author.Tests.{lt-ltb}
+use Rattle.std.specs.Prelude.{Err, None, Ok, Option, Result, Some}
 use Rattle.limits.specs.Limits.{LimitSet, rust_limits}
 use Rattle.limits.specs.declared.Refusal.{Refusal}
 use Rattle.limits.specs.declared.Refusal.TheVariants.{TextTooLong, InvalidUri, UriTooLong}
 use Rattle.limits.proofs.Laws.{some_pair}
 use Rattle.text.specs.Text.{Piece}
 use Rattle.text.specs.Answers.{too_long, value_cause, span_of}
+use Rattle.text.specs.Spans.{part_in}
 use Rattle.text.specs.declared.Span.{Span}
-use Rattle.uri.specs.SipUri.{UriParts, sip_uri, sip_uri_from, uri_from, estimate_of, over_estimate, port_from, port_estimate, read_uri, read_estimate}
+use Rattle.uri.specs.SipUri.{UriParts, sip_uri, sip_uri_from, user_at, uri_from, uri_answer, estimate_of, over_estimate, port_from, port_estimate, read_uri, read_estimate}
 use Rattle.uri.specs.HeaderUri.{uri_text, ReadUri, as_read, read_piece, header_uri, header_uri_from, piece_of, uri_from_header}
-use Rattle.uri.specs.Steps.{cut_from, port_size, size_of, Inside}
+use Rattle.uri.specs.Steps.{cut_from, port_size, user_size, size_of, Inside}
 use Rattle.uri.specs.declared.SipUri.{SipUri}
 use Rattle.uri.proofs.Cuts.{Stands, text_stands}
 
@@ -43,13 +44,32 @@ port_size_lem : (o : Option ℕ) → port_size (port_from o) ≡ port_estimate o
 port_size_lem None = refl
 port_size_lem (Some n) = refl
 
+user_size_lem : (at n : ℕ) → user_size (user_at at n) ≡ n
+user_size_lem at zero = refl
+user_size_lem at (suc n) = rw (lt-ltb 0 (suc n) (omega arith))
+
 -- the estimate of the parts as the code has them is that of the parts that were read
 pub size_is : (p : UriParts) → size_of (sip_uri_from p) ≡ estimate_of p
-size_is p = rw (port_size_lem p.port)
+size_is p = rw (user_size_lem p.user.place (length p.user.text), port_size_lem p.port)
 
 -- what `over_estimate` answers of a URI that was read
 pub over_is : (p : UriParts) {u : SipUri} → sip_uri_from p ≡ u → ltb rust_limits.uri (size_of u) ≡ over_estimate rust_limits p
 over_is p e = rw (← e, size_is p)
+
+-- ---- the answer of `sip_uri`
+
+pub answer_refused : (o : Result UriParts Refusal) {cause : Refusal} → uri_answer o ≡ Err cause → o ≡ Err cause
+answer_refused (Err x) e = cc
+answer_refused (Ok p) e = absurd (let z : ◌≡◌ {A = ℕ} 0 1 = cc in omega arith)
+
+pub record Answered (o : Result UriParts Refusal) (u : SipUri) : Type 0 where
+  pub parts : UriParts
+  pub reads : o ≡ Ok parts
+  pub told : sip_uri_from parts ≡ u
+
+pub answered : (o : Result UriParts Refusal) {u : SipUri} → uri_answer o ≡ Ok u → Answered o u
+answered (Err x) e = absurd (let z : ◌≡◌ {A = ℕ} 0 1 = cc in omega arith)
+answered (Ok p) e = record { parts = p; reads = refl; told = cc }
 
 -- ---- the operations on a given text or value
 
@@ -91,8 +111,8 @@ module _ (L : LimitSet) (s : List ℕ) where
 -- ---- the URI in a value: `header_uri`'s steps
 
 -- a part that is cut out where a piece stands is its text
-pub part_bytes : (v : List ℕ) (p : Piece) (at : Span) → Stands v p → span_of p ≡ at → take (at.start + at.length - at.start) (drop at.start v) ≡ p.text
-part_bytes v p at i e = rw (add-sub_cancel_left, ← e) i.bytes
+pub part_bytes : (v : List ℕ) (p : Piece) (at : Span) → Stands v p → span_of p ≡ at → part_in v at ≡ p.text
+part_bytes v p at i e = rw (← e) i.bytes
 
 cut_at : (o : Option Piece) {at : Span} → cut_from o ≡ Some at → (p : Piece) × (o ≡ Some p) × (span_of p ≡ at)
 cut_at None e = absurd (let z : ◌≡◌ {A = ℕ} 0 1 = cc in omega arith)
@@ -122,18 +142,20 @@ module _ (v : List ℕ) (at : Span) (e : cut_from (uri_text v) ≡ Some at) wher
   pub cut_inside : at.start + at.length ≤ length v
   cut_inside = rw (← place) (text_stands v cuts).fits
 
-  bytes : take (at.start + at.length - at.start) (drop at.start v) ≡ piece.text
-  bytes = part_bytes v piece at (text_stands v cuts) place
+  -- t are the bytes there
+  module _ (t : List ℕ) (ht : t ≡ part_in v at) where
+    bytes : t ≡ piece.text
+    bytes = ht ∙ part_bytes v piece at (text_stands v cuts) place
 
-  pub cut_unread : uri_from (sip_uri (take (at.start + at.length - at.start) (drop at.start v))) ≡ None → header_uri v ≡ None
-  unfolding header_uri
-  cut_unread f = rw (cuts, unread (sip_uri piece.text) (rw bytes at f))
+    pub cut_unread : uri_from (sip_uri t) ≡ None → header_uri v ≡ None
+    unfolding header_uri
+    cut_unread f = rw (cuts, unread (sip_uri piece.text) (rw bytes at f))
 
-  pub cut_read : (u : SipUri) → uri_from (sip_uri (take (at.start + at.length - at.start) (drop at.start v))) ≡ Some u → header_uri_from (header_uri v) ≡ Some (at, u)
-  unfolding header_uri
-  cut_read u f =
-      let r : PartsRead (sip_uri piece.text) u = read (sip_uri piece.text) (rw bytes at f) in
-      rw (cuts, r.reads, place, r.told)
+    pub cut_read : (u : SipUri) → uri_from (sip_uri t) ≡ Some u → header_uri_from (header_uri v) ≡ Some (at, u)
+    unfolding header_uri
+    cut_read u f =
+        let r : PartsRead (sip_uri piece.text) u = read (sip_uri piece.text) (rw bytes at f) in
+        rw (cuts, r.reads, place, r.told)
 
 -- ---- the URI in a value: what callers know
 

@@ -1,5 +1,5 @@
 -- The scheme, the user part and what stands after them. Assumes nothing.
-use Prim.Native.Nat.{ℕ, suc, ◌+◌, ◌-◌, ◌≤◌, ◌<◌}
+use Prim.Native.Nat.{ℕ, zero, suc, ◌+◌, ◌-◌, ◌≤◌, ◌<◌}
 use native.Mathlib.Omega.{arith}
 use mathlib.Core.Path.{◌≡◌, refl, sym, ap, ap₂, subst, ◌∙◌}
 use mathlib.Core.Bool.{Bool, true, false, cond, not, ◌&&◌, true≢false}
@@ -8,30 +8,27 @@ use lib.ListN.{length, take, drop, get_or, length-take, length-drop}
 use lib.Seq.{length-take-le, drop-drop}
 use lib.Dec.{eqb}
 use borrow.Author.Tests.{lt-ltb, le-ltb, eq-eqb, ne_eqb}
+use Rattle.std.proofs.lemmas.Bool.{and_parts}
 use Rattle.std.specs.Prelude.{None, Option, Some}
+use Rattle.limits.proofs.Laws.{some_pair}
 use Rattle.text.specs.Text.{span, all, other, alike, same, lower, Piece}
 use Rattle.text.specs.Answers.{span_of}
 use Rattle.text.specs.declared.Span.{Span}
 use Rattle.text.proofs.Runs.{span_le, drop_part, part_length}
-use Rattle.uri.proofs.Ports.{second}
 use Rattle.uri.proofs.Hosts.{host_own, host_uris}
 use Rattle.uri_bytes.specs.Bytes.{is_uri}
 use Rattle.uri_bytes.specs.Classes.{in_class}
 use Rattle.uri_bytes.specs.declared.Class.TheVariants as class
 use Rattle.uri_bytes.proofs.Bytes.{alike_uri}
 use Rattle.uri_bytes.proofs.Spans.{span_ends, span_until, span_longer, all_before, all_fails, all_split}
-use Rattle.uri.specs.SipUri.{sip, sips, is_host_text, host_text, port_of, with_port, with_host, with_user, with_scheme, sip_uri, UriParts, uri_from}
-use Rattle.uri.specs.Steps.{host_from, InsideHost, after_host_from, piece_in, scheme_length, of_uri, UserStep}
+use Rattle.uri.specs.SipUri.{sip, sips, is_host_text, host_text, port_of, with_port, with_host, with_user, with_scheme, sip_uri, UriParts, uri_from, user_at, user_from}
+use Rattle.uri.specs.Steps.{host_from, after_host_from, piece_in, scheme_length, of_uri, user_in, UserInside, UserStep}
 
 -- the part from `at` to the end, as the code has it
 abbrev pub part : List ℕ → ℕ → List ℕ
 part s at = take (length s - at) (drop at s)
 
 -- ---- conjunctions
-
-first : (a b : Bool) → (a && b) ≡ true → a ≡ true
-first true b e = refl
-first false b e = absurd (true≢false (sym e))
 
 not_first : (a b : Bool) → (a && b) ≡ false → b ≡ true → a ≡ false
 not_first true b e f = absurd (true≢false (sym f ∙ e))
@@ -44,7 +41,7 @@ unfolding alike
 same_lengths f [] [] e = refl
 same_lengths f [] (y ∷ b) e = absurd (true≢false (sym e))
 same_lengths f (x ∷ a) [] e = absurd (true≢false (sym e))
-same_lengths f (x ∷ a) (y ∷ b) e = ap suc (same_lengths f a b (second (eqb (f x) (f y)) (alike f a b) e))
+same_lengths f (x ∷ a) (y ∷ b) e = ap suc (same_lengths f a b (and_parts (eqb (f x) (f y)) (alike f a b) e).1)
 
 -- a text that begins with a head is as long
 pub starts_fits : (s head : List ℕ) → same (take (length head) s) head ≡ true → length head ≤ length s
@@ -58,37 +55,41 @@ unread_of s = by (all is_uri s)
     by true = refl
     by false = refl
 
+-- the scheme, by whether the text begins with each of the two
+abbrev scheme_by : Bool → Bool → Option (ℕ × Bool)
+scheme_by t u = cond t (Some (4, false)) (cond u (Some (5, true)) None)
+
 module _ (s : List ℕ) where
   -- the scheme's bytes are those of a URI
   after_head : (k : ℕ) (head : List ℕ) → all is_uri head ≡ true → same (take k s) head ≡ true → all is_uri s ≡ all is_uri (drop k s)
   after_head k head h e = rw (all_split is_uri k s, alike_uri (take k s) head e, h)
 
-  module _ (n : ℕ) (hn : n ≡ scheme_length s) where
+  pub scheme_none : scheme_length s ≡ None → sip_uri s ≡ None
+  unfolding sip_uri with_scheme
+  scheme_none h = by (same (take 4 s) sip) refl (same (take 5 s) sips) refl h
+    where
+      by : (t : Bool) → same (take 4 s) sip ≡ t → (u : Bool) → same (take 5 s) sips ≡ u → scheme_by t u ≡ None → sip_uri s ≡ None
+      by true e u f q = absurd (let z : ◌≡◌ {A = ℕ} 0 1 = cc in omega arith)
+      by false e true f q = absurd (let z : ◌≡◌ {A = ℕ} 0 1 = cc in omega arith)
+      by false e false f q = rw (e, f) (unread_of s)
+
+  module _ (n : ℕ) (secure : Bool) (h : scheme_length s ≡ Some (n, secure)) where
     pub scheme_fits : n ≤ length s
-    scheme_fits = rw hn (by (same (take 4 s) sip) refl (same (take 5 s) sips) refl)
+    scheme_fits = by (same (take 4 s) sip) refl (same (take 5 s) sips) refl h
       where
-        by : (t : Bool) → same (take 4 s) sip ≡ t → (u : Bool) → same (take 5 s) sips ≡ u → cond t 4 (cond u 5 0) ≤ length s
-        by true e u f = starts_fits s sip e
-        by false e true f = starts_fits s sips f
-        by false e false f = omega arith
+        by : (t : Bool) → same (take 4 s) sip ≡ t → (u : Bool) → same (take 5 s) sips ≡ u → scheme_by t u ≡ Some (n, secure) → n ≤ length s
+        by true e u f q = rw (← (some_pair q).0) (starts_fits s sip e)
+        by false e true f q = rw (← (some_pair q).0) (starts_fits s sips f)
+        by false e false f q = absurd (let z : ◌≡◌ {A = ℕ} 0 1 = cc in omega arith)
 
-    pub scheme_none : n ≡ 0 → sip_uri s ≡ None
-    unfolding sip_uri with_scheme
-    scheme_none z = by (same (take 4 s) sip) refl (same (take 5 s) sips) refl
-      where
-        by : (t : Bool) → same (take 4 s) sip ≡ t → (u : Bool) → same (take 5 s) sips ≡ u → sip_uri s ≡ None
-        by true e u f = absurd (let k : n ≡ 4 = hn ∙ ap (λ (x : Bool). cond x 4 (cond (same (take 5 s) sips) 5 0)) e in omega arith)
-        by false e true f = absurd (let k : n ≡ 5 = rw (e, f) at hn in omega arith)
-        by false e false f = rw (e, f) (unread_of s)
-
-    pub scheme_read : (n ≡ 0 → ⊥) → sip_uri s ≡ of_uri (drop n s) (with_user (eqb n 5) n (drop n s))
+    pub scheme_read : sip_uri s ≡ of_uri (drop n s) (with_user secure n (drop n s))
     unfolding sip_uri with_scheme all
-    scheme_read z = by (same (take 4 s) sip) refl (same (take 5 s) sips) refl
+    scheme_read = by (same (take 4 s) sip) refl (same (take 5 s) sips) refl h
       where
-        by : (t : Bool) → same (take 4 s) sip ≡ t → (u : Bool) → same (take 5 s) sips ≡ u → sip_uri s ≡ of_uri (drop n s) (with_user (eqb n 5) n (drop n s))
-        by true e u f = let k : n ≡ 4 = rw e at hn in rw (k, e, after_head 4 sip refl e)
-        by false e true f = let k : n ≡ 5 = rw (e, f) at hn in rw (k, e, f, after_head 5 sips refl f)
-        by false e false f = absurd (z (rw (e, f) at hn))
+        by : (t : Bool) → same (take 4 s) sip ≡ t → (u : Bool) → same (take 5 s) sips ≡ u → scheme_by t u ≡ Some (n, secure) → sip_uri s ≡ of_uri (drop n s) (with_user secure n (drop n s))
+        by true e u f q = rw (← (some_pair q).0, ← (some_pair q).1, e, after_head 4 sip refl e)
+        by false e true f q = rw (← (some_pair q).0, ← (some_pair q).1, e, f, after_head 5 sips refl f)
+        by false e false f q = absurd (let z : ◌≡◌ {A = ℕ} 0 1 = cc in omega arith)
 
 -- ---- the user part: n bytes stand before the first `@` of what stands after the scheme
 
@@ -96,7 +97,7 @@ module _ (secure : Bool) (s : List ℕ) (at n : ℕ) (hn : n ≡ span (other 64)
   run : n ≡ span (other 64) (drop at s)
   run = rw drop_part at hn
 
-  pub no_user : n ≡ length (part s at) → with_host secure (piece_in s (record { start = at; length = 0 })) at (drop at s) ≡ with_user secure at (drop at s)
+  pub no_user : n ≡ length (part s at) → with_host secure (user_in s at None) at (drop at s) ≡ with_user secure at (drop at s)
   unfolding with_user
   no_user e =
       let h : length (drop at s) ≤ n = omega (arith, rw drop_part at e) in
@@ -119,19 +120,19 @@ module _ (secure : Bool) (s : List ℕ) (at n : ℕ) (hn : n ≡ span (other 64)
 -- the run of bytes that a user part may have, n of them
 module _ (s : List ℕ) (at n : ℕ) (hn : n ≡ span (in_class class.User) (part s at)) where
   of_user : (b : ℕ) → in_class class.User b ≡ true → other 64 b ≡ true
-  of_user b e = second (is_uri b) (other 64 b) e
+  of_user b e = (and_parts (is_uri b) (other 64 b) e).1
 
   of_uri_lem : (b : ℕ) → in_class class.User b ≡ true → is_uri b ≡ true
-  of_uri_lem b e = first (is_uri b) (other 64 b) e
+  of_uri_lem b e = (and_parts (is_uri b) (other 64 b) e).0
 
   no_at : n ≤ span (other 64) (part s at)
   no_at = rw hn (span_longer (in_class class.User) (other 64) of_user (part s at))
 
   -- there is no `@`
-  pub step_whole : at ≤ length s → n ≡ length (part s at) → UserStep s at (Some (record { start = at; length = 0 }, at))
+  pub step_whole : at ≤ length s → n ≡ length (part s at) → UserStep s at (Some (None, at))
   step_whole h e =
       let k : n ≡ span (other 64) (part s at) = omega (arith, no_at, span_le (other 64) (part s at)) in
-      (h, omega arith, λ secure. ap (of_uri (drop at s)) (sym (no_user secure s at n k e)))
+      (h, tt, λ secure. ap (of_uri (drop at s)) (sym (no_user secure s at n k e)))
 
   -- the next byte is one that no URI has
   pub step_broken : n < length (part s at) → (get_or (part s at) n 0 ≡ 64 → ⊥) → UserStep s at None
@@ -164,34 +165,38 @@ module _ (s : List ℕ) (at n : ℕ) (hn : n ≡ span (in_class class.User) (par
         let k : at + (n + 1) ≡ at + n + 1 = omega arith in
         rw (all_split is_uri (n + 1) (drop at s), rw drop_part at all_uri, drop-drop (n + 1) at s, k)
 
-    pub step_read : (n ≡ 0 → ⊥) → at ≤ length s → UserStep s at (Some (record { start = at; length = n }, at + n + 1))
+    pub step_read : (n ≡ 0 → ⊥) → at ≤ length s → UserStep s at (Some (Some (record { start = at; length = n }), at + n + 1))
     step_read z l = (
       omega (arith, part_length s at),
-      omega (arith, part_length s at),
+      (omega arith, omega (arith, part_length s at)),
       λ secure. ap (λ (t : Bool). cond t (with_user secure at (drop at s)) None) after_at ∙ ap (of_uri (drop (at + n + 1) s)) (sym (some_user secure s at n stops_at h z)),
     )
 
+-- what the answer of `user_part` says
+pub no_part : (at n : ℕ) → user_at at n ≡ None → n ≡ 0
+no_part at zero e = refl
+no_part at (suc n) e = absurd (let z : ◌≡◌ {A = ℕ} 0 1 = cc (lt-ltb 0 (suc n) (omega arith)) in omega arith)
+
+pub some_part : (at n : ℕ) {u : Span} → user_at at n ≡ Some u → (n ≡ 0 → ⊥) × (record { start = at; length = n } ≡ u)
+some_part at zero e = absurd (let z : ◌≡◌ {A = ℕ} 0 1 = cc in omega arith)
+some_part at (suc n) e = (λ z. omega arith, cc (lt-ltb 0 (suc n) (omega arith)))
+
 -- what the answer about the user part says
-pub user_unread : (s : List ℕ) (at : ℕ) (r : Option (Span × ℕ)) → UserStep s at r → r ≡ None → (secure : Bool) → of_uri (drop at s) (with_user secure at (drop at s)) ≡ None
+pub user_unread : (s : List ℕ) (at : ℕ) (r : Option (Option Span × ℕ)) → UserStep s at r → r ≡ None → (secure : Bool) → of_uri (drop at s) (with_user secure at (drop at s)) ≡ None
 user_unread s at None i e = i
 user_unread s at (Some (u, k)) i e = absurd (let z : ◌≡◌ {A = ℕ} 0 1 = cc in omega arith)
 
-module _ (s : List ℕ) (at : ℕ) (r : Option (Span × ℕ)) {u : Span} {k : ℕ} (i : UserStep s at r) (e : r ≡ Some (u, k)) where
+module _ (s : List ℕ) (at : ℕ) (r : Option (Option Span × ℕ)) {u : Option Span} {k : ℕ} (i : UserStep s at r) (e : r ≡ Some (u, k)) where
   told : UserStep s at (Some (u, k))
   told = subst (UserStep s at) e i
 
-  pub user_inside : (k ≤ length s) × (u.start + u.length ≤ length s)
+  pub user_inside : (k ≤ length s) × UserInside s u
   user_inside = (told.0, told.1)
 
-  pub user_read : (secure : Bool) → of_uri (drop at s) (with_user secure at (drop at s)) ≡ of_uri (drop k s) (with_host secure (piece_in s u) k (drop k s))
+  pub user_read : (secure : Bool) → of_uri (drop at s) (with_user secure at (drop at s)) ≡ of_uri (drop k s) (with_host secure (user_in s k u) k (drop k s))
   user_read = told.2
 
 -- ---- the host and the port
-
--- a host that was read stands inside the bytes
-pub host_inside : (s : List ℕ) (r : Option ℕ) {n : ℕ} → InsideHost s r → r ≡ Some n → n ≤ length s
-host_inside s None {n} i e = absurd (let z : ◌≡◌ {A = ℕ} 0 1 = cc in omega arith)
-host_inside s (Some m) {n} i e = let q : m ≡ n = cc in rw (← q) i
 
 host_is : (h : List ℕ) (t : Bool) {n : ℕ} → cond t (Some (length h)) None ≡ Some n → (t ≡ true) × (length h ≡ n)
 host_is h true e = (refl, cc)
@@ -206,19 +211,22 @@ port_not secure user host None e = refl
 port_not secure user host (Some p) e = absurd (let z : ◌≡◌ {A = ℕ} 0 1 = cc in omega arith)
 
 port_is : (secure : Bool) (user host : Piece) (o : Option (Option ℕ)) (p : Option ℕ) → after_host_from o ≡ Some p
-    → Some (record { secure = secure; user = span_of user; host = span_of host; port = p }) ≡ uri_from (with_port secure user host o)
+    → Some (record { secure = secure; user = user_from user; host = span_of host; port = p }) ≡ uri_from (with_port secure user host o)
 port_is secure user host None p e = absurd (let z : ◌≡◌ {A = ℕ} 0 1 = cc in omega arith)
-port_is secure user host (Some q) p e = ap (λ (x : Option ℕ). Some (record { secure = secure; user = span_of user; host = span_of host; port = x })) (cc)
+port_is secure user host (Some q) p e = ap (λ (x : Option ℕ). Some (record { secure = secure; user = user_from user; host = span_of host; port = x })) (cc)
 
--- where the part of s stands that stands there
-pub span_in : (s : List ℕ) (u : Span) → u.start + u.length ≤ length s → span_of (piece_in s u) ≡ u
-span_in s u h = ap (λ (k : ℕ). record { start = u.start; length = k }) (length-take-le u.length (drop u.start s) (omega (arith, length-drop u.start s)))
+-- the user part as the code has it is that of what stands there
+user_is : (s : List ℕ) (at : ℕ) (u : Option Span) → UserInside s u → user_from (user_in s at u) ≡ u
+user_is s at None h = refl
+user_is s at (Some u) h =
+    let k : length (take u.length (drop u.start s)) ≡ u.length = length-take-le u.length (drop u.start s) (omega (arith, length-drop u.start s)) in
+    rw (k, lt-ltb 0 u.length h.0)
 
 abbrev host_piece : ℕ → List ℕ → Piece
 host_piece at s = record { place = at; text = host_text s }
 
-module _ (secure : Bool) (s : List ℕ) (at : ℕ) (user : Span) where
-  pub host_unread : host_from (host_text (part s at)) ≡ None → of_uri (drop at s) (with_host secure (piece_in s user) at (drop at s)) ≡ None
+module _ (secure : Bool) (s : List ℕ) (at : ℕ) (user : Option Span) where
+  pub host_unread : host_from (host_text (part s at)) ≡ None → of_uri (drop at s) (with_host secure (user_in s at user) at (drop at s)) ≡ None
   unfolding with_host
   host_unread e = rw (host_not (host_text (drop at s)) (is_host_text (host_text (drop at s))) (rw (drop_part s at) at e)) (unread_of (drop at s))
 
@@ -226,7 +234,7 @@ module _ (secure : Bool) (s : List ℕ) (at : ℕ) (user : Span) where
     known : (is_host_text (host_text (drop at s)) ≡ true) × (length (host_text (drop at s)) ≡ n)
     known = host_is (host_text (drop at s)) (is_host_text (host_text (drop at s))) (rw (drop_part s at) at e)
 
-    from_port : with_host secure (piece_in s user) at (drop at s) ≡ with_port secure (piece_in s user) (host_piece at (drop at s)) (port_of (part (part s at) n))
+    from_port : with_host secure (user_in s at user) at (drop at s) ≡ with_port secure (user_in s at user) (host_piece at (drop at s)) (port_of (part (part s at) n))
     unfolding with_host
     from_port = rw (known.0, known.1, drop_part s at, drop_part (drop at s) n)
 
@@ -236,15 +244,15 @@ module _ (secure : Bool) (s : List ℕ) (at : ℕ) (user : Span) where
         let k : take n (drop at s) ≡ host_text (drop at s) = rw (← known.1) (host_own (drop at s)) in
         rw (drop_part s at, drop_part (drop at s) n, all_split is_uri n (drop at s), k, host_uris (host_text (drop at s)) known.0)
 
-    pub port_unread : after_host_from (port_of (part (part s at) n)) ≡ None → of_uri (drop at s) (with_host secure (piece_in s user) at (drop at s)) ≡ None
-    port_unread f = ap (of_uri (drop at s)) (from_port ∙ port_not secure (piece_in s user) (host_piece at (drop at s)) (port_of (part (part s at) n)) f) ∙ unread_of (drop at s)
+    pub port_unread : after_host_from (port_of (part (part s at) n)) ≡ None → of_uri (drop at s) (with_host secure (user_in s at user) at (drop at s)) ≡ None
+    port_unread f = ap (of_uri (drop at s)) (from_port ∙ port_not secure (user_in s at user) (host_piece at (drop at s)) (port_of (part (part s at) n)) f) ∙ unread_of (drop at s)
 
-    pub tail_bad : all is_uri (part (part s at) n) ≡ false → of_uri (drop at s) (with_host secure (piece_in s user) at (drop at s)) ≡ None
+    pub tail_bad : all is_uri (part (part s at) n) ≡ false → of_uri (drop at s) (with_host secure (user_in s at user) at (drop at s)) ≡ None
     tail_bad f = rw (tail_tells, f)
 
-    pub parts_read : (p : Option ℕ) → user.start + user.length ≤ length s → after_host_from (port_of (part (part s at) n)) ≡ Some p → all is_uri (part (part s at) n) ≡ true
-        → Some (record { secure = secure; user = user; host = record { start = at; length = n }; port = p }) ≡ uri_from (of_uri (drop at s) (with_host secure (piece_in s user) at (drop at s)))
+    pub parts_read : (p : Option ℕ) → UserInside s user → after_host_from (port_of (part (part s at) n)) ≡ Some p → all is_uri (part (part s at) n) ≡ true
+        → Some (record { secure = secure; user = user; host = record { start = at; length = n }; port = p }) ≡ uri_from (of_uri (drop at s) (with_host secure (user_in s at user) at (drop at s)))
     parts_read p h f g =
-        ap₂ (λ (u : Span) (k : ℕ). Some (record { secure = secure; user = u; host = record { start = at; length = k }; port = p })) (sym (span_in s user h)) (sym known.1)
-        ∙ port_is secure (piece_in s user) (host_piece at (drop at s)) (port_of (part (part s at) n)) p f
-        ∙ ap uri_from (sym from_port ∙ sym (ap (λ (t : Bool). cond t (with_host secure (piece_in s user) at (drop at s)) None) (tail_tells ∙ g)))
+        ap₂ (λ (u : Option Span) (k : ℕ). Some (record { secure = secure; user = u; host = record { start = at; length = k }; port = p })) (sym (user_is s at user h)) (sym known.1)
+        ∙ port_is secure (user_in s at user) (host_piece at (drop at s)) (port_of (part (part s at) n)) p f
+        ∙ ap uri_from (sym from_port ∙ sym (ap (λ (t : Bool). cond t (with_host secure (user_in s at user) at (drop at s)) None) (tail_tells ∙ g)))

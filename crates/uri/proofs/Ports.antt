@@ -2,13 +2,14 @@
 use Prim.Native.Nat.{ℕ, suc, ◌-◌, ◌≤◌, ◌<◌}
 use native.Mathlib.Numerals.{sub-one}
 use native.Mathlib.Omega.{arith}
-use mathlib.Core.Path.{◌≡◌, refl, sym}
-use mathlib.Core.Bool.{Bool, true, false, cond, ◌&&◌, and-false, true≢false}
+use mathlib.Core.Path.{◌≡◌, refl}
+use mathlib.Core.Bool.{Bool, true, false, cond, ◌&&◌, and-false}
 use mathlib.Core.List.{List, [], ◌∷◌}
 use lib.ListN.{length, take, drop, get_or}
 use lib.Seq.{take-length}
 use lib.Dec.{leb, ltb}
 use borrow.Author.Tests.{eq-eqb, ne_eqb, le-leb, lt-leb, ltb-true}
+use Rattle.std.proofs.lemmas.Bool.{and_parts}
 use Rattle.std.specs.Prelude.{None, Option, Some}
 use Rattle.text.specs.Text.{span, all, is_digit}
 use Rattle.text.specs.Number.{non_empty, value, digits_below, number_from}
@@ -27,11 +28,6 @@ pub was_read : (o : Option ℕ) {v : ℕ} → number_from o ≡ Some v → o ≡
 was_read None e = absurd (let z : ◌≡◌ {A = ℕ} 0 1 = cc in omega arith)
 was_read (Some n) e = cc
 
--- what a conjunction says of its second part
-pub second : (a b : Bool) → (a && b) ≡ true → b ≡ true
-second true b e = e
-second false b e = absurd (true≢false (sym e))
-
 picked : {x v : ℕ} (t : Bool) → cond t (Some x) None ≡ Some v → (t ≡ true) × (x ≡ v)
 picked true e = (refl, cc)
 picked false e = absurd (let z : ◌≡◌ {A = ℕ} 0 1 = cc in omega arith)
@@ -41,17 +37,7 @@ pub read_below : (w v : ℕ) (s : List ℕ) → digits_below w s ≡ Some v → 
 unfolding digits_below
 read_below w v s e =
     let p : ((non_empty s && (all is_digit s && ltb (value s) w)) ≡ true) × (value s ≡ v) = picked _ e in
-    rw (← p.1) (ltb-true _ _ (second (all is_digit s) _ (second (non_empty s) _ p.0)))
-
--- ---- the end
-
-pub end_none : (s : List ℕ) → length s ≡ 0 → true ≡ at_end s
-end_none [] h = refl
-end_none (b ∷ s) h = absurd (omega arith)
-
-pub end_first : (s : List ℕ) → 0 < length s → ends_port (get_or s 0 0) ≡ at_end s
-end_first [] h = absurd (omega arith)
-end_first (b ∷ s) h = refl
+    rw (← p.1) (ltb-true _ _ (and_parts (all is_digit s) _ (and_parts (non_empty s) _ p.0).1).1)
 
 -- ---- the port: n digits stand first
 

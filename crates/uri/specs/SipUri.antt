@@ -10,6 +10,7 @@ use Rattle.limits.specs.declared.Refusal.TheVariants.{InvalidUri, UriTooLong}
 use Rattle.text.specs.Text.{is_digit, other, span, all, same, Piece}
 use Rattle.text.specs.Number.{non_empty, read_digits}
 use Rattle.text.specs.Answers.{length_cause, span_of}
+use Rattle.text.specs.declared.Span.{Span}
 use Rattle.uri_bytes.specs.Bytes.{is_uri, is_host, is_address, ends_port, ends_host}
 use Rattle.uri.specs.declared.SipUri.{SipUri}
 
@@ -122,8 +123,15 @@ abbrev pub port_from : Option ℕ → Option ℕ
 port_from None = None
 port_from (Some n) = Some n
 
+-- where a user part of so many bytes stands; an empty one is none
+abbrev pub user_at : ℕ → ℕ → Option Span
+user_at at n = cond (ltb 0 n) (Some (record { start = at; length = n })) None
+
+abbrev pub user_from : Piece → Option Span
+user_from p = user_at p.place (length p.text)
+
 abbrev pub sip_uri_from : UriParts → SipUri
-sip_uri_from u = record { secure = u.secure; user = span_of u.user; host = span_of u.host; port = port_from u.port }
+sip_uri_from u = record { secure = u.secure; user = user_from u.user; host = span_of u.host; port = port_from u.port }
 
 abbrev pub uri_from : Option UriParts → Option SipUri
 uri_from None = None

@@ -1,6 +1,6 @@
 -- Steps of the code: what the parts of a URI's reading answer: the scheme, the user part, the host and what stands after it, where a part stands, and the
 -- estimate of the parts that were read.
-use Rattle.std.specs.Prelude.{ℕ, ◌+◌, ◌≤◌, Bool, cond, ◌≡◌, List, length, take, drop, None, Option, Some}
+use Rattle.std.specs.Prelude.{ℕ, ◌+◌, ◌≤◌, ◌<◌, Bool, true, false, cond, ◌≡◌, List, [], length, take, drop, None, Option, Some}
 use Rattle.text.specs.Text.{all, same, Piece}
 use Rattle.text.specs.Answers.{span_of}
 use Rattle.text.specs.declared.Span.{Span}
@@ -8,9 +8,9 @@ use Rattle.uri_bytes.specs.Bytes.{is_uri}
 use Rattle.uri.specs.SipUri.{UriParts, sip, sips, is_host_text, with_host, with_user, port_from}
 use Rattle.uri.specs.declared.SipUri.{SipUri}
 
--- the scheme's length, 0 where there is none
-abbrev pub scheme_length : List ℕ → ℕ
-scheme_length s = cond (same (take 4 s) sip) 4 (cond (same (take 5 s) sips) 5 0)
+-- the scheme's length, and whether it is the secure one
+abbrev pub scheme_length : List ℕ → Option (ℕ × Bool)
+scheme_length s = cond (same (take 4 s) sip) (Some (4, false)) (cond (same (take 5 s) sips) (Some (5, true)) None)
 
 -- what was read of s, if every byte of s is one of a URI
 abbrev pub of_uri : List ℕ → Option UriParts → Option UriParts
@@ -29,17 +29,26 @@ after_host_from (Some p) = Some (port_from p)
 abbrev pub piece_in : List ℕ → Span → Piece
 piece_in s at = record { place = at.start; text = take at.length (drop at.start s) }
 
+-- the user part before a host at a place: none is an empty one there
+abbrev pub user_in : List ℕ → ℕ → Option Span → Piece
+user_in s at None = record { place = at; text = [] }
+user_in s at (Some u) = piece_in s u
+
+abbrev pub UserInside : List ℕ → Option Span → Type 0
+UserInside s None = Unit {0}
+UserInside s (Some u) = (0 < u.length) × (u.start + u.length ≤ length s)
+
 -- the text that is cut out of a value
 abbrev pub cut_from : Option Piece → Option Span
 cut_from None = None
 cut_from (Some p) = Some (span_of p)
 
 -- what the user part at a place leaves to be read: the rest from the host on, or nothing
-abbrev pub UserStep : List ℕ → ℕ → Option (Span × ℕ) → Type 0
+abbrev pub UserStep : List ℕ → ℕ → Option (Option Span × ℕ) → Type 0
 UserStep s at None = (secure : Bool) → of_uri (drop at s) (with_user secure at (drop at s)) ≡ None
 UserStep s at (Some (u, next)) =
-    (next ≤ length s) × (u.start + u.length ≤ length s)
-    × ((secure : Bool) → of_uri (drop at s) (with_user secure at (drop at s)) ≡ of_uri (drop next s) (with_host secure (piece_in s u) next (drop next s)))
+    (next ≤ length s) × UserInside s u
+    × ((secure : Bool) → of_uri (drop at s) (with_user secure at (drop at s)) ≡ of_uri (drop next s) (with_host secure (user_in s next u) next (drop next s)))
 
 -- ---- what is found lies inside the bytes
 
@@ -57,5 +66,9 @@ abbrev pub port_size : Option ℕ → ℕ
 port_size (Some n) = 6
 port_size None = 0
 
+abbrev pub user_size : Option Span → ℕ
+user_size (Some u) = u.length
+user_size None = 0
+
 abbrev pub size_of : SipUri → ℕ
-size_of u = u.user.length + u.host.length + port_size u.port + 10
+size_of u = user_size u.user + u.host.length + port_size u.port + 10

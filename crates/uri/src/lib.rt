@@ -4,10 +4,10 @@
 ghost use Rattle.std.specs.Prelude.{◌≡◌, ◌+◌, ◌-◌, ◌≤◌, length, take, drop, ltb};
 ghost use Rattle.limits.specs.Limits.{rust_limits};
 ghost use Rattle.text.specs.Answers.{lookup_of, span_of};
-ghost use Rattle.uri.specs.SipUri.{uri_answer, read_uri, estimate_answer, read_estimate, uri_from, sip_uri, with_user, with_host};
+ghost use Rattle.uri.specs.SipUri.{uri_answer, read_uri, estimate_answer, read_estimate, uri_from, user_at, sip_uri, with_user, with_host};
 ghost use Rattle.uri.specs.HeaderUri.{uri_from_header, header_uri_from, header_uri, uri_text, in_brackets};
 ghost use Rattle.text.specs.Text.{trimmed_piece};
-ghost use Rattle.uri.specs.Steps.{Inside, UserStep, cut_from, of_uri, piece_in, scheme_length, size_of};
+ghost use Rattle.uri.specs.Steps.{Inside, UserInside, UserStep, cut_from, of_uri, scheme_length, size_of, user_in, user_size};
 
 use authority::{after_host, read_host};
 use limits::{Limits, Refusal};
@@ -16,22 +16,21 @@ use uri_bytes::{Class, all_of, run};
 
 mod authority;
 
-// The parts of a URI: where they stand in its text. Without a user part its length is 0 and its place that of the host.
+// The parts of a URI: where they stand in its text.
 #[derive(Clone, Copy)]
 pub struct SipUri {
     pub secure: bool,
-    pub user: Span,
+    pub user: Option<Span>,
     pub host: Span,
     pub port: Option<u16>,
 }
 
 // A given URI: 1, 6.
+// Kept (1): document 01 has the reading of a URI opened by `let .. else`.
 pub fn sip_uri(s: &[u8]) -> Result<SipUri, Refusal>
     ensures { result ≡ uri_answer (read_uri rust_limits s.now) }
 {
-    if text::too_long(s) {
-        return Err(Refusal::TextTooLong);
-    }
+    text::check_length(s)?;
     let Some(u) = read_uri(s) else {
         return Err(Refusal::InvalidUri);
     };
@@ -42,12 +41,7 @@ pub fn sip_uri(s: &[u8]) -> Result<SipUri, Refusal>
 pub fn uri_estimate(s: &[u8]) -> Result<usize, Refusal>
     ensures { result ≡ estimate_answer (read_estimate rust_limits s.now) }
 {
-    if text::too_long(s) {
-        return Err(Refusal::TextTooLong);
-    }
-    let Some(u) = read_uri(s) else {
-        return Err(Refusal::InvalidUri);
-    };
+    let u = sip_uri(s)?;
     if over_estimate(u) {
         return Err(Refusal::UriTooLong);
     }
@@ -55,6 +49,7 @@ pub fn uri_estimate(s: &[u8]) -> Result<usize, Refusal>
 }
 
 // Where the text of the URI stands in a value that is given alone, if it is readable: 1, 2.
+// Kept (1): document 01 has the reading of a URI opened by `let .. else`.
 pub fn parse_uri_from_header(value: &[u8]) -> Result<Option<Span>, Refusal>
     ensures { result ≡ lookup_of (uri_from_header rust_limits value.now) }
 {
@@ -66,14 +61,13 @@ pub fn parse_uri_from_header(value: &[u8]) -> Result<Option<Span>, Refusal>
 }
 
 // The URI in a value that was checked before.
+// Kept (1): document 01 has the reading of a URI opened by `let .. else`.
 pub fn header_uri(value: &[u8]) -> Option<(Span, SipUri)>
     ensures value { result ≡ header_uri_from (header_uri value.now) }
     ensures inside { Inside value.now result }
 {
     let part = uri_text(value)?;
-    let at = part.start;
-    let end = at + part.length;
-    let Some(u) = read_uri(&value[at..end]) else {
+    let Some(u) = read_uri(part.text(value)) else {
         return None;
     };
     Some((part, u))
@@ -83,32 +77,25 @@ pub fn header_uri(value: &[u8]) -> Option<(Span, SipUri)>
 pub fn read_uri(s: &[u8]) -> Option<SipUri>
     ensures { result ≡ uri_from (sip_uri s.now) }
 {
-    let at = scheme_length(s);
-    if at == 0 {
-        return None;
-    }
-    with_user(s, at, at == 5)
+    let (at, secure) = scheme_length(s)?;
+    with_user(s, at, secure)
 }
 
 // Whether the estimate of a URI is over the limit.
 pub fn over_estimate(u: SipUri) -> bool
     ensures { result ≡ ltb rust_limits.uri (size_of u) }
 {
-    if Limits::MAX_URI_LENGTH < u.user.length {
-        return true;
-    }
-    if Limits::MAX_URI_LENGTH < u.host.length {
-        return true;
-    }
-    Limits::MAX_URI_LENGTH < estimated_length(u)
+    Limits::MAX_URI_LENGTH < user_length(u)
+        || Limits::MAX_URI_LENGTH < u.host.length
+        || Limits::MAX_URI_LENGTH < estimated_length(u)
 }
 
 // User, host, 6 for a port, and 10.
 fn estimated_length(u: SipUri) -> usize
-    requires { (u.user.length ≤ rust_limits.uri) × (u.host.length ≤ rust_limits.uri) }
+    requires { (user_size u.user ≤ rust_limits.uri) × (u.host.length ≤ rust_limits.uri) }
     ensures { result ≡ size_of u }
 {
-    let parts = u.user.length + u.host.length;
+    let parts = user_length(u) + u.host.length;
     let port = u.port;
     match port {
         Some(_) => parts + 6 + 10,
@@ -116,22 +103,29 @@ fn estimated_length(u: SipUri) -> usize
     }
 }
 
-// How long `sip:` or `sips:` is, which stands first; 0 where neither does.
-// Kept (2): two schemes with their lengths; what has the same shape elsewhere asks for other texts and answers another thing.
-fn scheme_length(s: &[u8]) -> usize
+// How long the user part is: 0 where there is none.
+fn user_length(u: SipUri) -> usize
+    ensures { result ≡ user_size u.user }
+{
+    let user = u.user;
+    user.map_or(0, |part| part.length)
+}
+
+// How long `sip:` or `sips:` is, which stands first, and whether it is the secure one.
+fn scheme_length(s: &[u8]) -> Option<(usize, bool)>
     ensures { result ≡ scheme_length s.now }
 {
     if text::starts_with(s, b"sip:") {
-        return 4;
+        return Some((4, false));
     }
     if text::starts_with(s, b"sips:") {
-        return 5;
+        return Some((5, true));
     }
-    0
+    None
 }
 
 // The parts from the user part on, which stands after the scheme.
-// Kept (5): a place in the text, from which each step reads on.
+// Kept (5): the spans answered are places of the whole text, so a slice from the place would not do.
 fn with_user(s: &[u8], at: usize, secure: bool) -> Option<SipUri>
     requires { at ≤ length s.now }
     ensures { result ≡ uri_from (of_uri (drop at s.now) (with_user secure at (drop at s.now))) }
@@ -140,43 +134,44 @@ fn with_user(s: &[u8], at: usize, secure: bool) -> Option<SipUri>
     with_host(s, host, secure, user)
 }
 
-// All before the first `@`, or nothing where there is none. Bytes that no URI has are seen here.
-// Kept (5): a place in the text, from which each step reads on.
-fn read_user(s: &[u8], at: usize) -> Option<(Span, usize)>
+// All before the first `@`, or nothing where there is none; and where the host stands. Bytes that no URI has are seen here.
+// Kept (5): the spans answered are places of the whole text, so a slice from the place would not do.
+fn read_user(s: &[u8], at: usize) -> Option<(Option<Span>, usize)>
     requires { at ≤ length s.now }
     ensures { UserStep s.now at result }
 {
     let rest = &s[at..];
     let n = run(rest, Class::User);
     if n == rest.len() {
-        return Some((
-            Span {
-                start: at,
-                length: 0,
-            },
-            at,
-        ));
+        return Some((None, at));
     }
     if rest[n] != b'@' {
         return None;
     }
+    let user = user_part(at, n)?;
+    Some((Some(user), at + n + 1))
+}
+
+// The n bytes from a place on as a user part, which is not empty.
+// Kept (5): the place and the count of what was read; the span of them is made here.
+fn user_part(at: usize, n: usize) -> Option<Span>
+    ensures { result ≡ user_at at n }
+{
     if n == 0 {
         return None;
     }
-    Some((
-        Span {
-            start: at,
-            length: n,
-        },
-        at + n + 1,
-    ))
+    Some(Span {
+        start: at,
+        length: n,
+    })
 }
 
 // The parts from the host on, with the user part that stands before it.
-// Kept (5): a place in the text, from which each step reads on.
-fn with_host(s: &[u8], at: usize, secure: bool, user: Span) -> Option<SipUri>
-    requires { (at ≤ length s.now) × (user.start + user.length ≤ length s.now) }
-    ensures { result ≡ uri_from (of_uri (drop at s.now) (with_host secure (piece_in s.now user) at (drop at s.now))) }
+// Kept (1): document 01 has the reading of a number, as the port's, opened by `let .. else`.
+// Kept (5): the spans answered are places of the whole text, so a slice from the place would not do.
+fn with_host(s: &[u8], at: usize, secure: bool, user: Option<Span>) -> Option<SipUri>
+    requires { (at ≤ length s.now) × UserInside s.now user }
+    ensures { result ≡ uri_from (of_uri (drop at s.now) (with_host secure (user_in s.now at user) at (drop at s.now))) }
 {
     let rest = &s[at..];
     let n = read_host(rest)?;
@@ -203,15 +198,12 @@ fn uri_text(value: &[u8]) -> Option<Span>
     ensures { result ≡ cut_from (uri_text value.now) }
 {
     let whole = text::trim_span(value);
-    let at = whole.start;
-    let end = at + whole.length;
-    let t = &value[at..end];
-    let n = text::find(t, b'<');
-    if n < t.len() {
-        return in_brackets(value, at + n + 1, end);
+    let t = whole.text(value);
+    if let Some(n) = text::find(t, b'<') {
+        return in_brackets(value, whole.start + n + 1, whole.end());
     }
-    let n = text::find(t, b';');
-    Some(trimmed_part(value, at, n))
+    let n = text::find(t, b';').unwrap_or(t.len());
+    Some(trimmed_part(value, whole.start, n))
 }
 
 // The same, from behind the `<` on.
@@ -219,24 +211,15 @@ fn in_brackets(value: &[u8], at: usize, end: usize) -> Option<Span>
     requires { (at ≤ end) × (end ≤ length value.now) }
     ensures { result ≡ cut_from (in_brackets at (take (end - at) (drop at value.now))) }
 {
-    let t = &value[at..end];
-    let n = text::find(t, b'>');
-    if n == t.len() {
-        return None;
-    }
+    let n = text::find(&value[at..end], b'>')?;
     Some(trimmed_part(value, at, n))
 }
 
 // Where the n bytes from a place on stand without their blanks.
-// Kept (5): the callers count both; a span of them would be made at the call and taken apart here.
+// Kept (5): the span answered is a place of the whole text, so a slice from the place would not do.
 fn trimmed_part(value: &[u8], at: usize, n: usize) -> Span
     requires { at + n ≤ length value.now }
     ensures { result ≡ span_of (trimmed_piece at (take n (drop at value.now))) }
 {
-    let end = at + n;
-    let part = text::trim_span(&value[at..end]);
-    Span {
-        start: at + part.start,
-        length: part.length,
-    }
+    text::trim_span(&value[at..at + n]).moved(at)
 }

@@ -1,6 +1,5 @@
 -- The first word of a text and what stands after it, as `word` and `after_word` cut them. Assumes nothing.
 use Prim.Native.Nat.{ℕ, zero, suc, ◌+◌, ◌-◌, ◌<◌}
-use native.Mathlib.Nat.{add-sub_cancel_left}
 use native.Mathlib.Omega.{arith}
 use mathlib.Core.Path.{◌≡◌, refl}
 use mathlib.Core.Bool.{Bool, true, false}
@@ -30,9 +29,9 @@ no_more (b ∷ s) (suc k) e = no_more s k (by (is_blank b) refl e)
     by false q e = absurd (headed b (split is_blank s) (rw q at e))
 
 -- a and n are what `first_word` answers
-pub word_is : (s : List ℕ) (a n : ℕ) → record { start = a; length = n } ≡ word_span s → take (a + n - a) (drop a s) ≡ word_at 0 s
-word_is s a zero e = rw (add-sub_cancel_left, words_none s a e)
-word_is s a (suc n) e = rw (add-sub_cancel_left, words_cons s a (suc n) e (omega arith))
+pub word_is : (s : List ℕ) (a n : ℕ) → record { start = a; length = n } ≡ word_span s → take n (drop a s) ≡ word_at 0 s
+word_is s a zero e = rw (words_none s a e)
+word_is s a (suc n) e = rw (words_cons s a (suc n) e (omega arith))
 
 pub rest_is : (s : List ℕ) (a n : ℕ) → record { start = a; length = n } ≡ word_span s → words (take (length s - (a + n)) (drop (a + n) s)) ≡ drop 1 (words s)
 rest_is s a zero e = rw (drop_part, words_none s a e) (no_more s (a + 0) (words_none s a e))

@@ -9,10 +9,7 @@ ghost use Rattle.words.specs.Words.{word_at};
 pub fn word(s: &[u8]) -> &[u8]
     ensures { result.now ≡ word_at 0 s.now }
 {
-    let w = text::first_word(s);
-    let a = w.start;
-    let e = a + w.length;
-    &s[a..e]
+    text::first_word(s).text(s)
 }
 
 // What stands after the first word.
@@ -20,6 +17,5 @@ pub fn after_word(s: &[u8]) -> &[u8]
     ensures { words result.now ≡ drop 1 (words s.now) }
 {
     let w = text::first_word(s);
-    let e = w.start + w.length;
-    &s[e..]
+    &s[w.end()..]
 }

@@ -1,12 +1,17 @@
 -- The ways out of the two calls. Assumes nothing.
 use Prim.Native.Nat.{ℕ, ◌+◌, ◌-◌, ◌*◌, ◌≤◌, ◌<◌, max}
+use native.Mathlib.Nat.{sub-zero}
 use native.Mathlib.Omega.{arith}
 use mathlib.Core.Path.{◌≡◌, refl, sym, ap, ap₂, ◌∙◌}
 use mathlib.Core.List.{List, [], ◌∷◌, ◌++◌}
 use lib.ListN.{length, take, drop, length-append, length-drop, take-append-drop}
 use lib.Seq.{length-take-le}
 use borrow.Author.Tests.{lt-ltb, le-ltb}
-use Rattle.std.specs.Prelude.{Err, None, Ok, Option, Some}
+use Rattle.std.specs.Prelude.{ok_or, Err, None, Ok, Option, Result, Some, MatchResult, IsOkAnd, ◌⊎◌}
+use Rattle.std.specs.Slice.{IsGetRangeResult}
+use Rattle.std.proofs.Common.{inl, inr}
+use denote.Bor.{Bor}
+use Rattle.limits.specs.declared.Refusal.{Refusal}
 use Rattle.limits.specs.Outcome.{and_then, or_refuse}
 use Rattle.limits.specs.declared.Refusal.TheVariants.{BadStore, NoRoom}
 use Rattle.edit.specs.Edit.{put_at, over}
@@ -16,7 +21,7 @@ use Rattle.output.proofs.OutputLaws.{put_first, put_next}
 use Rattle.worst_minute.specs.Minute.{Verdict, worst_at, worst, taken_after, last_ones, rises_from}
 use Rattle.worst_minute.specs.Layout.{entry_bytes, entries_in, encode_run, decode_run}
 use Rattle.worst_minute.specs.Calls.{read_run, last_time, with_verdict, added, worst_in}
-use Rattle.worst_minute.specs.Answers.{last_of}
+use Rattle.worst_minute.specs.Answers.{last_of, some_worst}
 use Rattle.worst_minute.proofs.NumberLaws.{Bytes, bytes_take}
 use Rattle.worst_minute.proofs.LayoutLaws.{length_entry, encode_append, encode_one, drop_encode}
 use Rattle.worst_minute.proofs.ReadLaws.{Decoded, decoded, run_length, run_short, run_bytes}
@@ -29,7 +34,39 @@ read_over bytes used h = rw (lt-ltb (length bytes) used h)
 pub read_within : (bytes : List ℕ) (used : ℕ) → used ≤ length bytes → read_run bytes used ≡ or_refuse BadStore (decode_run (take used bytes))
 read_within bytes used h = rw (le-ltb (length bytes) used h)
 
+-- ---- the used bytes of those that are lent, by `get` and `ok_or`
+
+pub lent_none : (bytes : List ℕ) (used : ℕ) (o : Option (Bor (List ℕ))) {x cause : Refusal} {r : Result (Bor (List ℕ)) Refusal} → IsGetRangeResult bytes 0 used o → r ≡ ok_or o x → r ≡ Err cause
+    → (length bytes < used) × (cause ≡ x)
+lent_none bytes used None {x} {cause} g e h =
+    let q : ◌≡◌ {A = Result (Bor (List ℕ)) Refusal} (Err cause) (Err x) = sym h ∙ e in
+    (over g.0, cc)
+  where
+    over : (used < 0) ⊎ (length bytes < used) → length bytes < used
+    over (inl i) = absurd (omega arith)
+    over (inr i) = i
+lent_none bytes used (Some s) {x} {cause} g e h =
+    let q : ◌≡◌ {A = Result (Bor (List ℕ)) Refusal} (Err cause) (Ok s) = sym h ∙ e in
+    absurd (let z : ◌≡◌ {A = ℕ} 0 1 = cc in omega arith)
+
+pub lent_some : (bytes : List ℕ) (used : ℕ) (o : Option (Bor (List ℕ))) (x : Refusal) {r : Result (Bor (List ℕ)) Refusal} {s : Bor (List ℕ)} → IsGetRangeResult bytes 0 used o → r ≡ ok_or o x → r ≡ Ok s
+    → (used ≤ length bytes) × (s.now ≡ take used bytes)
+lent_some bytes used None x {r} {s} g e h =
+    let q : ◌≡◌ {A = Result (Bor (List ℕ)) Refusal} (Ok s) (Err x) = sym h ∙ e in
+    absurd (let z : ◌≡◌ {A = ℕ} 0 1 = cc in omega arith)
+lent_some bytes used (Some t) x {r} {s} g e h =
+    let q : ◌≡◌ {A = Result (Bor (List ℕ)) Refusal} (Ok s) (Ok t) = sym h ∙ e in
+    let k : s ≡ t = cc in
+    (g.0.1, ap (λ (b : Bor (List ℕ)). b.now) k ∙ g.0.2 ∙ ap (λ n. take n bytes) (sub-zero used))
+
 -- ---- `worst_minute`
+
+-- what `count` answers, by `map`, of which `Q` is what is said of `Some`
+pub some_by : {Q : ℕ × ℕ → Option (ℕ × ℕ) → Type 0} (o : Result (ℕ × ℕ) Refusal) (r : Result (Option (ℕ × ℕ)) Refusal) → MatchResult o (λ m. IsOkAnd r (Q m)) (λ e. r ≡ Err e)
+    → ((m : ℕ × ℕ) (y : Option (ℕ × ℕ)) → Q m y → y ≡ Some m) → r ≡ some_worst o
+some_by (Ok m) (Ok y) h q = ap Ok (q m y h)
+some_by (Ok m) (Err e) h q = absurd h
+some_by (Err e) r h q = h
 
 module _ (bytes : List ℕ) (used : ℕ) where
   pub worst_over : length bytes < used → worst_in bytes used ≡ Err BadStore
@@ -52,6 +89,13 @@ pub record LastIs (s : List ℕ) (last : ℕ) : Type 0 where
   pub run : List Verdict
   pub is : decode_run s ≡ Some run
   pub last_is : last_time 0 run ≡ last
+
+-- what a refusal for want of a value says
+pub refused : (o : Option ℕ) {x cause : Refusal} {r : Result ℕ Refusal} → r ≡ ok_or o x → r ≡ Err cause → (o ≡ None) × (cause ≡ x)
+refused None {x} {cause} e h = let q : ◌≡◌ {A = Result ℕ Refusal} (Err cause) (Err x) = sym h ∙ e in (refl, cc)
+refused (Some n) {x} {cause} e h =
+    let q : ◌≡◌ {A = Result ℕ Refusal} (Err cause) (Ok n) = sym h ∙ e in
+    absurd (let z : ◌≡◌ {A = ℕ} 0 1 = cc in omega arith)
 
 pub last_read : (s : List ℕ) (last : ℕ) → last_of (decode_run s) ≡ Some last → LastIs s last
 last_read s last e = by (decode_run s) refl e

@@ -3,12 +3,13 @@ use Prim.Native.Nat.{ℕ, suc, ◌+◌, ◌*◌, ◌/◌, ◌%◌, ◌≤◌, �
 use native.Mathlib.Omega.{arith}
 use native.Mathlib.Numerals.{add-one}
 use mathlib.Core.Path.{◌≡◌, refl, sym, ap, ap₂, ◌∙◌}
-use mathlib.Core.Bool.{Bool, true, false, cond, ◌&&◌, false≢true}
+use mathlib.Core.Bool.{Bool, true, false, cond, ◌&&◌}
 use mathlib.Core.List.{List, [], ◌∷◌, ◌++◌}
 use lib.ListN.{length, take, drop, get_or, drop_of_length-le, length-append}
 use lib.Seq.{drop-cons, drop_at, take-append-le}
 use lib.Dec.{leb, eqb}
 use borrow.Author.Tests.{eqb-true, leb-true, le-leb, lt-leb}
+use Rattle.std.proofs.lemmas.Bool.{and_parts}
 use Rattle.std.specs.Prelude.{None, Some}
 use Rattle.worst_minute.specs.Minute.{Verdict, rises_from}
 use Rattle.worst_minute.specs.Layout.{value_of, entry_in, entries_in, encode_run, is_sized, verdicts_in, decode_run}
@@ -20,14 +21,9 @@ use Rattle.worst_minute.proofs.LayoutLaws.{length_entries, nth_entry, entries_ba
 
 -- ---- the size
 
-both : (a b : Bool) → (a && b) ≡ true → (a ≡ true) × (b ≡ true)
-both true true e = (refl, refl)
-both true false e = absurd (false≢true e)
-both false b e = absurd (false≢true e)
-
 -- whole entries, not too many
 pub sized : (n : ℕ) → is_sized n ≡ true → (n ≡ n / 9 * 9) × (n ≤ 36864)
-sized n e = let k = both (eqb (n % 9) 0) (leb n 36864) e in let r : n % 9 ≡ 0 = eqb-true (n % 9) 0 k.0 in (omega arith, leb-true n 36864 k.1)
+sized n e = let k = and_parts (eqb (n % 9) 0) (leb n 36864) e in let r : n % 9 ≡ 0 = eqb-true (n % 9) 0 k.0 in (omega arith, leb-true n 36864 k.1)
 
 -- ---- whether the bytes are a run
 

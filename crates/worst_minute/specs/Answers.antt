@@ -13,7 +13,12 @@ abbrev pub worst_answer : Result (Option Minute) Refusal → Result (Option (ℕ
 worst_answer (Err cause) = Err cause
 worst_answer (Ok o) = worst_of o
 
--- ---- a step of the code
+-- ---- steps of the code
+
+-- the worst 60 s of a run that isn't empty
+abbrev pub some_worst : Result (ℕ × ℕ) Refusal → Result (Option (ℕ × ℕ)) Refusal
+some_worst (Err cause) = Err cause
+some_worst (Ok m) = Ok (Some m)
 
 -- the last time of a run that was read
 abbrev pub last_of : Option (List Verdict) → Option ℕ

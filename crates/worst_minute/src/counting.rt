@@ -5,7 +5,7 @@ ghost use Rattle.limits.specs.declared.Refusal.TheVariants.{BadStore};
 ghost use Rattle.worst_minute.specs.Minute.{worst};
 ghost use Rattle.worst_minute.specs.Layout.{is_sized, decode_run};
 ghost use Rattle.worst_minute.specs.Steps.{Reaches, moved_to};
-ghost use Rattle.worst_minute.specs.Answers.{worst_answer};
+ghost use Rattle.worst_minute.specs.Answers.{some_worst, worst_answer};
 
 use crate::ENTRY_SIZE;
 use crate::entries::time_at;
@@ -23,9 +23,9 @@ pub struct Window {
 }
 
 // The worst 60 s of whole entries that aren't none; 3 where a time falls.
-pub fn count(run: &[u8]) -> Result<Option<(usize, u64)>, Refusal>
+pub fn count(run: &[u8]) -> Result<(usize, u64), Refusal>
     requires { (0 < length run.now) × (is_sized (length run.now) ≡ true) }
-    ensures { result ≡ worst_answer (and_then (or_refuse BadStore (decode_run run.now)) (λ vs. Ok (worst vs))) }
+    ensures { some_worst result ≡ worst_answer (and_then (or_refuse BadStore (decode_run run.now)) (λ vs. Ok (worst vs))) }
 {
     let first = time_at(run, 0);
     let mut w = Window {
@@ -36,6 +36,7 @@ pub fn count(run: &[u8]) -> Result<Option<(usize, u64)>, Refusal>
     let mut most = 0;
     let mut start = first;
     let mut last = first;
+    // Kept (3): `moved` reads up to the place; over chunks `enumerate` would count as `k` does, and `step_by` asks for a measure, which a range does not.
     for k in 0..run.len() / ENTRY_SIZE {
         let at = k * ENTRY_SIZE;
         let t = time_at(run, at);
@@ -55,9 +56,9 @@ pub fn count(run: &[u8]) -> Result<Option<(usize, u64)>, Refusal>
         last = t;
     }
     if w.refusals <= most {
-        return Ok(Some((most, start)));
+        return Ok((most, start));
     }
-    Ok(Some((w.refusals, w.start)))
+    Ok((w.refusals, w.start))
 }
 
 // The window without the verdicts that are 60 s or more before the one at a place.

@@ -24,12 +24,8 @@ pub fn add_verdict(time: u64, number: u8, bytes: &mut [u8], used: usize) -> Resu
     ensures value { result ≡ written_from (added (record { time = time; number = number }) bytes.old used) }
     ensures bytes_after { bytes.new ≡ leaves (added (record { time = time; number = number }) bytes.old used) bytes.old }
 {
-    if bytes.len() < used {
-        return Err(Refusal::BadStore);
-    }
-    let Some(last) = entries::last_time(&bytes[..used]) else {
-        return Err(Refusal::BadStore);
-    };
+    let run = bytes.get(..used).ok_or(Refusal::BadStore)?;
+    let last = entries::last_time(run).ok_or(Refusal::BadStore)?;
     let t = last.max(time);
     if used == RUN_ROOM {
         let newest = RUN_ROOM - ENTRY_SIZE;
@@ -49,14 +45,12 @@ pub fn add_verdict(time: u64, number: u8, bytes: &mut [u8], used: usize) -> Resu
 pub fn worst_minute(bytes: &[u8], used: usize) -> Result<Option<(usize, u64)>, Refusal>
     ensures { result ≡ worst_answer (worst_in bytes.now used) }
 {
-    if bytes.len() < used {
-        return Err(Refusal::BadStore);
-    }
+    let run = bytes.get(..used).ok_or(Refusal::BadStore)?;
     if !entries::is_sized(used) {
         return Err(Refusal::BadStore);
     }
     if used == 0 {
         return Ok(None);
     }
-    counting::count(&bytes[..used])
+    counting::count(run).map(Some)
 }

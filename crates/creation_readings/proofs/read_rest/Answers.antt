@@ -8,8 +8,8 @@ use Rattle.creation_readings.specs.Steps.{side_for, numbers_in}
 use Rattle.creation_readings.proofs.ReadingLaws.{refused_routes}
 use Rattle.creation_readings.proofs.read_rest.Goals as goal
 
-pub returns-in_err-size : goal.returns-in_err-size
-returns-in_err-size c =
+pub returns-in_err-count-clause-value : goal.returns-in_err-count-clause-value
+returns-in_err-count-clause-value g c =
     let a = c.args in
     let p = err_from_is_err_and c.from_residual.result c.from_residual.ensures.1 in
-    rw (p.1, p.2) (refused_routes (routes_of rust_limits a.peer.now) (numbers_in rust_limits (side_for a.we_are_uac) (state_in a.state) a.c.request.now a.c.response.now) (sym c.measure_routes.ensures.value ∙ c.in_err-size.was))
+    rw (p.1, p.2) (refused_routes (routes_of rust_limits a.peer.now) (numbers_in rust_limits (side_for g.S.Side.WE_ARE_UAC) (state_in a.state) a.c.request.now a.c.response.now) (sym c.measure_routes.ensures.value ∙ c.in_err-count.was))

@@ -10,13 +10,13 @@ use Rattle.creation_readings.proofs.target.Goals.{In-Some}
 there : (c : In-Some) → ContactAt c.args.block.now c.in-Some.c
 there c = contact_at c.args.block.now c.in-Some.c (sym c.find_contact.ensures ∙ c.in-Some.is)
 
-pub overflow_add-e : goal.overflow_add-e
-overflow_add-e c = omega (arith, contact_fits _ _ (there (goal.at.overflow_add-e c).In-Some))
+pub end-requires : goal.end-requires
+end-requires c = omega (arith, contact_fits _ _ (there (goal.at.end-requires c).In-Some))
 
 pub slice_bounds-result-end : goal.slice_bounds-result-end
-slice_bounds-result-end c = omega (arith, contact_fits _ _ (there (goal.at.slice_bounds-result-end c).In-Some))
+slice_bounds-result-end c = omega (arith, c.end.ensures, contact_fits _ _ (there (goal.at.slice_bounds-result-end c).In-Some))
 
 pub returns-clause-result_value : goal.returns-clause-result_value
 returns-clause-result_value c =
     let a = c.args in
-    rw add-sub_cancel_left (contact_text _ a.remote_uri.now _ (there (goal.at.returns-clause-result_value c).In-Some))
+    rw (c.end.ensures, add-sub_cancel_left) (contact_text _ a.remote_uri.now _ (there (goal.at.returns-clause-result_value c).In-Some))

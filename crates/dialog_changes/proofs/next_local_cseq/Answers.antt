@@ -1,27 +1,29 @@
--- `dialog_changes::next_local_cseq` meets its contract: 3, then the numbers of the one record changed. Assumes nothing.
+-- `dialog_changes::next_local_cseq` meets its contract: 3, then the step on the one record, and its new local number. Assumes nothing.
 use mathlib.Core.Path.{◌≡◌, sym, ap, ◌∙◌}
+use mathlib.Core.List.{List}
+use Prim.Native.Nat.{ℕ}
+use lib.ListN.{length, take}
 use Rattle.std.proofs.result.Match.{err_is}
-use Rattle.std.specs.Prelude.{Ok}
+use Rattle.std.specs.Prelude.{Ok, Result}
+use Rattle.limits.specs.declared.Refusal.{Refusal}
+use Rattle.output.specs.Output.{leaves, written_from}
+use Rattle.record.specs.NumbersForm.{meaning}
 use Rattle.record.specs.Record.{Numbers}
 use Rattle.record.specs.Rules.{local_step}
 use Rattle.dialog_rules.specs.Updates.{local_update}
-use Rattle.dialog_changes.proofs.ImageUpdateLaws.{One, place_read, used_refused, meaning_read, Ended, unread_ended, changed_ended, raised_refused, raised_not, raised_to}
+use Rattle.store_steps.specs.AtPlace.{stepped, raised_with}
+use Rattle.dialog_changes.specs.ImageUpdates.{local_raised}
+use Rattle.dialog_changes.proofs.ImageUpdateLaws.{Placed, place_read, used_refused, meaning_read, raised_refused, raised_is}
+use Rattle.dialog_changes.proofs.PlaceLaws.{stepped_place, unread_ended}
 use Rattle.dialog_changes.proofs.next_local_cseq.Goals as goal
-use Rattle.dialog_changes.proofs.next_local_cseq.Goals.{After-revise_numbers}
+use Rattle.dialog_changes.proofs.next_local_cseq.Goals.{After-local_at}
 
--- the one record, its new local number, and what the change of the numbers answered and left
-the_one : (c : After-revise_numbers) → One c.args.bytes.now c.args.used c.in_ok-p.p.record
-the_one c = (place_read c.args.bytes.now c.args.used c.in_ok-p.p (sym c.in_ok-p.was ∙ c.read_used.ensures.value)).one
+-- the one record, and what the step on it leaves
+the_one : (c : After-local_at) → Placed c.args.bytes.now c.args.used c.in_ok-p.p
+the_one c = place_read c.args.bytes.now c.args.used c.in_ok-p.p (sym c.in_ok-p.was ∙ c.read_used.ensures.value)
 
-number_is : (c : After-revise_numbers) → c.next_local_cseq-next.result.local ≡ (local_update (the_one c).value).numbers.local
-number_is c =
-    ap (λ (x : Numbers). x.local)
-    (c.next_local_cseq-next.ensures ∙ ap local_step (meaning_read c.args.bytes.now c.args.used c.in_ok-p.p.record (the_one c)))
-
-written_is : (c : After-revise_numbers) → Ended c.args.bytes.now c.args.used (λ x. Ok (local_step x)) c.revise_numbers.result c.revise_numbers.new.bytes
-written_is c =
-    changed_ended c.args.bytes.now c.args.used (λ x. Ok (local_step x)) (sym c.in_ok-p.was ∙ c.read_used.ensures.value)
-    (ap Ok (sym c.next_local_cseq-next.ensures)) (λ i. (c.slice_known-1.given i).fits) (c.revise_numbers.ensures.value, c.revise_numbers.ensures.bytes_after)
+left_is : (c : After-local_at) → stepped (λ v. Ok (local_update v)) (length c.args.bytes.now) c.in_ok-p.p.at (take c.in_ok-p.p.used c.args.bytes.now) ≡ local_raised c.args.bytes.now c.args.used
+left_is c = sym (stepped_place c.args.bytes.now c.args.used c.in_ok-p.p (the_one c) (λ i. (c.slice_known-1.given i).fits) (λ v. Ok (local_update v)))
 
 pub returns-in_err-p-clause-value : goal.returns-in_err-p-clause-value
 returns-in_err-p-clause-value c =
@@ -31,23 +33,17 @@ returns-in_err-p-clause-value c =
 pub returns-in_err-p-clause-bytes_after : goal.returns-in_err-p-clause-bytes_after
 returns-in_err-p-clause-bytes_after c =
     let a = c.args in
-    (unread_ended a.bytes.now a.used (λ x. Ok (local_step x)) (sym c.in_err-p.was ∙ c.read_used.ensures.value)).1
+    (unread_ended a.bytes.now a.used (λ v. Ok (local_update v)) (sym c.in_err-p.was ∙ c.read_used.ensures.value)).1
 
 pub returns-clause-value : goal.returns-clause-value
 returns-clause-value c =
     let a = c.args in
-    let w = goal.at.returns-clause-value c in
-    raised_to a.bytes.now a.used c.in_ok-p.p.record (the_one w.After-revise_numbers) (written_is w.After-revise_numbers).0 c.in_ok-n.was (number_is w.After-revise_numbers)
+    let w = (goal.at.returns-clause-value c).After-local_at in
+    let p = c.in_ok-p.p in
+    let n = (local_step (meaning p.record.numbers)).local in
+    c.local_at.ensures.value
+    ∙ ap (λ (o : Result (List ℕ) Refusal). raised_with n (written_from o)) (left_is w)
+    ∙ raised_is a.bytes.now a.used p.record (the_one w).one (ap (λ (x : Numbers). (local_step x).local) (meaning_read a.bytes.now a.used p.record (the_one w).one))
 
 pub returns-clause-bytes_after : goal.returns-clause-bytes_after
-returns-clause-bytes_after c = (written_is (goal.at.returns-clause-bytes_after c).After-revise_numbers).1
-
-pub returns-in_err-n-clause-value : goal.returns-in_err-n-clause-value
-returns-in_err-n-clause-value c =
-    let a = c.args in
-    let w = goal.at.returns-in_err-n-clause-value c in
-    err_is c.from_residual-in_err-n.result _ c.from_residual-in_err-n.ensures.1
-    ∙ raised_not a.bytes.now a.used c.in_ok-p.p.record (the_one w.After-revise_numbers) (written_is w.After-revise_numbers).0 c.in_err-n.was
-
-pub returns-in_err-n-clause-bytes_after : goal.returns-in_err-n-clause-bytes_after
-returns-in_err-n-clause-bytes_after c = (written_is (goal.at.returns-in_err-n-clause-bytes_after c).After-revise_numbers).1
+returns-clause-bytes_after c = c.local_at.ensures.bytes_after ∙ ap (λ (o : Result (List ℕ) Refusal). leaves o c.args.bytes.now) (left_is (goal.at.returns-clause-bytes_after c).After-local_at)

@@ -16,52 +16,53 @@ use Rattle.creation_readings.specs.Steps.{side_for}
 use Rattle.dialog_creation.proofs.MadeLaws.{refusal}
 use Rattle.dialog_creation.proofs.NewLaws.{texts_refused, forms_refused, uris_refused, checks_passed}
 use Rattle.dialog_creation.proofs.create.Goals as goal
+use Rattle.dialog_creation.proofs.create.Given.{Over}
 use Rattle.dialog_creation.proofs.create.Goals.{In_ok-check_texts, In_ok-check_forms, In_ok-check_uris}
 
 -- what was given, and the causes that were passed
-abbrev asked : In_ok-check_texts → Creation
-asked c = creation_of c.args.c
+abbrev asked : (g : Over) → In_ok-check_texts g → Creation
+asked g c = creation_of c.args.c
 
-abbrev asked-at-In_ok-check_forms : In_ok-check_forms → Creation
-asked-at-In_ok-check_forms c = creation_of c.args.c
+abbrev asked-at-In_ok-check_forms : (g : Over) → In_ok-check_forms g → Creation
+asked-at-In_ok-check_forms g c = creation_of c.args.c
 
-abbrev asked-at-In_ok-check_uris : In_ok-check_uris → Creation
-asked-at-In_ok-check_uris c = creation_of c.args.c
+abbrev asked-at-In_ok-check_uris : (g : Over) → In_ok-check_uris g → Creation
+asked-at-In_ok-check_uris g c = creation_of c.args.c
 
-texts_clear : (c : In_ok-check_texts) → texts_cause rust_limits (asked c) ≡ None
-texts_clear c = passed (texts_cause rust_limits (asked c)) (sym c.check_texts.ensures ∙ c.in_ok-check_texts.was)
+texts_clear : (g : Over) (c : In_ok-check_texts g) → texts_cause rust_limits (asked g c) ≡ None
+texts_clear g c = passed (texts_cause rust_limits (asked g c)) (sym c.check_texts.ensures ∙ c.in_ok-check_texts.was)
 
-forms_clear : (c : In_ok-check_forms) → form_cause (asked-at-In_ok-check_forms c) ≡ None
-forms_clear c = passed (form_cause (asked-at-In_ok-check_forms c)) (sym c.check_forms.ensures ∙ c.in_ok-check_forms.was)
+forms_clear : (g : Over) (c : In_ok-check_forms g) → form_cause (asked-at-In_ok-check_forms g c) ≡ None
+forms_clear g c = passed (form_cause (asked-at-In_ok-check_forms g c)) (sym c.check_forms.ensures ∙ c.in_ok-check_forms.was)
 
-uris_clear : (c : In_ok-check_uris) → or_else (uri_cause (asked-at-In_ok-check_uris c).local_uri) (uri_cause (asked-at-In_ok-check_uris c).remote_uri) ≡ None
-uris_clear c = passed (or_else (uri_cause (asked-at-In_ok-check_uris c).local_uri) (uri_cause (asked-at-In_ok-check_uris c).remote_uri)) (sym c.check_uris.ensures ∙ c.in_ok-check_uris.was)
+uris_clear : (g : Over) (c : In_ok-check_uris g) → or_else (uri_cause (asked-at-In_ok-check_uris g c).local_uri) (uri_cause (asked-at-In_ok-check_uris g c).remote_uri) ≡ None
+uris_clear g c = passed (or_else (uri_cause (asked-at-In_ok-check_uris g c).local_uri) (uri_cause (asked-at-In_ok-check_uris g c).remote_uri)) (sym c.check_uris.ensures ∙ c.in_ok-check_uris.was)
 
 pub returns-in_err-check_texts : goal.returns-in_err-check_texts
-returns-in_err-check_texts c =
+returns-in_err-check_texts g c =
     let a = c.args in
-    let old : _ × _ = refusal a.out.now (texts_refused rust_limits (side_for a.we_are_uac) (creation_of a.c) (length a.out.now) (stopped (texts_cause rust_limits (creation_of a.c)) (sym c.check_texts.ensures ∙ c.in_err-check_texts.was))) in
+    let old : _ × _ = refusal a.out.now (texts_refused rust_limits (side_for g.S.Side.WE_ARE_UAC) (creation_of a.c) (length a.out.now) (stopped (texts_cause rust_limits (creation_of a.c)) (sym c.check_texts.ensures ∙ c.in_err-check_texts.was))) in
     let p = err_from_is_err_and c.from_residual.result c.from_residual.ensures.1 in
     record { value = rw (p.1, p.2) old.0; out_after = old.1 }
 
 pub returns-in_err-check_forms : goal.returns-in_err-check_forms
-returns-in_err-check_forms c =
+returns-in_err-check_forms g c =
     let a = c.args in
-    let old : _ × _ = refusal a.out.now (forms_refused rust_limits (side_for a.we_are_uac) (asked (goal.at.returns-in_err-check_forms c).In_ok-check_texts) (length a.out.now) (texts_clear (goal.at.returns-in_err-check_forms c).In_ok-check_texts) (stopped (form_cause (asked (goal.at.returns-in_err-check_forms c).In_ok-check_texts)) (sym c.check_forms.ensures ∙ c.in_err-check_forms.was))) in
+    let old : _ × _ = refusal a.out.now (forms_refused rust_limits (side_for g.S.Side.WE_ARE_UAC) (asked g (goal.at.returns-in_err-check_forms g c).In_ok-check_texts) (length a.out.now) (texts_clear g (goal.at.returns-in_err-check_forms g c).In_ok-check_texts) (stopped (form_cause (asked g (goal.at.returns-in_err-check_forms g c).In_ok-check_texts)) (sym c.check_forms.ensures ∙ c.in_err-check_forms.was))) in
     let p = err_from_is_err_and c.from_residual-in_err-check_forms.result c.from_residual-in_err-check_forms.ensures.1 in
     record { value = rw (p.1, p.2) old.0; out_after = old.1 }
 
 pub returns-in_err-check_uris : goal.returns-in_err-check_uris
-returns-in_err-check_uris c =
+returns-in_err-check_uris g c =
     let a = c.args in
-    let old : _ × _ = refusal a.out.now (uris_refused rust_limits (side_for a.we_are_uac) (asked (goal.at.returns-in_err-check_uris c).In_ok-check_texts) (length a.out.now) (texts_clear (goal.at.returns-in_err-check_uris c).In_ok-check_texts) (forms_clear (goal.at.returns-in_err-check_uris c).In_ok-check_forms) (stopped (or_else (uri_cause a.c.local_uri.now) (uri_cause a.c.remote_uri.now)) (sym c.check_uris.ensures ∙ c.in_err-check_uris.was))) in
+    let old : _ × _ = refusal a.out.now (uris_refused rust_limits (side_for g.S.Side.WE_ARE_UAC) (asked g (goal.at.returns-in_err-check_uris g c).In_ok-check_texts) (length a.out.now) (texts_clear g (goal.at.returns-in_err-check_uris g c).In_ok-check_texts) (forms_clear g (goal.at.returns-in_err-check_uris g c).In_ok-check_forms) (stopped (or_else (uri_cause a.c.local_uri.now) (uri_cause a.c.remote_uri.now)) (sym c.check_uris.ensures ∙ c.in_err-check_uris.was))) in
     let p = err_from_is_err_and c.from_residual-in_err-check_uris.result c.from_residual-in_err-check_uris.ensures.1 in
     record { value = rw (p.1, p.2) old.0; out_after = old.1 }
 
 pub returns : goal.returns
-returns c =
+returns g c =
     let a = c.args in
     let old : _ × _ = subst (λ (o : Result (List ℕ) Refusal). (c.make.result ≡ written_from o) × (c.make.new.out ≡ leaves o a.out.now))
-    (sym (checks_passed a.we_are_uac a.c (length a.out.now) (texts_clear (goal.at.returns c).In_ok-check_texts) (forms_clear (goal.at.returns c).In_ok-check_forms) (uris_clear (goal.at.returns c).In_ok-check_uris)))
+    (sym (checks_passed g.S.Side.WE_ARE_UAC a.c (length a.out.now) (texts_clear g (goal.at.returns g c).In_ok-check_texts) (forms_clear g (goal.at.returns g c).In_ok-check_forms) (uris_clear g (goal.at.returns g c).In_ok-check_uris)))
     (c.make.ensures.value, c.make.ensures.out_after) in
     record { value = old.0; out_after = old.1 }

@@ -17,8 +17,8 @@ fits c = at_fits c.args.line _ _ c.in_ok-v.was _ c.requires
 pub text-requires : goal.text-requires
 text-requires c = fits (goal.at.text-requires c).In_ok-v
 
-pub overflow_add-result : goal.overflow_add-result
-overflow_add-result c =
-    let h = fits (goal.at.overflow_add-result c).In_ok-v in
+pub moved-requires : goal.moved-requires
+moved-requires c =
+    let h = fits (goal.at.moved-requires c).In_ok-v in
     let s = c.text.result.now in
     omega (arith, h, tag_says s (tag_of s) _ (tag_placed s) (sym c.find_tag.ensures ∙ c.in_ok-t.was), ap length c.text.ensures, named_length c.args.block.now c.in_ok-v.v h)

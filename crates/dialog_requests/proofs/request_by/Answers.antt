@@ -1,8 +1,8 @@
 -- `dialog_requests::request_by` meets its contract: the number is read, the numbers take it, and the record is revised. Assumes nothing.
 use native.Mathlib.Omega.{arith}
-use Prim.Native.Nat.{◌≤◌, ℕ, ◌<◌}
+use Prim.Native.Nat.{◌≤◌, ℕ}
 use mathlib.Core.Path.{◌≡◌, sym, ap, subst, ◌∙◌}
-use lib.ListN.{length, take, get_or}
+use lib.ListN.{length, take}
 use Rattle.std.proofs.result.Match.{err_is}
 use Rattle.text.specs.declared.Span.{Span}
 use Rattle.std.specs.Prelude.{Err, Ok, Option}
@@ -20,17 +20,12 @@ use Rattle.record.specs.NumbersForm.{meaning, outcome_in}
 use Rattle.record.specs.Record.{Numbers}
 use Rattle.record.specs.Rules.{Kind, request_step}
 use Rattle.image_edit.specs.Changes.{changed}
-use Rattle.image_edit.proofs.ImageCuts.{Held, stands_held}
+use Rattle.image_edit.proofs.ImageCuts.{stands_held}
 use Rattle.dialog_rules.specs.Updates.{kind_of, retargeted, request_update}
-use Rattle.dialog_updates.specs.AtPlace.{stepped}
-use Rattle.dialog_updates.proofs.PlaceLaws.{numbers_read, stepped_refused, stepped_given, refused_leaves, result_as}
+use Rattle.store_steps.specs.AtPlace.{stepped}
+use Rattle.store_steps.proofs.PlaceLaws.{numbers_read, stepped_refused, stepped_given, refused_leaves, result_as}
 use Rattle.dialog_requests.proofs.RequestLaws.{no_number, number_refused, number_taken}
 use Rattle.dialog_requests.proofs.request_by.Goals as goal
-use Rattle.dialog_requests.proofs.request_by.Goals.{Start}
-
--- the record among the used bytes
-stood : (c : Start) (f : (i : ℕ) → get_or c.args.bytes.now i 0 < 256) → Held (take c.args.p.used c.args.bytes.now) c.args.p.at c.args.p.record
-stood c f = stands_held c.args.bytes.now c.args.p f c.requires.stands
 
 pub cseq_at-requires : goal.cseq_at-requires
 cseq_at-requires c = subst (λ (f : Option (Span × ℕ)). end_of f ≤ length c.args.block.now) (sym c.requires.block_value.1) (end_of_lem cseq_name _)
@@ -40,7 +35,7 @@ returns-in_default c =
     let a = c.args in
     let s = take a.p.used a.bytes.now in
     let k = kind_of a.method.now in
-    let h = stood (goal.at.returns-in_default c).Start (λ i. (c.slice_known-1.given i).fits) in
+    let h = stands_held c.args.bytes.now c.args.p (λ i. (c.slice_known-1.given i).fits) c.requires.stands in
     let old : _ × _ = refused_leaves a.bytes.now (stepped (request_update rust_limits k a.block.now) (length a.bytes.now) a.p.at s)
     (stepped_refused s a.p.at a.p.record h (request_update rust_limits k a.block.now) (length a.bytes.now) (no_number rust_limits k a.block.now h.value (unreadable (cseq_number a.block.now) (c.cseq_at.ensures ∙ cseq_found a.block.now _ c.requires.block_value.1) c.in_default.is))) in
     record { value = old.0; bytes_after = old.1 }
@@ -56,7 +51,7 @@ returns c =
     let a = c.args in
     let s = take a.p.used a.bytes.now in
     let k = kind_of a.method.now in
-    let h = stood (goal.at.returns c).Start (λ i. (c.slice_known-1.given i).fits) in
+    let h = stands_held c.args.bytes.now c.args.p (λ i. (c.slice_known-1.given i).fits) c.requires.stands in
     let n = c.in-Some.n in
     let x = meaning c.in_ok-x.x in
     let e : request_step rust_limits k n h.value.numbers ≡ Ok x =
@@ -73,7 +68,7 @@ returns-in_err-x c =
     let a = c.args in
     let s = take a.p.used a.bytes.now in
     let k = kind_of a.method.now in
-    let h = stood (goal.at.returns-in_err-x c).Start (λ i. (c.slice_known-1.given i).fits) in
+    let h = stands_held c.args.bytes.now c.args.p (λ i. (c.slice_known-1.given i).fits) c.requires.stands in
     let n = c.in-Some.n in
     let e : request_step rust_limits k n h.value.numbers ≡ Err c.in_err-x.field-0.0 =
     ap (λ (y : Numbers). request_step rust_limits k n y) (sym (numbers_read s a.p.at a.p.record h))

@@ -1,9 +1,7 @@
 -- `dialog_responses::response_at` meets its contract: by whether the response confirms the record. Assumes nothing.
-use Prim.Native.Nat.{ℕ, ◌<◌}
-use native.Mathlib.Omega.{arith}
 use mathlib.Core.Path.{◌≡◌, sym, ap, ◌∙◌}
 use mathlib.Core.Bool.{true, false}
-use lib.ListN.{length, take, get_or}
+use lib.ListN.{length, take}
 use Rattle.std.specs.Prelude.{Ok}
 use Rattle.limits.specs.Limits.{rust_limits}
 use Rattle.output.specs.Output.{fitted}
@@ -11,24 +9,19 @@ use Rattle.record.specs.Changes.{with_numbers, with_routes}
 use Rattle.record.specs.NumbersForm.{meaning}
 use Rattle.record.specs.Record.{Numbers, Record}
 use Rattle.image_edit.specs.Changes.{changed}
-use Rattle.image_edit.proofs.ImageCuts.{Held, stands_held}
+use Rattle.image_edit.proofs.ImageCuts.{stands_held}
 use Rattle.route_set.specs.Routes.{routes_of}
 use Rattle.dialog_rules.specs.Updates.{retargeted, confirms, routes_or, confirmed_by, answered, response_update}
-use Rattle.dialog_updates.specs.AtPlace.{stepped}
-use Rattle.dialog_updates.proofs.PlaceLaws.{numbers_read, stepped_given, result_as}
+use Rattle.store_steps.specs.AtPlace.{stepped}
+use Rattle.store_steps.proofs.PlaceLaws.{numbers_read, stepped_given, result_as}
 use Rattle.dialog_responses.proofs.ResponseLaws.{confirming_step, other_step}
 use Rattle.dialog_responses.proofs.response_at.Goals as goal
-use Rattle.dialog_responses.proofs.response_at.Goals.{Start}
-
--- the record among the used bytes
-stood : (c : Start) (f : (i : ℕ) → get_or c.args.bytes.now i 0 < 256) → Held (take c.args.p.used c.args.bytes.now) c.args.p.at c.args.p.record
-stood c f = stands_held c.args.bytes.now c.args.p f c.requires.stands
 
 pub returns-then-confirming : goal.returns-then-confirming
 returns-then-confirming c =
     let a = c.args in
     let s = take a.p.used a.bytes.now in
-    let h = stood (goal.at.returns-then-confirming c).Start (λ i. (c.slice_known-1.given i).fits) in
+    let h = stands_held c.args.bytes.now c.args.p (λ i. (c.slice_known-1.given i).fits) c.requires.stands in
     let x = meaning c.confirmed_by-x.result in
     let block = a.block.now in
     let numbers : meaning a.p.record.numbers ≡ h.value.numbers = numbers_read s a.p.at a.p.record h in
@@ -45,7 +38,7 @@ pub returns : goal.returns
 returns c =
     let a = c.args in
     let s = take a.p.used a.bytes.now in
-    let h = stood (goal.at.returns c).Start (λ i. (c.slice_known-1.given i).fits) in
+    let h = stands_held c.args.bytes.now c.args.p (λ i. (c.slice_known-1.given i).fits) c.requires.stands in
     let x = meaning c.confirmed_by-x.result in
     let block = a.block.now in
     let numbers : meaning a.p.record.numbers ≡ h.value.numbers = numbers_read s a.p.at a.p.record h in

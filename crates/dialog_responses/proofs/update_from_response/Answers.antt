@@ -8,9 +8,10 @@ use Rattle.limits.specs.declared.Refusal.{Refusal}
 use Rattle.record.specs.Record.{Record}
 use Rattle.dialog_rules.specs.Updates.{response_update}
 use Rattle.dialog_changes.proofs.ImageUpdateLaws.{place_read, used_refused}
-use Rattle.dialog_updates.specs.AtPlace.{stepped}
+use Rattle.store_steps.specs.AtPlace.{stepped}
 use Rattle.dialog_updates.specs.Messages.{responded}
-use Rattle.dialog_updates.proofs.PlaceLaws.{stepped_place, refused_leaves, result_as}
+use Rattle.store_steps.proofs.PlaceLaws.{refused_leaves, result_as}
+use Rattle.dialog_changes.proofs.PlaceLaws.{stepped_place}
 use Rattle.dialog_updates.proofs.BlockLaws.{short_block}
 use Rattle.dialog_responses.proofs.ResponseLaws.{bad_response, response_image, no_image}
 use Rattle.dialog_responses.proofs.update_from_response.Goals as goal

@@ -1,8 +1,7 @@
 -- `distinct::is_distinct_by_pairs` meets its contract: the records passed have identifiers of their own. Assumes nothing.
-use native.Mathlib.Omega.{arith}
 use mathlib.Core.Path.{◌≡◌, sym, ap, subst, ◌∙◌}
 use borrow.Author.Tests.{not-true, not-false}
-use Rattle.codec.proofs.CodecLaws.{Bytes, bytes_all}
+use Rattle.codec.proofs.CodecLaws.{bytes_all}
 use Rattle.record_walk.specs.Walk.{end_at}
 use Rattle.record_walk.proofs.Walks.{Given, given, ended, given_is}
 use Rattle.distinct.specs.Pairs.{alone_from}

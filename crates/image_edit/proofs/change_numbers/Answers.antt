@@ -1,87 +1,89 @@
--- `image_edit::change_numbers` meets its contract: the numbers' section replaced, the state byte and the map put are the record's image with the new
--- numbers. Assumes nothing.
+-- `image_edit::change_numbers` meets its contract: the section replaced, the state byte and the map put are the image of the changed record. Assumes
+-- nothing.
 use native.Mathlib.Omega.{arith}
-use mathlib.Core.Path.{◌≡◌, sym, ap, ◌∙◌}
-use mathlib.Core.Bool.{Bool, ◌||◌}
-use mathlib.Core.List.{[], ◌∷◌}
-use Prim.Native.Nat.{ℕ, ◌+◌, ◌-◌, ◌≤◌}
-use lib.ListN.{length, take}
+use mathlib.Core.Path.{◌≡◌, refl, ap, ◌∙◌}
+use mathlib.Core.Bool.{◌||◌}
+use mathlib.Core.List.{List, [], ◌∷◌}
+use Prim.Native.Nat.{ℕ, ◌+◌, ◌≤◌, ◌<◌}
+use lib.ListN.{length, take, get_or}
 use lib.Seq.{length-take-le}
 use Rattle.edit.specs.Edit.{put_at}
 use Rattle.codec.specs.Codec.{two}
-use Rattle.record.specs.NumbersForm.{meaning}
-use Rattle.record.specs.Record.{state_byte_number}
-use Rattle.image_writer.specs.Parts.{numbers_bytes}
+use Rattle.record.specs.Record.{Numbers, state_byte_number}
 use Rattle.image_edit.specs.Maps.{map_from}
-use Rattle.image_edit.proofs.ImageCuts.{Held, stands_held}
-use Rattle.image_edit.proofs.NumbersLaws.{in_order, numbers_used, numbers_edit}
+use Rattle.image_edit.proofs.ImageCuts.{stands_held}
+use Rattle.image_edit.proofs.TailLaws.{Puts, in_order, tail_used, tail_edit}
 use Rattle.image_edit.proofs.change_numbers.Goals as goal
-use Rattle.image_edit.proofs.change_numbers.Goals.{After-new_map-map}
+use Rattle.image_edit.proofs.change_numbers.Given.{Over}
+use Rattle.image_edit.proofs.change_numbers.Goals.{Start}
 
--- the used bytes, and the record among them
-long : (c : After-new_map-map) → length (take c.args.p.used c.args.bytes.now) ≡ c.args.p.used
-long c = length-take-le c.args.p.used c.args.bytes.now c.requires.stands.0
+-- the used bytes, and the change of the record among them
+long : (g : Over) (c : Start g) → length (take c.args.p.used c.args.bytes.now) ≡ c.args.p.used
+long g c = length-take-le c.args.p.used c.args.bytes.now c.requires.stands.0
 
-stood : (c : After-new_map-map) → Held (take c.args.p.used c.args.bytes.now) c.args.p.at c.args.p.record
-stood c = stands_held c.args.bytes.now c.args.p (λ i. (c.slice_known-1.given i).fits) c.requires.stands
+abbrev puts : (g : Over) (c : Start g) (f : (i : ℕ) → get_or c.args.bytes.now i 0 < 256) → Puts (take c.args.p.used c.args.bytes.now) c.args.p.at c.args.p.record
+puts g c f =
+    let a = c.args in
+    let h = stands_held a.bytes.now a.p f c.requires.stands in
+    record {
+      held = h;
+      makes = g.T.Tail.makes a.tail;
+      values = g.T.Tail.values a.tail;
+      routes = g.T.Tail.routes a.tail h.value;
+      section = g.T.Tail.section a.tail;
+      old = g.T.Tail.old h.value;
+      rest = g.T.Tail.rest h.value;
+      ends = g.T.Tail.ended;
+      counts = g.T.Tail.counted a.tail;
+      made = g.met.T.Tail.made a.tail h.value;
+      tail_is = g.met.T.Tail.tail_is h.value;
+      new_tail = g.met.T.Tail.new_tail a.tail h.value;
+      end_is = g.met.T.Tail.end_is a.p.at h.value;
+      count_is = g.met.T.Tail.count_is a.tail a.p.at h.value;
+    }
 
 -- the places in their order
-ordered : (c : After-new_map-map) → (c.args.p.at + 2 ≤ c.args.p.record.state) × (c.args.p.record.state + 1 ≤ c.args.p.record.uris.end) × (c.args.p.record.uris.end ≤ c.args.p.record.routes) × (c.args.p.record.routes ≤ c.args.p.used)
-ordered c =
+ordered : (g : Over) (c : Start g) (f : (i : ℕ) → get_or c.args.bytes.now i 0 < 256) → (c.args.p.at + 2 ≤ c.args.p.record.state) × (c.args.p.record.state + 1 ≤ c.args.p.record.uris.end) × (c.args.p.record.uris.end ≤ g.T.Tail.ended c.args.p.record) × (g.T.Tail.ended c.args.p.record ≤ c.args.p.used)
+ordered g c f =
     let a = c.args in
-    let o = in_order (take a.p.used a.bytes.now) a.p.at a.p.record (stood c) (meaning a.numbers) in
-    (o.0, o.1, o.2, omega (arith, o.3, long c))
+    let o = in_order (take a.p.used a.bytes.now) a.p.at a.p.record (puts g c f) in
+    (o.0, o.1, o.2, omega (arith, o.3, long g c))
 
-pub replace_numbers-n-requires-clause-in_order : goal.replace_numbers-n-requires-clause-in_order
-replace_numbers-n-requires-clause-in_order c =
-    let o = ordered (goal.at.replace_numbers-n-requires-clause-in_order c).After-new_map-map in
+pub replace_tail-n-requires-clause-in_order : goal.replace_tail-n-requires-clause-in_order
+replace_tail-n-requires-clause-in_order g c =
+    let o = ordered g (goal.at.replace_tail-n-requires-clause-in_order g c).Start (λ i. (c.slice_known-1.given i).fits) in
     (o.2, o.3, c.requires.stands.0)
 
-pub replace_numbers-n-requires-clause-bytes_in_bounds : goal.replace_numbers-n-requires-clause-bytes_in_bounds
-replace_numbers-n-requires-clause-bytes_in_bounds c =
+pub replace_tail-n-requires-clause-bytes_in_bounds : goal.replace_tail-n-requires-clause-bytes_in_bounds
+replace_tail-n-requires-clause-bytes_in_bounds g c =
     let a = c.args in
-    let u = numbers_used (take a.p.used a.bytes.now) a.p.at a.p.record (stood (goal.at.replace_numbers-n-requires-clause-bytes_in_bounds c).After-new_map-map) (meaning a.numbers) in
-    omega (arith, u, long (goal.at.replace_numbers-n-requires-clause-bytes_in_bounds c).After-new_map-map, c.requires.bytes_in_bounds)
+    let w = (goal.at.replace_tail-n-requires-clause-bytes_in_bounds g c).Start in
+    let u = tail_used (take a.p.used a.bytes.now) a.p.at a.p.record (puts g w (λ i. (c.slice_known-1.given i).fits)) in
+    omega (arith, u, long g w, c.requires.bytes_in_bounds)
 
-pub write_byte-requires : goal.write_byte-requires
-write_byte-requires c =
+pub write_marks-requires : goal.write_marks-requires
+write_marks-requires g c =
     let a = c.args in
-    let o = ordered (goal.at.write_byte-requires c).After-new_map-map in
-    let k : length c.replace_numbers-n.new.bytes ≡ length a.bytes.now = c.replace_numbers-n.auto.bytes in
-    let x : a.p.record.state + 1 ≤ length c.replace_numbers-n.new.bytes = omega (arith, o.1, o.2, o.3, k, c.requires.stands.0) in
-    x
-
-pub write_two-requires : goal.write_two-requires
-write_two-requires c =
-    let a = c.args in
-    let o = ordered (goal.at.write_two-requires c).After-new_map-map in
-    let k : length c.replace_numbers-n.new.bytes ≡ length a.bytes.now = c.replace_numbers-n.auto.bytes in
-    let l : length c.write_byte.new.out ≡ length c.replace_numbers-n.new.bytes = c.write_byte.auto.out in
-    let x : a.p.at + 2 ≤ length c.write_byte.new.out = omega (arith, o.0, o.1, o.2, o.3, k, l, c.requires.stands.0) in
-    ((c.new_map-map.ensures.upper_bound), x)
+    let o = ordered g (goal.at.write_marks-requires g c).Start (λ i. (c.slice_known-1.given i).fits) in
+    let k : length c.replace_tail-n.new.bytes ≡ length a.bytes.now = c.replace_tail-n.auto.bytes in
+    let x : a.p.at + 2 ≤ length c.replace_tail-n.new.bytes = omega (arith, o.0, o.1, o.2, o.3, k, c.requires.stands.0) in
+    let y : a.p.record.state + 1 ≤ length c.replace_tail-n.new.bytes = omega (arith, o.1, o.2, o.3, k, c.requires.stands.0) in
+    (x, y)
 
 pub returns-clause-value : goal.returns-clause-value
-returns-clause-value c =
+returns-clause-value g c =
     let a = c.args in
-    let s = take a.p.used a.bytes.now in
-    let h = stood (goal.at.returns-clause-value c).After-new_map-map in
-    let m = c.replace_numbers-n in
-    m.ensures.value ∙ ap (λ (n : ℕ). n - (a.p.record.routes - a.p.record.uris.end) + length (numbers_bytes (meaning a.numbers))) (sym (long (goal.at.returns-clause-value c).After-new_map-map)) ∙ sym (numbers_used s a.p.at a.p.record h (meaning a.numbers))
+    let w = (goal.at.returns-clause-value g c).Start in
+    let u = tail_used (take a.p.used a.bytes.now) a.p.at a.p.record (puts g w (λ i. (c.slice_known-1.given i).fits)) in
+    omega (arith, c.replace_tail-n.ensures.value, u, long g w)
 
 pub returns-clause-bytes_after : goal.returns-clause-bytes_after
-returns-clause-bytes_after c =
+returns-clause-bytes_after g c =
     let a = c.args in
-    let s = take a.p.used a.bytes.now in
-    let h = stood (goal.at.returns-clause-bytes_after c).After-new_map-map in
-    let m = c.replace_numbers-n in
-    let b = c.write_byte in
-    let w = c.write_two in
-    let map = c.new_map-map in
-    let state = c.state_byte-state in
-    let e : map.result ≡ map_from (meaning a.numbers) a.p.record.ids a.p.record.route_count = map.ensures.value in
-    let secure : c.either-secure.result ≡ a.p.record.uris.local_secure || a.p.record.uris.remote_secure = c.either-secure.ensures in
-    let f : state.result ≡ state_byte_number (record { state = (meaning a.numbers).state; we_are_uac = a.p.record.we_are_uac; secure = a.p.record.uris.local_secure || a.p.record.uris.remote_secure }) =
-    state.ensures ∙ ap (λ (t : Bool). state_byte_number (record { state = (meaning a.numbers).state; we_are_uac = a.p.record.we_are_uac; secure = t })) secure in
-    (w.ensures.out_after)
-    ∙ ap (put_at a.p.at (two.write map.result)) ((b.ensures.out_after) ∙ ap (put_at a.p.record.state (state.result ∷ [])) (m.ensures.bytes_after))
-    ∙ numbers_edit s a.p.at a.p.record h (meaning a.numbers) a.bytes.now e f
+    let r = a.p.record in
+    let marked : Numbers → ℕ → List ℕ → List ℕ = λ (x : Numbers) (n : ℕ) (s : List ℕ). put_at a.p.at (two.write (map_from x r.ids n)) (put_at r.state (state_byte_number (record { state = x.state; we_are_uac = r.we_are_uac; secure = r.uris.local_secure || r.uris.remote_secure }) ∷ []) s) in
+    c.write_marks.ensures
+    ∙ ap (λ (x : Numbers). marked x c.count.result c.replace_tail-n.new.bytes) c.numbers.ensures
+    ∙ ap (λ (n : ℕ). marked (g.T.Tail.values a.tail) n c.replace_tail-n.new.bytes) c.count.ensures
+    ∙ ap (marked (g.T.Tail.values a.tail) (g.T.Tail.counted a.tail r)) c.replace_tail-n.ensures.bytes_after
+    ∙ tail_edit (take a.p.used a.bytes.now) a.p.at r (puts g (goal.at.returns-clause-bytes_after g c).Start (λ i. (c.slice_known-1.given i).fits)) a.bytes.now refl refl

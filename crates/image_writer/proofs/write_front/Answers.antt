@@ -22,14 +22,8 @@ returns-then-free-size c =
     let old : _ × _ = refused_before c.args.routes (front_of (front f)) c.args.free.now (omega (arith, measured f)) in
     record { value = old.0; free_after = old.1 }
 
-pub returns-then-free-size-2 : goal.returns-then-free-size-2
-returns-then-free-size-2 c =
-    let f = (goal.at.returns-then-free-size-2 c).After-numbers_size in
-    let old : _ × _ = refused_before c.args.routes (front_of (front f)) c.args.free.now (omega (arith, measured f)) in
-    record { value = old.0; free_after = old.1 }
-
-pub write_parts-requires-clause-routed_in_bounds : goal.write_parts-requires-clause-routed_in_bounds
-write_parts-requires-clause-routed_in_bounds c = omega (arith, measured (goal.at.write_parts-requires-clause-routed_in_bounds c).After-numbers_size)
+pub write_parts-requires : goal.write_parts-requires
+write_parts-requires c = omega (arith, measured (goal.at.write_parts-requires c).After-numbers_size)
 
 pub returns : goal.returns
 returns c =

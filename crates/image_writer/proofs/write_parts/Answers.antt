@@ -12,14 +12,14 @@ use Rattle.image_writer.proofs.write_parts.Goals as goal
 pub write_two-a-requires : goal.write_two-a-requires
 write_two-a-requires c = (c.front_map-map.ensures.upper_bound, omega (arith, front_size (front_from c.args.front c.args.routed)))
 
-pub write_ids-b-requires-clause-id_in_bounds : goal.write_ids-b-requires-clause-id_in_bounds
-write_ids-b-requires-clause-id_in_bounds c = omega (arith, front_size (front_from c.args.front c.args.routed))
+pub write_ids-b-requires : goal.write_ids-b-requires
+write_ids-b-requires c = omega (arith, front_size (front_from c.args.front c.args.routed))
 
 pub write_byte-c-requires : goal.write_byte-c-requires
 write_byte-c-requires c = omega (arith, front_size (front_from c.args.front c.args.routed))
 
-pub write_uris-d-requires-clause-uris_in_bounds : goal.write_uris-d-requires-clause-uris_in_bounds
-write_uris-d-requires-clause-uris_in_bounds c = omega (arith, front_size (front_from c.args.front c.args.routed))
+pub write_uris-d-requires : goal.write_uris-d-requires
+write_uris-d-requires c = omega (arith, front_size (front_from c.args.front c.args.routed))
 
 pub write_numbers-requires : goal.write_numbers-requires
 write_numbers-requires c = omega (arith, front_size (front_from c.args.front c.args.routed))

@@ -1,50 +1,50 @@
 -- `listing_text::lines_length` meets its contract: at each turn the lines of the records before the place are counted. Assumes nothing.
-use native.Mathlib.Omega.{arith}
 use borrow.Author.Rules.{rules}
-use mathlib.Core.Path.{◌≡◌, refl, sym, ap, subst, ◌∙◌}
+use mathlib.Core.Path.{◌≡◌, sym, ap, ◌∙◌}
 use mathlib.Core.List.{List, [], ◌++◌}
-use Prim.Native.Nat.{ℕ, ◌+◌, ◌<◌}
-use lib.ListN.{length, drop}
-use Rattle.std.specs.Prelude.{Some}
+use Prim.Native.Nat.{ℕ, ◌+◌, ◌≤◌}
+use lib.ListN.{length}
 use Rattle.listing_lines.specs.Listing.{columns_of, line_of}
-use Rattle.image.specs.Places.{record_from}
 use Rattle.record.specs.NumbersForm.{meaning}
-use Rattle.record.specs.Record.{image}
-use Rattle.listing_text.proofs.ListLaws.{Left, start, not_broken, further, step, done}
+use Rattle.listing_text.proofs.ListLaws.{Left, start_at, begun, Given, given, ended, turn, done}
+use Rattle.std.specs.declared.iter.Enumerate.{Enumerate}
+use Rattle.listing_text.specs.declared.listed.Walk.{Walk}
 use Rattle.listing_text.proofs.lines_length.Goals as goal
-use Rattle.listing_text.proofs.lines_length.Goals.{After-write_line-size}
+use Rattle.listing_text.proofs.lines_length.Goals.{In-Some}
 
-is_read : (c : After-write_line-size) → record_from c.loop-at.at (image.read (drop c.loop-at.at c.args.bytes.now)) ≡ Some (c.in-Some.r)
-is_read c = sym c.read_record.ensures ∙ c.in-Some.is
+-- the walk's turn
+taken : (c : In-Some) → Given c.args.bytes.now c.loop-i.i-iterator.iter c.in-Some.r c.next.new.self.iter
+taken c = given c.args.bytes.now c.loop-i.i-iterator.iter c.loop-i.invariant.1.0 c.in-Some.ensures.steps.0
 
-abbrev its-line : After-write_line-size → List ℕ
-its-line c = line_of (columns_of c.loop-at.position (meaning (c.in-Some.r).numbers) (c.in-Some.r).we_are_uac (c.in-Some.r).route_count)
+-- the line of the turn
+abbrev its-line : In-Some → List ℕ
+its-line c = let x = c.in-Some.r in line_of (columns_of (c.in-Some.i + 1) (meaning x.numbers) x.we_are_uac x.route_count)
 
-moves : (c : After-write_line-size) → c.loop-at.at < (c.in-Some.r).end
-moves c = further c.args.bytes.now c.loop-at.at c.loop-at.position c.loop-at.size c.loop-at.invariant.1.0 c.loop-at.invariant.1.1 c.loop-at-test.true (c.in-Some.r) (is_read c)
+-- the lines so far with it, at the walk's next place
+next : (c : In-Some) {n : ℕ} → n ≡ length (its-line c) → n ≤ 192
+    → Left c.args.bytes.now c.next.new.self.iter.at (c.next.new.self.count + 1) (c.loop-i.size + n) (c.loop-i.invariant.1.1.0 ++ its-line c)
+next c h u =
+    let w = c.in-Some.ensures.steps in
+    turn c.args.bytes.now c.loop-i.i-iterator.iter c.in-Some.r c.next.new.self.iter (taken c) w.1 w.2 c.loop-i.size c.loop-i.invariant.1.1.0 c.loop-i.invariant.1.1.1 h u
 
-next : (c : After-write_line-size) → Left c.args.bytes.now (c.in-Some.r).end (c.loop-at.position + 1) (c.loop-at.size + c.write_line-size.result) (c.loop-at.invariant.1.0 ++ its-line c)
-next c =
-    let w = c.write_line-size.ensures in
-    let h : c.write_line-size.result ≡ length (its-line c) = w.value in
-    subst (λ (n : ℕ). Left c.args.bytes.now (c.in-Some.r).end (c.loop-at.position + 1) (c.loop-at.size + n) (c.loop-at.invariant.1.0 ++ its-line c)) (sym h) (step c.args.bytes.now c.loop-at.at c.loop-at.position c.loop-at.size c.loop-at.invariant.1.0 c.loop-at.invariant.1.1 c.loop-at-test.true (c.in-Some.r) (is_read c) (omega (arith, w.upper_bound)))
+pub loop-i-init : goal.loop-i-init
+loop-i-init c =
+    let s = c.args.bytes.now in
+    let b = begun s _ _ (ap (λ (e : Enumerate Walk). e.iter) c.into_iter-i-iterator.ensures.into_iter_gives ∙ c.enumerate-i-items.ensures.source) c.new.ensures.bytes c.new.ensures.at in
+    let k = ap (λ (e : Enumerate Walk). e.count) c.into_iter-i-iterator.ensures.into_iter_gives ∙ c.enumerate-i-items.ensures.count in
+    (search rules, (b.0, ([], start_at s b.1 k c.requires.0)))
 
-pub loop-at-init : goal.loop-at-init
-loop-at-init c = (refl, ([], start c.args.bytes.now c.requires.0))
-
-pub returns-in_default : goal.returns-in_default
-returns-in_default c =
-    absurd (not_broken c.args.bytes.now c.loop-at.at c.loop-at.position c.loop-at.size c.loop-at.invariant.1.0 c.loop-at.invariant.1.1 c.loop-at-test.true (sym c.read_record.ensures ∙ c.in_default.is))
-
-pub loop-at-smaller : goal.loop-at-smaller
-loop-at-smaller c = omega (arith, moves (goal.at.loop-at-smaller c).After-write_line-size, (next (goal.at.loop-at-smaller c).After-write_line-size).here)
-
-pub loop-at-preserved : goal.loop-at-preserved
-loop-at-preserved c = (search rules, (c.loop-at.invariant.1.0 ++ its-line (goal.at.loop-at-preserved c).After-write_line-size, next (goal.at.loop-at-preserved c).After-write_line-size))
+pub loop-i-preserved : goal.loop-i-preserved
+loop-i-preserved c =
+    let i = (goal.at.loop-i-preserved c).In-Some in
+    let w = c.write_listed-size.ensures in
+    (search rules, ((taken i).same, (c.loop-i.invariant.1.1.0 ++ its-line i, next i w.value w.upper_bound)))
 
 pub returns-clause-value : goal.returns-clause-value
 returns-clause-value c =
-    let l = c.loop-at.invariant.1.1 in
-    let t = c.loop-at.invariant.1.0 in
-    let e = done c.args.bytes.now c.loop-at.at c.loop-at.position c.loop-at.size t l c.loop-at-test.false in
-    l.sized ∙ sym (ap length e)
+    let l = c.loop-i.invariant.1.1.1 in
+    let w = c.loop-i.i-iterator.iter in
+    let p = c.loop-i.i-iterator.count + 1 in
+    let t = c.loop-i.invariant.1.1.0 in
+    let h = ended c.args.bytes.now w c.loop-i.invariant.1.0 c.next.new.self.iter l c.in-None.ensures.steps.0 in
+    l.sized ∙ sym (ap length (done c.args.bytes.now w.at p c.loop-i.size t l h))

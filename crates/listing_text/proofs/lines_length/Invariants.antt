@@ -1,12 +1,10 @@
 use mathlib.Core.Path.{◌≡◌}
 use mathlib.Core.List.{List}
-use Prim.Native.Nat.{ℕ, ◌-◌}
+use Prim.Native.Nat.{ℕ, ◌+◌}
 use lib.ListN.{length}
 use Rattle.listing_text.proofs.ListLaws.{Left}
 use Rattle.listing_text.proofs.lines_length.Given as goal
 
-abbrev pub invariant-loop-at : goal.invariant-loop-at
-invariant-loop-at l = (192 ≡ length l.text) × ((t : List ℕ) × Left l.bytes l.at l.position l.size t)
-
-abbrev pub decreases-loop-at : goal.decreases-loop-at
-decreases-loop-at l = length l.bytes - l.at
+abbrev pub invariant-loop-i : goal.invariant-loop-i
+invariant-loop-i l =
+    (192 ≡ length l.text) × ((l.i-iterator.iter.bytes.now ≡ l.bytes) × ((t : List ℕ) × Left l.bytes l.i-iterator.iter.at (l.i-iterator.count + 1) l.size t))

@@ -5,51 +5,47 @@ use mathlib.Core.List.{List}
 use Prim.Native.Nat.{ℕ, ◌+◌, ◌≤◌}
 use lib.ListN.{length, take, length-append}
 use lib.Seq.{take_at}
-use Rattle.listing_text.proofs.StoreLaws.{Decoded, decoded, broken_none, whole_given, listing_parts, too_long, bad_store, no_room, listed_all}
+use Rattle.listing_text.proofs.StoreLaws.{unread, Decoded, decoded, broken_none, whole_given, listing_parts, too_long, bad_store, no_room, listed_all}
 use Rattle.listing_lines.specs.Steps.{listed_lines}
 use Rattle.listing_lines.specs.Listing.{total_line, listing_of}
 use Rattle.output.proofs.OutputLaws.{put_next, kept, wrote}
+use Rattle.std.proofs.result.Match.{err_is}
+use Rattle.std.specs.Result.{result_ok}
+use Rattle.std.specs.Prelude.{Err}
 use Rattle.limits.specs.Limits.{rust_limits}
 use Rattle.edit.specs.Edit.{over, put_at}
 use Rattle.listing_text.proofs.list_store.Goals as goal
-use Rattle.listing_text.proofs.list_store.Goals.{After-lines_length, After-put, After-write_lines-end, In-Some}
-
--- the parts of what several clauses say together
-first2 : {A B : Type 0} → A × B → A
-first2 p = p.0
-
-second2 : {A B : Type 0} → A × B → B
-second2 p = p.1
+use Rattle.listing_text.proofs.list_store.Goals.{After-lines_length, After-put, After-write_lines-end, In_ok-count}
 
 -- the records that were read
-abbrev store : (c : In-Some) → Decoded c.args.bytes.now c.in-Some.count
-store c = decoded c.args.bytes.now c.in-Some.count (sym c.read_store.ensures ∙ c.in-Some.is)
+abbrev store : (c : In_ok-count) → Decoded c.args.bytes.now c.in_ok-count.count
+store c = decoded c.args.bytes.now c.in_ok-count.count (sym c.read_store.ensures ∙ c.ok_or.ensures.ok_part ∙ ap result_ok c.in_ok-count.was)
 
-abbrev store-at-After-lines_length : (c : After-lines_length) → Decoded c.args.bytes.now c.in-Some.count
-store-at-After-lines_length c = decoded c.args.bytes.now c.in-Some.count (sym c.read_store.ensures ∙ c.in-Some.is)
+abbrev store-at-After-lines_length : (c : After-lines_length) → Decoded c.args.bytes.now c.in_ok-count.count
+store-at-After-lines_length c = decoded c.args.bytes.now c.in_ok-count.count (sym c.read_store.ensures ∙ c.ok_or.ensures.ok_part ∙ ap result_ok c.in_ok-count.was)
 
-abbrev store-at-After-put : (c : After-put) → Decoded c.args.bytes.now c.in-Some.count
-store-at-After-put c = decoded c.args.bytes.now c.in-Some.count (sym c.read_store.ensures ∙ c.in-Some.is)
+abbrev store-at-After-put : (c : After-put) → Decoded c.args.bytes.now c.in_ok-count.count
+store-at-After-put c = decoded c.args.bytes.now c.in_ok-count.count (sym c.read_store.ensures ∙ c.ok_or.ensures.ok_part ∙ ap result_ok c.in_ok-count.was)
 
 -- the length of the listing
 sizes : (c : After-lines_length) → c.lines_length.result + c.write_words-n.result ≡ length (listing_of (store-at-After-lines_length c).records)
 sizes c =
     let s = c.args.bytes.now in
-    let n = c.in-Some.count in
+    let n = c.in_ok-count.count in
     let h : c.lines_length.result ≡ length (listed_lines s) = c.lines_length.ensures.value in
     let k : c.write_words-n.result ≡ length (total_line n) = c.write_words-n.ensures.value in
     omega (arith, h, k, length-append (listed_lines s) (total_line n), ap length (listing_parts s n (store-at-After-lines_length c)))
 
 -- the last line is the front of the buffer, and there is room for it
-front : (c : After-write_lines-end) → take c.write_words-n.result c.write_words-n.new.out ≡ total_line c.in-Some.count
+front : (c : After-write_lines-end) → take c.write_words-n.result c.write_words-n.new.out ≡ total_line c.in_ok-count.count
 front c =
     let w = c.write_words-n.ensures in
-    ap (take c.write_words-n.result) w.out_after ∙ take_at (total_line c.in-Some.count) _ c.write_words-n.result (sym w.value)
+    ap (take c.write_words-n.result) w.out_after ∙ take_at (total_line c.in_ok-count.count) _ c.write_words-n.result (sym w.value)
 
-front-at-After-put : (c : After-put) → take c.write_words-n.result c.write_words-n.new.out ≡ total_line c.in-Some.count
+front-at-After-put : (c : After-put) → take c.write_words-n.result c.write_words-n.new.out ≡ total_line c.in_ok-count.count
 front-at-After-put c =
     let w = c.write_words-n.ensures in
-    ap (take c.write_words-n.result) w.out_after ∙ take_at (total_line c.in-Some.count) _ c.write_words-n.result (sym w.value)
+    ap (take c.write_words-n.result) w.out_after ∙ take_at (total_line c.in_ok-count.count) _ c.write_words-n.result (sym w.value)
 
 fits : (c : After-write_lines-end) → c.write_lines-end.result + length (take c.write_words-n.result c.write_words-n.new.out) ≤ length c.write_lines-end.new.out
 fits c =
@@ -61,7 +57,7 @@ fits c =
 written : (c : After-put) → c.put.new.bytes ≡ over (listing_of (store-at-After-put c).records) c.args.out.now
 written c =
     let a = c.args in
-    let n = c.in-Some.count in
+    let n = c.in_ok-count.count in
     c.put.ensures
     ∙ ap (λ (s : List ℕ). put_at c.write_lines-end.result s c.write_lines-end.new.out) (front-at-After-put c)
     ∙ ap (put_at c.write_lines-end.result (total_line n)) (c.write_lines-end.ensures.out_after)
@@ -71,42 +67,44 @@ written c =
 pub returns-then-bytes-gt-MAX_LISTED_STORE-clause-value : goal.returns-then-bytes-gt-MAX_LISTED_STORE-clause-value
 returns-then-bytes-gt-MAX_LISTED_STORE-clause-value c =
     let a = c.args in
-    (first2 (kept a.out.now (too_long rust_limits a.bytes.now (length a.out.now) c.if-bytes-gt-MAX_LISTED_STORE.true)))
+    ((kept a.out.now (too_long rust_limits a.bytes.now (length a.out.now) c.if-bytes-gt-MAX_LISTED_STORE.true)).0)
 
 pub returns-then-bytes-gt-MAX_LISTED_STORE-clause-out_after : goal.returns-then-bytes-gt-MAX_LISTED_STORE-clause-out_after
 returns-then-bytes-gt-MAX_LISTED_STORE-clause-out_after c =
     let a = c.args in
-    (second2 (kept a.out.now (too_long rust_limits a.bytes.now (length a.out.now) c.if-bytes-gt-MAX_LISTED_STORE.true)))
+    ((kept a.out.now (too_long rust_limits a.bytes.now (length a.out.now) c.if-bytes-gt-MAX_LISTED_STORE.true)).1)
 
-pub returns-in_default-clause-value : goal.returns-in_default-clause-value
-returns-in_default-clause-value c =
+pub returns-in_err-count-clause-value : goal.returns-in_err-count-clause-value
+returns-in_err-count-clause-value c =
     let a = c.args in
-    (first2 (kept a.out.now (bad_store rust_limits a.bytes.now (length a.out.now) (omega (arith, c.if-bytes-gt-MAX_LISTED_STORE.false)) (broken_none a.bytes.now (sym c.read_store.ensures ∙ c.in_default.is)))))
+    let n = unread c.read_store.result c.ok_or.ensures.value c.in_err-count.was in
+    err_is c.from_residual.result _ c.from_residual.ensures.1 ∙ ap Err n.1 ∙ ((kept a.out.now (bad_store rust_limits a.bytes.now (length a.out.now) (omega (arith, c.if-bytes-gt-MAX_LISTED_STORE.false)) (broken_none a.bytes.now (sym c.read_store.ensures ∙ n.0)))).0)
 
-pub returns-in_default-clause-out_after : goal.returns-in_default-clause-out_after
-returns-in_default-clause-out_after c =
+pub returns-in_err-count-clause-out_after : goal.returns-in_err-count-clause-out_after
+returns-in_err-count-clause-out_after c =
     let a = c.args in
-    (second2 (kept a.out.now (bad_store rust_limits a.bytes.now (length a.out.now) (omega (arith, c.if-bytes-gt-MAX_LISTED_STORE.false)) (broken_none a.bytes.now (sym c.read_store.ensures ∙ c.in_default.is)))))
+    let n = unread c.read_store.result c.ok_or.ensures.value c.in_err-count.was in
+    ((kept a.out.now (bad_store rust_limits a.bytes.now (length a.out.now) (omega (arith, c.if-bytes-gt-MAX_LISTED_STORE.false)) (broken_none a.bytes.now (sym c.read_store.ensures ∙ n.0)))).1)
 
 pub lines_length-requires : goal.lines_length-requires
-lines_length-requires c = (whole_given _ _ (store (goal.at.lines_length-requires c).In-Some), omega (arith, c.if-bytes-gt-MAX_LISTED_STORE.false))
+lines_length-requires c = (whole_given _ _ (store (goal.at.lines_length-requires c).In_ok-count), omega (arith, c.if-bytes-gt-MAX_LISTED_STORE.false))
 
 pub returns-then-out-size-clause-value : goal.returns-then-out-size-clause-value
 returns-then-out-size-clause-value c =
     let a = c.args in
-    let d = store (goal.at.returns-then-out-size-clause-value c).In-Some in
-    let k = ap length (listing_parts a.bytes.now c.in-Some.count d) in
-    (first2 (kept a.out.now (no_room rust_limits a.bytes.now (length a.out.now) (omega (arith, c.if-bytes-gt-MAX_LISTED_STORE.false)) d (omega (arith, c.if-out-size.true, sizes (goal.at.returns-then-out-size-clause-value c).After-lines_length)))))
+    let d = store (goal.at.returns-then-out-size-clause-value c).In_ok-count in
+    let k = ap length (listing_parts a.bytes.now c.in_ok-count.count d) in
+    ((kept a.out.now (no_room rust_limits a.bytes.now (length a.out.now) (omega (arith, c.if-bytes-gt-MAX_LISTED_STORE.false)) d (omega (arith, c.if-out-size.true, sizes (goal.at.returns-then-out-size-clause-value c).After-lines_length)))).0)
 
 pub returns-then-out-size-clause-out_after : goal.returns-then-out-size-clause-out_after
 returns-then-out-size-clause-out_after c =
     let a = c.args in
-    let d = store (goal.at.returns-then-out-size-clause-out_after c).In-Some in
-    let k = ap length (listing_parts a.bytes.now c.in-Some.count d) in
-    (second2 (kept a.out.now (no_room rust_limits a.bytes.now (length a.out.now) (omega (arith, c.if-bytes-gt-MAX_LISTED_STORE.false)) d (omega (arith, c.if-out-size.true, sizes (goal.at.returns-then-out-size-clause-out_after c).After-lines_length)))))
+    let d = store (goal.at.returns-then-out-size-clause-out_after c).In_ok-count in
+    let k = ap length (listing_parts a.bytes.now c.in_ok-count.count d) in
+    ((kept a.out.now (no_room rust_limits a.bytes.now (length a.out.now) (omega (arith, c.if-bytes-gt-MAX_LISTED_STORE.false)) d (omega (arith, c.if-out-size.true, sizes (goal.at.returns-then-out-size-clause-out_after c).After-lines_length)))).1)
 
 pub write_lines-end-requires-clause-bytes_value : goal.write_lines-end-requires-clause-bytes_value
-write_lines-end-requires-clause-bytes_value c = (whole_given _ _ (store (goal.at.write_lines-end-requires-clause-bytes_value c).In-Some), omega (arith, c.if-bytes-gt-MAX_LISTED_STORE.false))
+write_lines-end-requires-clause-bytes_value c = (whole_given _ _ (store (goal.at.write_lines-end-requires-clause-bytes_value c).In_ok-count), omega (arith, c.if-bytes-gt-MAX_LISTED_STORE.false))
 
 pub put-requires : goal.put-requires
 put-requires c = fits (goal.at.put-requires c).After-write_lines-end
@@ -114,11 +112,11 @@ put-requires c = fits (goal.at.put-requires c).After-write_lines-end
 pub returns-clause-value : goal.returns-clause-value
 returns-clause-value c =
     let a = c.args in
-    let d = store (goal.at.returns-clause-value c).In-Some in
-    (first2 (wrote a.out.now (listed_all rust_limits a.bytes.now (length a.out.now) (omega (arith, c.if-bytes-gt-MAX_LISTED_STORE.false)) d (omega (arith, c.if-out-size.false, sizes (goal.at.returns-clause-value c).After-lines_length))) (sizes (goal.at.returns-clause-value c).After-lines_length) (written (goal.at.returns-clause-value c).After-put)))
+    let d = store (goal.at.returns-clause-value c).In_ok-count in
+    ((wrote a.out.now (listed_all rust_limits a.bytes.now (length a.out.now) (omega (arith, c.if-bytes-gt-MAX_LISTED_STORE.false)) d (omega (arith, c.if-out-size.false, sizes (goal.at.returns-clause-value c).After-lines_length))) (sizes (goal.at.returns-clause-value c).After-lines_length) (written (goal.at.returns-clause-value c).After-put)).0)
 
 pub returns-clause-out_after : goal.returns-clause-out_after
 returns-clause-out_after c =
     let a = c.args in
-    let d = store (goal.at.returns-clause-out_after c).In-Some in
-    (second2 (wrote a.out.now (listed_all rust_limits a.bytes.now (length a.out.now) (omega (arith, c.if-bytes-gt-MAX_LISTED_STORE.false)) d (omega (arith, c.if-out-size.false, sizes (goal.at.returns-clause-out_after c).After-lines_length))) (sizes (goal.at.returns-clause-out_after c).After-lines_length) (written (goal.at.returns-clause-out_after c).After-put)))
+    let d = store (goal.at.returns-clause-out_after c).In_ok-count in
+    ((wrote a.out.now (listed_all rust_limits a.bytes.now (length a.out.now) (omega (arith, c.if-bytes-gt-MAX_LISTED_STORE.false)) d (omega (arith, c.if-out-size.false, sizes (goal.at.returns-clause-out_after c).After-lines_length))) (sizes (goal.at.returns-clause-out_after c).After-lines_length) (written (goal.at.returns-clause-out_after c).After-put)).1)

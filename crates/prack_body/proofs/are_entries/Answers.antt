@@ -1,32 +1,33 @@
 -- `prack_body::are_entries` meets its contract: at each turn the answer is that of the entries left. Assumes nothing.
-use Rattle.std.proofs.Common.{◌+◌, ◌*◌, sym, ◌∙◌, arith}
-use borrow.Author.Tests.{le-leb, lt-leb}
-use Rattle.prack_body.proofs.ReadLaws.{entry_at, entry_method, entry_flag, turn, stop, done, next_place}
+use Rattle.std.proofs.Common.{sym, ap, ◌∙◌, arith}
+use Rattle.prack_body.proofs.ReadLaws.{looking, looked_method, looked_flag, looked_at, looked_all}
 use Rattle.prack_body.proofs.are_entries.Goals as goal
+use Rattle.prack_body.proofs.are_entries.Goals.{then-not-is_method-via-then-not-is_method, then-not-is_method-via-else-not-is_method+then-entry-gt1}
+
+pub loop-entry-init : goal.loop-entry-init
+loop-entry-init c =
+    let e = c.into_iter-entry-iterator.ensures.into_iter_gives in
+    let f = c.chunks_exact-entry-items.ensures in
+    record { size = ap (λ i. i.size) e ∙ f.size; looking = looking c.args.bytes.now c.args.first c.args.count (omega arith) (ap (λ i. i.rest.now) e ∙ f.rest) }
 
 pub returns-then-not-is_method : goal.returns-then-not-is_method
 returns-then-not-is_method c =
-    let a = c.args in
-    let i = c.loop-read.read in
-    sym (c.loop-read.invariant ∙ stop a.bytes.now i a.count (a.first + i * 20) c.loop-read-test.true (entry_method a.bytes.now (a.first + i * 20) (omega arith) (sym c.is_method.ensures ∙ c.if-not-is_method.true)))
+    let i = c.loop-entry.invariant in
+    let e = c.in-Some.ensures.steps.1 in
+    let l = e.1 ∙ i.size in
+    elim c.then-not-is_method.branch [
+      | then-not-is_method-via-then-not-is_method w ↦ looked_method c.requires.1 i.looking _ _ e.0 l (sym c.is_method.ensures ∙ w.if-not-is_method.true)
+      | then-not-is_method-via-else-not-is_method+then-entry-gt1 w ↦ looked_flag c.requires.1 i.looking _ _ e.0 l (sym c.is_method.ensures ∙ w.if-not-is_method.false) w.if-entry-gt1.true
+    ]
 
-pub returns-then-bytes-at-gt1 : goal.returns-then-bytes-at-gt1
-returns-then-bytes-at-gt1 c =
-    let a = c.args in
-    let i = c.loop-read.read in
-    sym (c.loop-read.invariant ∙ stop a.bytes.now i a.count (a.first + i * 20) c.loop-read-test.true
-    (entry_flag a.bytes.now (a.first + i * 20) (omega arith) (sym c.is_method.ensures ∙ c.if-not-is_method.false) (lt-leb _ 1 c.if-bytes-at-gt1.true)))
-
-pub loop-read-preserved : goal.loop-read-preserved
-loop-read-preserved c =
-    let a = c.args in
-    let i = c.loop-read.read in
-    c.loop-read.invariant
-    ∙ turn a.bytes.now i a.count (a.first + i * 20) c.loop-read-test.true (entry_at a.bytes.now (a.first + i * 20) (omega arith) (sym c.is_method.ensures ∙ c.if-not-is_method.false) (le-leb _ 1 c.if-bytes-at-gt1.false))
-    ∙ next_place a.bytes.now a.first i a.count
+pub loop-entry-preserved : goal.loop-entry-preserved
+loop-entry-preserved c =
+    let i = c.loop-entry.invariant in
+    let e = c.in-Some.ensures.steps in
+    record {
+      size = e.0 ∙ i.size;
+      looking = looked_at c.requires.1 i.looking _ _ e.1.0 (e.1.1 ∙ i.size) (sym c.is_method.ensures ∙ c.if-not-is_method.false) c.if-entry-gt1.false;
+    }
 
 pub returns : goal.returns
-returns c =
-    let a = c.args in
-    let i = c.loop-read.read in
-    sym (c.loop-read.invariant ∙ done a.bytes.now i a.count (a.first + i * 20) (omega arith))
+returns c = looked_all c.requires.1 c.loop-entry.invariant.looking (omega (arith, c.in-None.ensures.steps.1.0))

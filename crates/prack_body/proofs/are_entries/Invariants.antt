@@ -1,8 +1,7 @@
-use Rattle.std.proofs.Common.{◌≡◌, ◌+◌, ◌-◌, ◌*◌, drop}
-use Rattle.codec.specs.Codec.{read_all}
-use Rattle.prack_body.specs.Layout.{pending_form}
-use Rattle.prack_body.specs.Places.{is_read}
+-- The bytes left are those of whole entries, and the entries before them are read.
+use mathlib.Core.Path.{◌≡◌}
+use Rattle.prack_body.proofs.ReadLaws.{Looking}
 use Rattle.prack_body.proofs.are_entries.Given as goal
 
-abbrev pub invariant-loop-read : goal.invariant-loop-read
-invariant-loop-read l = is_read (read_all pending_form l.count (drop l.first l.bytes)) ≡ is_read (read_all pending_form (l.count - l.read) (drop (l.first + l.read * 20) l.bytes))
+abbrev pub invariant-loop-entry : goal.invariant-loop-entry
+invariant-loop-entry l = record { size : l.entry-iterator.size ≡ 20; looking : Looking l.bytes l.first l.count l.entry-iterator.rest.now }

@@ -9,21 +9,21 @@ use Rattle.prack_body.proofs.read_tracked.Goals.{In_ok-id}
 named : (c : In_ok-id) → TextGot c.args.bytes.now c.args.at c.in_ok-id.id
 named c = text_got c.args.bytes.now c.args.at c.requires (sym c.read_text.ensures ∙ c.in_ok-id.was)
 
-pub overflow_add-time : goal.overflow_add-time
-overflow_add-time c = omega (arith, (named (goal.at.overflow_add-time c).In_ok-id).got.within)
+pub end-time-requires : goal.end-time-requires
+end-time-requires c = omega (arith, (named (goal.at.end-time-requires c).In_ok-id).got.within)
 
 pub overflow_sub-bytes : goal.overflow_sub-bytes
-overflow_sub-bytes c = omega (arith, (named (goal.at.overflow_sub-bytes c).In_ok-id).got.within)
+overflow_sub-bytes c = omega (arith, (named (goal.at.overflow_sub-bytes c).In_ok-id).got.within, c.end-time.ensures)
 
 pub returns-then-bytes-time-lt-LIST_AT : goal.returns-then-bytes-time-lt-LIST_AT
-returns-then-bytes-time-lt-LIST_AT c = let a = c.args in held_time a.bytes.now a.at (named (goal.at.returns-then-bytes-time-lt-LIST_AT c).In_ok-id) c.if-bytes-time-lt-LIST_AT.true
+returns-then-bytes-time-lt-LIST_AT c = let a = c.args in held_time a.bytes.now a.at (named (goal.at.returns-then-bytes-time-lt-LIST_AT c).In_ok-id) (rw c.end-time.ensures at c.if-bytes-time-lt-LIST_AT.true)
 
 pub returns-in_err-l : goal.returns-in_err-l
 returns-in_err-l c =
     let a = c.args in
-    c.from_residual-in_err-l.ensures ∙ held_broken a.bytes.now a.at (named (goal.at.returns-in_err-l c).In_ok-id) c.read_eight-cleaned_at.ensures (sym c.in_err-l.was ∙ c.read_list.ensures)
+    c.from_residual-in_err-l.ensures ∙ held_broken a.bytes.now a.at (named (goal.at.returns-in_err-l c).In_ok-id) (rw c.end-time.ensures at c.read_eight-cleaned_at.ensures) (sym c.in_err-l.was ∙ (rw c.end-time.ensures at c.read_list.ensures))
 
 pub returns : goal.returns
 returns c =
     let a = c.args in
-    held_whole a.bytes.now a.at (named (goal.at.returns c).In_ok-id) c.read_eight-cleaned_at.ensures (sym c.in_ok-l.was ∙ c.read_list.ensures)
+    held_whole a.bytes.now a.at (named (goal.at.returns c).In_ok-id) (rw c.end-time.ensures at c.read_eight-cleaned_at.ensures) (sym c.in_ok-l.was ∙ (rw c.end-time.ensures at c.read_list.ensures))

@@ -2,6 +2,7 @@
 use Rattle.std.proofs.Common.{◌≡◌, ◌-◌, ◌≤◌, ℕ, List, Err, None, Ok, Result, sym, ap, ◌∙◌, arith, rules}
 use Rattle.std.proofs.result.Match.{err_is}
 use Rattle.limits.specs.Limits.{rust_limits}
+use Rattle.text.proofs.Lengths.{length_passed, length_stopped}
 use Rattle.limits.specs.declared.Refusal.{Refusal}
 use Rattle.codec.proofs.CodecLaws.{Bytes, bytes_all}
 use Rattle.ordered_store.specs.Answers.{used_written}
@@ -19,7 +20,7 @@ known : (c : After-find) → Bytes c.args.bytes.now
 known c = bytes_all c.args.bytes.now (λ n. search rules)
 
 clear : (c : After-find) → action_cause rust_limits (remove_dialog c.args.id.now) ≡ None
-clear c = rest_cause (remove_dialog c.args.id.now) (sym c.too_long.ensures ∙ c.if-too_long.false)
+clear c = rest_cause (remove_dialog c.args.id.now) (length_passed rust_limits c.args.id.now (sym c.check_length.ensures ∙ c.in_ok-check_length.was))
 
 S : (c : In-Ok) → Sought c.args.id.now c.args.bytes.now c.args.used (Ok c.in-Ok.t)
 S c = sought c.args.id.now c.args.bytes.now c.args.used (Ok c.in-Ok.t) (sym c.find.ensures ∙ c.in_ok-t.was ∙ ap Ok c.in-Ok.is)
@@ -27,15 +28,17 @@ S c = sought c.args.id.now c.args.bytes.now c.args.used (Ok c.in-Ok.t) (sym c.fi
 F : (c : In-Ok) → Found c.args.id.now c.args.bytes.now c.args.used c.in-Ok.t (S c).list
 F c = found c.args.id.now c.args.bytes.now c.args.used c.in-Ok.t (bytes_all c.args.bytes.now (λ n. search rules)) (S c)
 
-pub returns-then-too_long : goal.returns-then-too_long
-returns-then-too_long c =
+pub returns-in_err-check_length : goal.returns-in_err-check_length
+returns-in_err-check_length c =
+    let q = length_stopped rust_limits c.args.id.now (sym c.check_length.ensures ∙ c.in_err-check_length.was) in
+    let e = err_is c.from_residual.result _ c.from_residual.ensures.1 ∙ ap Err q.1 in
     let a = remove_dialog c.args.id.now in
-    let old : _ × (_ × _) = written_kept c.args.bytes.now c.args.used (by_arguments c.args.bytes.now c.args.used a (long_cause_lem a (sym c.too_long.ensures ∙ c.if-too_long.true))) in
-    record { value = old.0; bytes_after = old.1.0; used_value = old.1.1 }
+    let old : _ × (_ × _) = written_kept c.args.bytes.now c.args.used (by_arguments c.args.bytes.now c.args.used a (long_cause_lem a q.0)) in
+    record { value = e ∙ old.0; bytes_after = old.1.0; used_value = ap (λ (r : Result ℕ Refusal). used_written r c.args.used) e ∙ old.1.1 }
 
 pub returns-in_err-t : goal.returns-in_err-t
 returns-in_err-t c =
-    let e = err_is c.from_residual.result _ c.from_residual.ensures.1 in
+    let e = err_is c.from_residual-in_err-t.result _ c.from_residual-in_err-t.ensures.1 in
     let old : _ × (_ × _) = written_kept c.args.bytes.now c.args.used (by_store c.args.bytes.now c.args.used (remove_dialog c.args.id.now) (clear (goal.at.returns-in_err-t c).After-find) c.args.id.now (sym c.find.ensures ∙ c.in_err-t.was)) in
     record { value = e ∙ old.0; bytes_after = old.1.0; used_value = ap (λ (r : Result ℕ Refusal). used_written r c.args.used) e ∙ old.1.1 }
 

@@ -1,9 +1,9 @@
 -- `get_pending` meets its contract: what is held is cleaned, the output's room is measured, then the store and the output are written. Assumes nothing.
-use Rattle.std.proofs.Common.{◌≡◌, ◌≤◌, ℕ, List, None, Ok, Result, sym, ap, ◌∙◌, arith, rules, false, length}
+use Rattle.std.proofs.Common.{◌≡◌, ◌≤◌, ℕ, List, Err, None, Ok, Result, sym, ap, ◌∙◌, arith, rules, false, length}
 use Rattle.std.proofs.result.Match.{err_is}
 use Rattle.limits.specs.Limits.{rust_limits}
+use Rattle.text.proofs.Lengths.{length_passed, length_stopped}
 use Rattle.limits.specs.declared.Refusal.{Refusal}
-use Rattle.text.specs.Answers.{too_long}
 use Rattle.output.specs.Output.{fitted}
 use Rattle.codec.proofs.CodecLaws.{Bytes, bytes_all}
 use Rattle.ordered_store.specs.Entries.{set_entry}
@@ -14,7 +14,7 @@ use Rattle.prack_body.proofs.BodyLaws.{alone}
 use Rattle.prack_body.specs.declared.TrackedAt.{TrackedAt}
 use Rattle.prack_entries.specs.Entries.{key_of, encode_tracked, clean_for}
 use Rattle.prack_entries.specs.Places.{Sought}
-use Rattle.prack_entries.proofs.SlotLaws.{sought}
+use Rattle.prack_entries.proofs.SlotLaws.{sought, cut}
 use Rattle.prack_validator.specs.Validator.{get_pending, written, action_cause, ran}
 use Rattle.prack_validator.specs.Answers.{used_listed}
 use Rattle.prack_validator.proofs.OperationLaws.{long_cause_lem, rest_cause, short, left_by, by_arguments, by_store, by_cause, by_fitting, pending_refuses, pending_decides, clean_id}
@@ -40,7 +40,7 @@ known : (c : In_ok-slot) → Bytes c.args.bytes.now
 known c = bytes_all c.args.bytes.now (λ n. search rules)
 
 clear : (c : After-find) → action_cause rust_limits (get_pending c.args.id.now c.args.time (length c.args.out.now)) ≡ None
-clear c = rest_cause (get_pending c.args.id.now c.args.time (length c.args.out.now)) (sym c.too_long.ensures ∙ c.if-too_long.false)
+clear c = rest_cause (get_pending c.args.id.now c.args.time (length c.args.out.now)) (length_passed rust_limits c.args.id.now (sym c.check_length.ensures ∙ c.in_ok-check_length.was))
 
 -- the bytes are a store's
 abbrev S : (c : In_ok-slot) → Sought c.args.id.now c.args.bytes.now c.args.used c.in_ok-slot.slot
@@ -50,23 +50,31 @@ same : (c : In_ok-slot) → (clean_for rust_limits c.args.time c.args.id.now (S 
 same c = clean_id (known c) (S c) c.args.time
 
 copied : (c : After-clean_copy-n) (s : Sought c.args.id.now c.args.bytes.now c.args.used c.in_ok-slot.slot) → Holds c.clean_copy-n.new.body c.clean_copy-n.result (clean_for rust_limits c.args.time c.args.id.now s.list)
-copied c s = c.clean_copy-n.ensures.by_index c.args.id.now s (short c.args.id.now (sym c.too_long.ensures ∙ c.if-too_long.false))
+copied c s = c.clean_copy-n.ensures.by_index c.args.id.now (cut s) (short c.args.id.now (length_passed rust_limits c.args.id.now (sym c.check_length.ensures ∙ c.in_ok-check_length.was)))
 
 size : (c : After-open_size) (s : Sought c.args.id.now c.args.bytes.now c.args.used c.in_ok-slot.slot) → c.open_size.result ≡ length (open_bytes (open_in (clean_for rust_limits c.args.time c.args.id.now s.list).list))
-size c s = c.open_size.ensures (clean_for rust_limits c.args.time c.args.id.now s.list) (alone (c.clean_copy-n.ensures.by_index c.args.id.now s (short c.args.id.now (sym c.too_long.ensures ∙ c.if-too_long.false))))
+size c s = c.open_size.ensures (clean_for rust_limits c.args.time c.args.id.now s.list) (alone (c.clean_copy-n.ensures.by_index c.args.id.now (cut s) (short c.args.id.now (length_passed rust_limits c.args.id.now (sym c.check_length.ensures ∙ c.in_ok-check_length.was)))))
 
-pub returns-then-too_long : goal.returns-then-too_long
-returns-then-too_long c =
+pub returns-in_err-check_length : goal.returns-in_err-check_length
+returns-in_err-check_length c =
+    let q = length_stopped rust_limits c.args.id.now (sym c.check_length.ensures ∙ c.in_err-check_length.was) in
+    let e = err_is c.from_residual.result _ c.from_residual.ensures.1 ∙ ap Err q.1 in
     let a = get_pending c.args.id.now c.args.time (length c.args.out.now) in
-    let old : _ × (_ × (_ × _)) = listed_kept c.args.bytes.now c.args.used (by_arguments c.args.bytes.now c.args.used a (long_cause_lem a (sym c.too_long.ensures ∙ c.if-too_long.true))) c.args.out.now in
-    record { value = old.0; bytes_after = old.1.0; used_value = old.1.1.0; out_after = old.1.1.1 }
+    let old : _ × (_ × (_ × _)) = listed_kept c.args.bytes.now c.args.used (by_arguments c.args.bytes.now c.args.used a (long_cause_lem a q.0)) c.args.out.now in
+    record { value = e ∙ old.0; bytes_after = old.1.0; used_value = ap (λ (r : Result (ℕ × ℕ) Refusal). used_listed r c.args.used) e ∙ old.1.1.0; out_after = old.1.1.1 }
 
 pub returns-in_err-slot : goal.returns-in_err-slot
 returns-in_err-slot c =
     let a = get_pending c.args.id.now c.args.time (length c.args.out.now) in
-    let e = err_is c.from_residual.result _ c.from_residual.ensures.1 in
+    let e = err_is c.from_residual-in_err-slot.result _ c.from_residual-in_err-slot.ensures.1 in
     let old : _ × (_ × (_ × _)) = listed_kept c.args.bytes.now c.args.used (by_store c.args.bytes.now c.args.used a (clear (goal.at.returns-in_err-slot c).After-find) c.args.id.now (sym c.find.ensures ∙ c.in_err-slot.was)) c.args.out.now in
     record { value = e ∙ old.0; bytes_after = old.1.0; used_value = ap (λ (r : Result (ℕ × ℕ) Refusal). used_listed r c.args.used) e ∙ old.1.1.0; out_after = old.1.1.1 }
+
+pub slice_bounds-clean_copy-end : goal.slice_bounds-clean_copy-end
+slice_bounds-clean_copy-end c = (S (goal.at.slice_bounds-clean_copy-end c).In_ok-slot).within
+
+pub clean_copy-n-requires : goal.clean_copy-n-requires
+clean_copy-n-requires c = (omega arith, (c.args.id.now, cut (S (goal.at.clean_copy-n-requires c).In_ok-slot)))
 
 pub returns-then-out-open_size : goal.returns-then-out-open_size
 returns-then-out-open_size c =

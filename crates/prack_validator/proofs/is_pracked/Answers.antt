@@ -1,10 +1,14 @@
 -- `is_pracked` meets its contract: the flag of the first entry of the RSeq, where it lies. Assumes nothing.
-use Rattle.std.proofs.Common.{◌≡◌, Bool, Err, None, Ok, Some, refl, sym, ap, ◌∙◌, arith, false}
+use Rattle.std.proofs.Common.{◌≡◌, ℕ, List, Bool, Err, None, Ok, Option, Result, Some, refl, sym, ap, ◌∙◌, arith, rules, false}
+use Rattle.std.specs.Prelude.{MatchResult}
 use Rattle.std.proofs.result.Match.{err_is}
 use Rattle.limits.specs.Limits.{rust_limits}
-use Rattle.codec.proofs.CodecLaws.{Bytes, bytes_all}
-use Rattle.prack_body.specs.Lists.{entries_of, first_of_rseq, is_acknowledged}
+use Rattle.text.proofs.Lengths.{length_passed, length_stopped}
+use Rattle.limits.specs.declared.Refusal.{Refusal}
+use Rattle.codec.proofs.CodecLaws.{bytes_all}
+use Rattle.prack_body.specs.Lists.{Pending, entries_of, first_of_rseq, is_acknowledged}
 use Rattle.prack_list.specs.Steps.{position_in}
+use Rattle.prack_list.specs.declared.finding.PendingAt.{PendingAt}
 use Rattle.prack_entries.specs.Places.{Sought}
 use Rattle.prack_entries.proofs.SlotLaws.{sought, Found, found, lacking}
 use Rattle.prack_validator.specs.Validator.{is_pracked, flag, action_cause, deciding, ran}
@@ -13,11 +17,8 @@ use Rattle.prack_validator.proofs.AnswerLaws.{DonePracked, pracked_kept, pracked
 use Rattle.prack_validator.proofs.is_pracked.Goals as goal
 use Rattle.prack_validator.proofs.is_pracked.Goals.{After-find, After-first_of, In-Ok}
 
-known : (c : After-find) → Bytes c.args.bytes.now
-known c = bytes_all c.args.bytes.now (λ n. (c.type_inv.bytes n).fits)
-
 clear : (c : After-find) → action_cause rust_limits (is_pracked c.args.id.now c.args.rseq) ≡ None
-clear c = rest_cause (is_pracked c.args.id.now c.args.rseq) (sym c.too_long.ensures ∙ c.if-too_long.false)
+clear c = rest_cause (is_pracked c.args.id.now c.args.rseq) (length_passed rust_limits c.args.id.now (sym c.check_length.ensures ∙ c.in_ok-check_length.was))
 
 S : (c : In-Ok) → Sought c.args.id.now c.args.bytes.now c.args.used (Ok c.in-Ok.t)
 S c = sought c.args.id.now c.args.bytes.now c.args.used (Ok c.in-Ok.t) (sym c.find.ensures ∙ c.in_ok-t.was ∙ ap Ok c.in-Ok.is)
@@ -27,54 +28,56 @@ F c = found c.args.id.now c.args.bytes.now c.args.used c.in-Ok.t (bytes_all c.ar
 
 position : (c : After-first_of) (s : Sought c.args.id.now c.args.bytes.now c.args.used (Ok c.in-Ok.t)) (f : Found c.args.id.now c.args.bytes.now c.args.used c.in-Ok.t s.list)
     → c.first_of.result ≡ position_in c.args.rseq f.t.list
-position c s f = c.first_of.ensures f.t (body_alone (bytes_all c.args.bytes.now (λ n. (c.type_inv.bytes n).fits)) s.within f)
+position c s f = c.first_of.ensures f.t (rw c.end.ensures (body_alone (bytes_all c.args.bytes.now (λ n. (c.type_inv.bytes n).fits)) s.within f))
 
 answers : (c : In-Ok) (b : Bool) → is_acknowledged (first_of_rseq c.args.rseq (entries_of (F c).t.list)) ≡ b
     → DonePracked c.args.bytes.now c.args.used (ran rust_limits (is_pracked c.args.id.now c.args.rseq) c.args.bytes.now c.args.used) (Ok b)
 answers c b q =
     let a = is_pracked c.args.id.now c.args.rseq in
-    let k = rest_cause a (sym c.too_long.ensures ∙ c.if-too_long.false) in
+    let k = rest_cause a (length_passed rust_limits c.args.id.now (sym c.check_length.ensures ∙ c.in_ok-check_length.was)) in
     pracked_taken c.args.bytes.now c.args.used (by_keeping c.args.bytes.now c.args.used a k (S c) (S c).list (Ok (flag b))
     (pracked_decides c.args.id.now (S c).list c.args.rseq (Some (F c).t) (F c).is ∙ ap (λ (x : Bool). deciding (S c).list (Ok (flag x))) q) (bytes_all c.args.bytes.now (λ n. (c.type_inv.bytes n).fits)) refl)
 
-pub returns-then-too_long : goal.returns-then-too_long
-returns-then-too_long c =
+pub returns-in_err-check_length : goal.returns-in_err-check_length
+returns-in_err-check_length c =
+    let q = length_stopped rust_limits c.args.id.now (sym c.check_length.ensures ∙ c.in_err-check_length.was) in
+    let e = err_is c.from_residual.result _ c.from_residual.ensures.1 ∙ ap Err q.1 in
     let a = is_pracked c.args.id.now c.args.rseq in
-    let old : _ × (_ × _) = pracked_kept c.args.bytes.now c.args.used (by_arguments c.args.bytes.now c.args.used a (long_cause_lem a (sym c.too_long.ensures ∙ c.if-too_long.true))) in
-    record { value = old.0; bytes_value = old.1.0; used_value = old.1.1 }
+    let old : _ × (_ × _) = pracked_kept c.args.bytes.now c.args.used (by_arguments c.args.bytes.now c.args.used a (long_cause_lem a q.0)) in
+    record { value = e ∙ old.0; bytes_value = old.1.0; used_value = old.1.1 }
 
 pub returns-in_err-t : goal.returns-in_err-t
 returns-in_err-t c =
-    let e = err_is c.from_residual.result _ c.from_residual.ensures.1 in
+    let e = err_is c.from_residual-in_err-t.result _ c.from_residual-in_err-t.ensures.1 in
     let old : _ × (_ × _) = pracked_kept c.args.bytes.now c.args.used (by_store c.args.bytes.now c.args.used (is_pracked c.args.id.now c.args.rseq) (clear (goal.at.returns-in_err-t c).After-find) c.args.id.now (sym c.find.ensures ∙ c.in_err-t.was)) in
     record { value = e ∙ old.0; bytes_value = old.1.0; used_value = old.1.1 }
 
-pub overflow_add-from : goal.overflow_add-from
-overflow_add-from c = let i = (goal.at.overflow_add-from c).In-Ok in omega (arith, (F i).text_inside, (F i).end_within, (S i).within)
+pub end-requires : goal.end-requires
+end-requires c = let i = (goal.at.end-requires c).In-Ok in omega (arith, (F i).text_inside, (F i).end_within, (S i).within)
 
-pub slice_bounds-first_of-end : goal.slice_bounds-first_of-end
-slice_bounds-first_of-end c = let i = (goal.at.slice_bounds-first_of-end c).In-Ok in omega (arith, (F i).end_within, (S i).within)
+pub slice_bounds-body-end : goal.slice_bounds-body-end
+slice_bounds-body-end c = let i = (goal.at.slice_bounds-body-end c).In-Ok in omega (arith, (F i).text_inside, (F i).end_within, (S i).within, c.end.ensures)
 
-pub returns-in-Ok-first_of : goal.returns-in-Ok-first_of
-returns-in-Ok-first_of c =
-    let i = (goal.at.returns-in-Ok-first_of c).In-Ok in
-    let p = position (goal.at.returns-in-Ok-first_of c).After-first_of (S i) (F i) in
-    let old : _ × (_ × _) = answers i c.in-Ok-first_of.e.acknowledged (at_flag c.args.rseq (F i).t.list (sym c.in-Ok-first_of.is ∙ p)) in
+-- the entry that is found, or none
+flag_there : (r : ℕ) (o : Option (List Pending)) (p : Result PendingAt Refusal) (b : Bool) → p ≡ position_in r o → MatchResult p (λ e. b ≡ e.acknowledged) (λ _. b ≡ false)
+    → is_acknowledged (first_of_rseq r (entries_of o)) ≡ b
+flag_there r o (Ok e) b q m = at_flag r o q ∙ sym m
+flag_there r o (Err x) b q m = no_flag r o q ∙ sym m
+
+pub returns : goal.returns
+returns c =
+    let i = (goal.at.returns c).In-Ok in
+    let p = position (goal.at.returns c).After-first_of (S i) (F i) in
+    let m : MatchResult c.first_of.result (λ e. c.is_ok_and.result ≡ e.acknowledged) (λ _. c.is_ok_and.result ≡ false) = search rules in
+    let old : _ × (_ × _) = answers i c.is_ok_and.result (flag_there c.args.rseq (F i).t.list c.first_of.result c.is_ok_and.result p m) in
     record { value = old.0; bytes_value = old.1.0; used_value = old.1.1 }
 
-pub returns-in-Err-first_of : goal.returns-in-Err-first_of
-returns-in-Err-first_of c =
-    let i = (goal.at.returns-in-Err-first_of c).In-Ok in
-    let p = position (goal.at.returns-in-Err-first_of c).After-first_of (S i) (F i) in
-    let old : _ × (_ × _) = answers i false (no_flag c.args.rseq (F i).t.list (sym c.in-Err-first_of.is ∙ p)) in
-    record { value = old.0; bytes_value = old.1.0; used_value = old.1.1 }
-
-pub returns-in-Err : goal.returns-in-Err
+pub returns-in_default : goal.returns-in_default
 unfolding first_of_rseq
-returns-in-Err c =
+returns-in_default c =
     let a = is_pracked c.args.id.now c.args.rseq in
-    let w = sought c.args.id.now c.args.bytes.now c.args.used (Err c.in-Err.field-0) (sym c.find.ensures ∙ c.in_ok-t.was ∙ ap Ok c.in-Err.is) in
+    let w = sought c.args.id.now c.args.bytes.now c.args.used (Err c.in_default.field-0) (sym c.find.ensures ∙ c.in_ok-t.was ∙ ap Ok c.in_default.is) in
     let b = bytes_all c.args.bytes.now (λ n. (c.type_inv.bytes n).fits) in
-    let old : _ × (_ × _) = pracked_taken c.args.bytes.now c.args.used (by_keeping c.args.bytes.now c.args.used a (clear (goal.at.returns-in-Err c).After-find) w w.list (Ok (flag false))
-    (pracked_decides c.args.id.now w.list c.args.rseq None (lacking c.args.id.now c.args.bytes.now c.args.used c.in-Err.field-0 b w).0) b refl) in
+    let old : _ × (_ × _) = pracked_taken c.args.bytes.now c.args.used (by_keeping c.args.bytes.now c.args.used a (clear (goal.at.returns-in_default c).After-find) w w.list (Ok (flag false))
+    (pracked_decides c.args.id.now w.list c.args.rseq None (lacking c.args.id.now c.args.bytes.now c.args.used c.in_default.field-0 b w).0) b refl) in
     record { value = old.0; bytes_value = old.1.0; used_value = old.1.1 }

@@ -1,7 +1,8 @@
 -- `judged` meets its contract: what is held is cleaned, the PRACK held against it, and the store written, whatever the verdict. Assumes nothing.
-use Rattle.std.proofs.Common.{◌≡◌, ℕ, List, None, Result, sym, ap, ◌∙◌, rules, false, ◌++◌, length, take, drop}
+use Rattle.std.proofs.Common.{◌≡◌, ℕ, List, Err, None, Result, sym, ap, ◌∙◌, arith, rules, false, ◌++◌, length, take, drop}
 use Rattle.std.proofs.result.Match.{err_is}
 use Rattle.limits.specs.Limits.{rust_limits}
+use Rattle.text.proofs.Lengths.{length_passed, length_stopped}
 use Rattle.limits.specs.declared.Refusal.{Refusal}
 use Rattle.limits.proofs.Laws.{passed, stopped}
 use Rattle.text.specs.Answers.{too_long}
@@ -16,7 +17,7 @@ use Rattle.prack_body.proofs.BodyLaws.{alone, put_back}
 use Rattle.prack_body.specs.declared.TrackedAt.{TrackedAt}
 use Rattle.prack_entries.specs.Entries.{key_of, encode_tracked, clean_for}
 use Rattle.prack_entries.specs.Places.{Sought}
-use Rattle.prack_entries.proofs.SlotLaws.{sought}
+use Rattle.prack_entries.proofs.SlotLaws.{sought, cut}
 use Rattle.prack_validator.specs.Validator.{validate, action_cause, judged_for, marked_for, rack_value, ran}
 use Rattle.prack_validator.specs.Answers.{validated_or}
 use Rattle.prack_validator.specs.declared.Validated.{Validated}
@@ -43,7 +44,7 @@ known : (c : In_ok-slot) → Bytes c.args.bytes.now
 known c = bytes_all c.args.bytes.now (λ n. search rules)
 
 not_long : (c : In_ok-check_block) → too_long rust_limits c.args.id.now ≡ false
-not_long c = sym c.too_long.ensures ∙ c.if-too_long.false
+not_long c = length_passed rust_limits c.args.id.now (sym c.check_length.ensures ∙ c.in_ok-check_length.was)
 
 clear : (c : In_ok-check_block) → action_cause rust_limits (validate c.args.id.now c.args.block.now c.args.time) ≡ None
 clear c = rest_cause (validate c.args.id.now c.args.block.now c.args.time) (not_long c) ∙ passed (block_cause rust_limits c.args.block.now) (sym c.check_block.ensures ∙ c.in_ok-check_block.was)
@@ -56,20 +57,22 @@ same : (c : In_ok-slot) → (marked c.args.id.now c.args.block.now c.args.bytes.
 same c = clean_id (known c) (S c) c.args.time
 
 copied : (c : After-clean_copy-n) (s : Sought c.args.id.now c.args.bytes.now c.args.used c.in_ok-slot.slot) → Holds c.clean_copy-n.new.body c.clean_copy-n.result (clean_for rust_limits c.args.time c.args.id.now s.list)
-copied c s = c.clean_copy-n.ensures.by_index c.args.id.now s (short c.args.id.now (sym c.too_long.ensures ∙ c.if-too_long.false))
+copied c s = c.clean_copy-n.ensures.by_index c.args.id.now (cut s) (short c.args.id.now (length_passed rust_limits c.args.id.now (sym c.check_length.ensures ∙ c.in_ok-check_length.was)))
 
-pub returns-then-too_long : goal.returns-then-too_long
-returns-then-too_long c =
+pub returns-in_err-check_length : goal.returns-in_err-check_length
+returns-in_err-check_length c =
+    let q = length_stopped rust_limits c.args.id.now (sym c.check_length.ensures ∙ c.in_err-check_length.was) in
+    let e = err_is c.from_residual.result _ c.from_residual.ensures.1 ∙ ap Err q.1 in
     let a = validate c.args.id.now c.args.block.now c.args.time in
-    let old : _ × _ = validated_kept c.args.bytes.now c.args.used (by_arguments c.args.bytes.now c.args.used a (long_cause_lem a (sym c.too_long.ensures ∙ c.if-too_long.true))) in
-    record { value = old.0; bytes_after = old.1 }
+    let old : _ × _ = validated_kept c.args.bytes.now c.args.used (by_arguments c.args.bytes.now c.args.used a (long_cause_lem a q.0)) in
+    record { value = ap (λ (r : Result Validated Refusal). validated_or r c.args.used) e ∙ old.0; bytes_after = old.1 }
 
 pub returns-in_err-check_block : goal.returns-in_err-check_block
 returns-in_err-check_block c =
     let a = validate c.args.id.now c.args.block.now c.args.time in
-    let e = err_is c.from_residual.result _ c.from_residual.ensures.1 in
+    let e = err_is c.from_residual-in_err-check_block.result _ c.from_residual-in_err-check_block.ensures.1 in
     let old : _ × _ = validated_kept c.args.bytes.now c.args.used (by_arguments c.args.bytes.now c.args.used a
-    (rest_cause a (sym c.too_long.ensures ∙ c.if-too_long.false) ∙ stopped (block_cause rust_limits c.args.block.now) (sym c.check_block.ensures ∙ c.in_err-check_block.was))) in
+    (rest_cause a (length_passed rust_limits c.args.id.now (sym c.check_length.ensures ∙ c.in_ok-check_length.was)) ∙ stopped (block_cause rust_limits c.args.block.now) (sym c.check_block.ensures ∙ c.in_err-check_block.was))) in
     record { value = ap (λ (r : Result Validated Refusal). validated_or r c.args.used) e ∙ old.0; bytes_after = old.1 }
 
 pub returns-in_err-slot : goal.returns-in_err-slot
@@ -78,6 +81,12 @@ returns-in_err-slot c =
     let e = err_is c.from_residual-in_err-slot.result _ c.from_residual-in_err-slot.ensures.1 in
     let old : _ × _ = validated_kept c.args.bytes.now c.args.used (by_store c.args.bytes.now c.args.used a (clear (goal.at.returns-in_err-slot c).In_ok-check_block) c.args.id.now (sym c.find.ensures ∙ c.in_err-slot.was)) in
     record { value = ap (λ (r : Result Validated Refusal). validated_or r c.args.used) e ∙ old.0; bytes_after = old.1 }
+
+pub slice_bounds-clean_copy-end : goal.slice_bounds-clean_copy-end
+slice_bounds-clean_copy-end c = (S (goal.at.slice_bounds-clean_copy-end c).In_ok-slot).within
+
+pub clean_copy-n-requires : goal.clean_copy-n-requires
+clean_copy-n-requires c = (omega arith, (c.args.id.now, cut (S (goal.at.clean_copy-n-requires c).In_ok-slot)))
 
 pub hold_against-verdict-requires : goal.hold_against-verdict-requires
 hold_against-verdict-requires c =
@@ -88,7 +97,7 @@ hold_against-verdict-requires c =
 changed : (c : After-hold_against-verdict) (s : Sought c.args.id.now c.args.bytes.now c.args.used c.in_ok-slot.slot)
     → take c.clean_copy-n.result (c.hold_against-verdict.new.body ++ drop c.clean_copy-n.result c.clean_copy-n.new.body) ≡ body_of (marked c.args.id.now c.args.block.now c.args.bytes.now c.args.time c.args.used s)
 changed c s =
-    let h = c.clean_copy-n.ensures.by_index c.args.id.now s (short c.args.id.now (sym c.too_long.ensures ∙ c.if-too_long.false)) in
+    let h = c.clean_copy-n.ensures.by_index c.args.id.now (cut s) (short c.args.id.now (length_passed rust_limits c.args.id.now (sym c.check_length.ensures ∙ c.in_ok-check_length.was))) in
     put_back (drop c.clean_copy-n.result c.clean_copy-n.new.body) h (c.hold_against-verdict.ensures.holds (clean_for rust_limits c.args.time c.args.id.now s.list) (alone h)) c.hold_against-verdict.auto.body
 
 pub returns-in_err-kept : goal.returns-in_err-kept

@@ -1,10 +1,10 @@
 -- `register` meets its contract: what is held is cleaned, the response pushed, and the store written. Assumes nothing.
-use Rattle.std.proofs.Common.{◌≡◌, ℕ, List, None, Ok, Result, sym, ap, ◌∙◌, rules, true, false, length}
+use Rattle.std.proofs.Common.{◌≡◌, ℕ, List, Err, None, Ok, Result, sym, ap, ◌∙◌, arith, rules, true, false, length}
 use lib.Seq.{length-take-le}
 use Rattle.std.proofs.result.Match.{err_is}
 use Rattle.limits.specs.Limits.{rust_limits}
+use Rattle.text.proofs.Lengths.{length_passed, length_stopped}
 use Rattle.limits.specs.declared.Refusal.{Refusal}
-use Rattle.text.specs.Answers.{too_long}
 use Rattle.methods.specs.Methods.{is_method}
 use Rattle.output.specs.Output.{fitted}
 use Rattle.codec.proofs.CodecLaws.{Bytes, bytes_all}
@@ -16,7 +16,7 @@ use Rattle.prack_body.proofs.BodyLaws.{holds_within}
 use Rattle.prack_list.specs.Steps.{pending_in}
 use Rattle.prack_entries.specs.Entries.{key_of, encode_tracked, clean_for}
 use Rattle.prack_entries.specs.Places.{Sought}
-use Rattle.prack_entries.proofs.SlotLaws.{sought}
+use Rattle.prack_entries.proofs.SlotLaws.{sought, cut}
 use Rattle.prack_list.specs.declared.pushing.Provisional.{Provisional}
 use Rattle.prack_validator.specs.Validator.{Action, register, no_value, action_cause}
 use Rattle.prack_validator.proofs.OperationLaws.{long_cause_lem, rest_cause, short, method_cause_lem, by_arguments, by_store, by_fitting, register_decides, clean_id}
@@ -32,7 +32,7 @@ known c = bytes_all c.args.bytes.now (λ n. search rules)
 
 clear : (c : Else-not-is_method) → action_cause rust_limits (act c.args.id.now c.args.response) ≡ None
 clear c =
-    rest_cause (act c.args.id.now c.args.response) (sym c.too_long.ensures ∙ c.if-too_long.false)
+    rest_cause (act c.args.id.now c.args.response) (length_passed rust_limits c.args.id.now (sym c.check_length.ensures ∙ c.in_ok-check_length.was))
     ∙ method_cause_lem c.args.response.method true (sym c.is_method.ensures ∙ c.if-not-is_method.false)
 
 -- the bytes are a store's
@@ -48,27 +48,35 @@ same c = clean_id (known c) (S c) c.args.response.time
 
 pushed : (c : After-push-m) (s : Sought c.args.id.now c.args.bytes.now c.args.used c.in_ok-slot.slot)
     → Holds c.push-m.new.body c.push-m.result (registered rust_limits (pending_in c.args.response) (clean_for rust_limits c.args.response.time c.args.id.now s.list))
-pushed c s = c.push-m.ensures (clean_for rust_limits c.args.response.time c.args.id.now s.list) (c.clean_copy-n.ensures.by_index c.args.id.now s (short c.args.id.now (sym c.too_long.ensures ∙ c.if-too_long.false)))
+pushed c s = c.push-m.ensures (clean_for rust_limits c.args.response.time c.args.id.now s.list) (c.clean_copy-n.ensures.by_index c.args.id.now (cut s) (short c.args.id.now (length_passed rust_limits c.args.id.now (sym c.check_length.ensures ∙ c.in_ok-check_length.was))))
 
-pub returns-then-too_long : goal.returns-then-too_long
-returns-then-too_long c =
+pub returns-in_err-check_length : goal.returns-in_err-check_length
+returns-in_err-check_length c =
+    let q = length_stopped rust_limits c.args.id.now (sym c.check_length.ensures ∙ c.in_err-check_length.was) in
+    let e = err_is c.from_residual.result _ c.from_residual.ensures.1 ∙ ap Err q.1 in
     let a = act c.args.id.now c.args.response in
-    let old : _ × (_ × _) = written_kept c.args.bytes.now c.args.used (by_arguments c.args.bytes.now c.args.used a (long_cause_lem a (sym c.too_long.ensures ∙ c.if-too_long.true))) in
-    record { value = old.0; bytes_after = old.1.0; used_value = old.1.1 }
+    let old : _ × (_ × _) = written_kept c.args.bytes.now c.args.used (by_arguments c.args.bytes.now c.args.used a (long_cause_lem a q.0)) in
+    record { value = e ∙ old.0; bytes_after = old.1.0; used_value = ap (λ (r : Result ℕ Refusal). used_written r c.args.used) e ∙ old.1.1 }
 
 pub returns-then-not-is_method : goal.returns-then-not-is_method
 returns-then-not-is_method c =
     let a = act c.args.id.now c.args.response in
     let old : _ × (_ × _) = written_kept c.args.bytes.now c.args.used (by_arguments c.args.bytes.now c.args.used a
-    (rest_cause a (sym c.too_long.ensures ∙ c.if-too_long.false) ∙ method_cause_lem c.args.response.method false (sym c.is_method.ensures ∙ c.if-not-is_method.true))) in
+    (rest_cause a (length_passed rust_limits c.args.id.now (sym c.check_length.ensures ∙ c.in_ok-check_length.was)) ∙ method_cause_lem c.args.response.method false (sym c.is_method.ensures ∙ c.if-not-is_method.true))) in
     record { value = old.0; bytes_after = old.1.0; used_value = old.1.1 }
 
 pub returns-in_err-slot : goal.returns-in_err-slot
 returns-in_err-slot c =
     let a = act c.args.id.now c.args.response in
-    let e = err_is c.from_residual.result _ c.from_residual.ensures.1 in
+    let e = err_is c.from_residual-in_err-slot.result _ c.from_residual-in_err-slot.ensures.1 in
     let old : _ × (_ × _) = written_kept c.args.bytes.now c.args.used (by_store c.args.bytes.now c.args.used a (clear (goal.at.returns-in_err-slot c).Else-not-is_method) c.args.id.now (sym c.find.ensures ∙ c.in_err-slot.was)) in
     record { value = e ∙ old.0; bytes_after = old.1.0; used_value = ap (λ (r : Result ℕ Refusal). used_written r c.args.used) e ∙ old.1.1 }
+
+pub slice_bounds-clean_copy-end : goal.slice_bounds-clean_copy-end
+slice_bounds-clean_copy-end c = (S (goal.at.slice_bounds-clean_copy-end c).In_ok-slot).within
+
+pub clean_copy-n-requires : goal.clean_copy-n-requires
+clean_copy-n-requires c = (omega arith, (c.args.id.now, cut (S (goal.at.clean_copy-n-requires c).In_ok-slot)))
 
 pub slice_bounds-body-end : goal.slice_bounds-body-end
 slice_bounds-body-end c = holds_within (pushed (goal.at.slice_bounds-body-end c).After-push-m (S (goal.at.slice_bounds-body-end c).In_ok-slot))

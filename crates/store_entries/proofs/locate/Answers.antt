@@ -1,43 +1,57 @@
 -- `store_entries::locate` meets its contract: 3, then what the search found. Assumes nothing.
-use mathlib.Core.Path.{sym, subst, ◌∙◌}
+use Prim.Native.Nat.{ℕ}
+use mathlib.Core.Path.{◌≡◌, sym, ap, subst, ◌∙◌}
 use lib.ListN.{take}
-use lib.Seq.{length-take-le}
+use Rattle.std.proofs.result.Match.{err_is}
+use Rattle.std.specs.Result.{result_ok}
+use Rattle.std.specs.Prelude.{Err, List, Ok, Option, Some}
+use Rattle.image.specs.declared.RecordAt.{RecordAt}
 use Rattle.dialog_id.specs.Ident.{Ident, ident}
-use Rattle.dialog_manager.specs.Search.{Stands}
-use Rattle.dialog_manager.proofs.LookupLaws.{Kept, kept, stored}
+use Rattle.record.specs.Store.{decode_all}
+use Rattle.store.specs.Counting.{ReadAs}
+use Rattle.book.specs.Book.{is_of}
+use Rattle.dialog_manager.specs.Search.{found_in, Stands}
+use Rattle.dialog_manager.proofs.LookupLaws.{Kept, kept_by, refused}
 use Rattle.store_entries.proofs.LocateLaws.{ready, unread, nothing, one}
 use Rattle.store_entries.proofs.locate.Goals as goal
-use Rattle.store_entries.proofs.locate.Goals.{In-Ok, Start}
+use Rattle.store_entries.proofs.locate.Goals.{In_ok-at, In_ok-held, Start}
 
 abbrev name : Start → Ident
 name c = ident c.args.id.call_id.now c.args.id.local_tag.now c.args.id.remote_tag.now
 
 -- the store was read
-store : (c : In-Ok) → Kept c.args.bytes.now c.args.used
-store c = kept c.args.bytes.now c.args.used (sym c.count.ensures ∙ c.in-Ok.is)
+opened : (c : In_ok-held) → ReadAs c.args.bytes.now c.args.used (Ok c.in_ok-held.held)
+opened c = subst (ReadAs c.args.bytes.now c.args.used) c.in_ok-held.was c.read.ensures
 
-pub returns-in_default-clause-value : goal.returns-in_default-clause-value
-returns-in_default-clause-value c =
-    unread c.args.bytes.now c.args.used (name (goal.at.returns-in_default-clause-value c).Start) (sym c.count.ensures ∙ c.in_default.is)
+store : (c : In_ok-held) → Kept c.args.bytes.now c.args.used
+store c = kept_by c.args.bytes.now c.args.used c.in_ok-held.held (opened c)
 
-pub slice_bounds-search_id-end : goal.slice_bounds-search_id-end
-slice_bounds-search_id-end c = let a = c.args in sym (length-take-le a.used a.bytes.now (store c).within)
+same : (c : In_ok-held) (i : Ident) → found_in (is_of i) (decode_all c.in_ok-held.held.bytes.now) ≡ found_in (is_of i) (decode_all (take c.args.used c.args.bytes.now))
+same c i = ap (λ (s : List ℕ). found_in (is_of i) (decode_all s)) (opened c).1
 
-pub search_id-requires : goal.search_id-requires
-search_id-requires c = let a = c.args in stored a.bytes.now a.used (store c)
+-- what was found
+found : (c : In_ok-at) → ◌≡◌ {A = Option (ℕ × RecordAt)} c.search_id.result (Some (c.in_ok-at.at, c.in_ok-at.record))
+found c = c.ok_or.ensures.ok_part ∙ ap result_ok c.in_ok-at.was
 
-pub returns-in_default-search_id-clause-value : goal.returns-in_default-search_id-clause-value
-returns-in_default-search_id-clause-value c =
-    nothing c.args.bytes.now c.args.used (name (goal.at.returns-in_default-search_id-clause-value c).Start) (store (goal.at.returns-in_default-search_id-clause-value c).In-Ok) (sym c.in_default-search_id.is ∙ c.search_id.ensures.value)
+pub returns-in_err-held-clause-value : goal.returns-in_err-held-clause-value
+returns-in_err-held-clause-value c =
+    err_is c.from_residual.result _ c.from_residual.ensures.1 ∙ unread c.args.bytes.now c.args.used (name (goal.at.returns-in_err-held-clause-value c).Start) (subst (ReadAs c.args.bytes.now c.args.used) c.in_err-held.was c.read.ensures)
+
+pub returns-in_err-at-clause-value : goal.returns-in_err-at-clause-value
+returns-in_err-at-clause-value c =
+    let n = refused c.search_id.result c.ok_or.ensures.value c.in_err-at.was in
+    err_is c.from_residual-in_err-at.result _ c.from_residual-in_err-at.ensures.1
+    ∙ ap Err n.1
+    ∙ nothing c.args.bytes.now c.args.used (name (goal.at.returns-in_err-at-clause-value c).Start) (store (goal.at.returns-in_err-at-clause-value c).In_ok-held) (sym n.0 ∙ c.search_id.ensures.value ∙ same (goal.at.returns-in_err-at-clause-value c).In_ok-held (name (goal.at.returns-in_err-at-clause-value c).Start))
 
 pub returns-clause-value : goal.returns-clause-value
 returns-clause-value c =
-    let at = c.in-Some.at in
-    let r = c.in-Some.record in
-    one c.args.bytes.now c.args.used (name (goal.at.returns-clause-value c).Start) (store (goal.at.returns-clause-value c).In-Ok) at r (sym c.in-Some.is ∙ c.search_id.ensures.value)
+    let at = c.in_ok-at.at in
+    let r = c.in_ok-at.record in
+    one c.args.bytes.now c.args.used (name (goal.at.returns-clause-value c).Start) (store (goal.at.returns-clause-value c).In_ok-held) at r (sym (found (goal.at.returns-clause-value c).In_ok-at) ∙ c.search_id.ensures.value ∙ same (goal.at.returns-clause-value c).In_ok-held (name (goal.at.returns-clause-value c).Start))
 
 pub returns-clause-ready : goal.returns-clause-ready
 returns-clause-ready c =
-    let at = c.in-Some.at in
-    let r = c.in-Some.record in
-    ready c.args.bytes.now c.args.used (store (goal.at.returns-clause-ready c).In-Ok) at r (subst (Stands (take c.args.used c.args.bytes.now)) c.in-Some.is (c.search_id.ensures.stands))
+    let at = c.in_ok-at.at in
+    let r = c.in_ok-at.record in
+    ready c.args.bytes.now c.args.used (store (goal.at.returns-clause-ready c).In_ok-held) at r (subst (Stands (take c.args.used c.args.bytes.now)) (found (goal.at.returns-clause-ready c).In_ok-at) (subst (λ (s : List ℕ). Stands s c.search_id.result) (opened (goal.at.returns-clause-ready c).In_ok-held).1 c.search_id.ensures.stands))

@@ -1,84 +1,73 @@
 -- `store_ids::all_ids` meets its contract: 3, 18, then the identifiers of all records. Assumes nothing.
-use Prim.Native.Nat.{ℕ, ◌<◌, ◌≤◌}
-use mathlib.Core.Path.{sym, ap, ◌∙◌}
+use Prim.Native.Nat.{ℕ, ◌<◌}
+use mathlib.Core.Path.{◌≡◌, ap, subst, ◌∙◌}
 use mathlib.Core.List.{List}
 use lib.ListN.{length, take}
-use lib.Seq.{length-take-le}
+use Rattle.std.proofs.result.Match.{err_is}
 use Rattle.std.specs.Prelude.{Ok}
 use Rattle.limits.specs.Limits.{rust_limits}
 use Rattle.codec.proofs.CodecLaws.{bytes_all}
 use Rattle.book.specs.Calls.{Answer}
 use Rattle.record.specs.Store.{decode_all}
+use Rattle.edit.specs.Edit.{over}
+use Rattle.store.specs.Counting.{ReadAs}
 use Rattle.book.specs.Store.{output_after}
-use Rattle.dialog_manager.proofs.LookupLaws.{Kept, kept, stored}
+use Rattle.dialog_manager.proofs.LookupLaws.{Kept, kept_by}
 use Rattle.dialog_manager.specs.Answers.{ids_written}
 use Rattle.store_ids.specs.Identifiers.{ids_in}
 use Rattle.store_ids.proofs.IdentifierLaws.{unread, too_long, fitting}
 use native.Mathlib.Omega.{arith}
 use Rattle.store_ids.proofs.all_ids.Goals as goal
-use Rattle.store_ids.proofs.all_ids.Goals.{Else-out-n, In-Ok}
+use Rattle.store_ids.proofs.all_ids.Goals.{In_ok-held}
 
-store : (c : In-Ok) → Kept (c.args.bytes.now) c.args.used
-store c = kept (c.args.bytes.now) c.args.used (sym c.count.ensures ∙ c.in-Ok.is)
+-- the store was read
+opened : (c : In_ok-held) → ReadAs c.args.bytes.now c.args.used (Ok c.in_ok-held.held)
+opened c = subst (ReadAs c.args.bytes.now c.args.used) c.in_ok-held.was c.read.ensures
+
+store : (c : In_ok-held) → Kept (c.args.bytes.now) c.args.used
+store c = kept_by (c.args.bytes.now) c.args.used c.in_ok-held.held (opened c)
 
 -- the identifiers of its records
-abbrev ids : In-Ok → List ℕ
+abbrev ids : In_ok-held → List ℕ
 ids c = ids_in (decode_all (take c.args.used (c.args.bytes.now)))
 
-abbrev ids-at-Else-out-n : Else-out-n → List ℕ
-ids-at-Else-out-n c = ids_in (decode_all (take c.args.used (c.args.bytes.now)))
+same : (c : In_ok-held) → ids_in (decode_all c.in_ok-held.held.bytes.now) ≡ ids c
+same c = ap (λ (s : List ℕ). ids_in (decode_all s)) (opened c).1
 
--- there is room
-fits : (c : Else-out-n) → length (ids-at-Else-out-n c) ≤ length c.args.out.now
-fits c = omega (arith, c.if-out-n.false, c.ids_size-n.ensures)
-
-pub returns-in_default-clause-value : goal.returns-in_default-clause-value
-returns-in_default-clause-value c =
+pub returns-in_err-held-clause-value : goal.returns-in_err-held-clause-value
+returns-in_err-held-clause-value c =
     let a = c.args in
-    let e = unread rust_limits (length (c.args.bytes.now)) (length a.out.now) (c.args.bytes.now) a.used (bytes_all (c.args.bytes.now) (λ i. (c.type_inv.bytes i).fits)) (sym c.count.ensures ∙ c.in_default.is) in
-    ap ids_written e
+    let e = unread rust_limits (length (c.args.bytes.now)) (length a.out.now) (c.args.bytes.now) a.used (bytes_all (c.args.bytes.now) (λ i. (c.type_inv.bytes i).fits)) (subst (ReadAs c.args.bytes.now c.args.used) c.in_err-held.was c.read.ensures) in
+    (err_is c.from_residual.result _ c.from_residual.ensures.1) ∙ ap ids_written e
 
-pub returns-in_default-clause-out_after : goal.returns-in_default-clause-out_after
-returns-in_default-clause-out_after c =
+pub returns-in_err-held-clause-out_after : goal.returns-in_err-held-clause-out_after
+returns-in_err-held-clause-out_after c =
     let a = c.args in
-    let e = unread rust_limits (length (c.args.bytes.now)) (length a.out.now) (c.args.bytes.now) a.used (bytes_all (c.args.bytes.now) (λ i. (c.type_inv.bytes i).fits)) (sym c.count.ensures ∙ c.in_default.is) in
+    let e = unread rust_limits (length (c.args.bytes.now)) (length a.out.now) (c.args.bytes.now) a.used (bytes_all (c.args.bytes.now) (λ i. (c.type_inv.bytes i).fits)) (subst (ReadAs c.args.bytes.now c.args.used) c.in_err-held.was c.read.ensures) in
     ap (λ (x : Answer). output_after x a.out.now) e
-
-pub slice_bounds-ids_size-end : goal.slice_bounds-ids_size-end
-slice_bounds-ids_size-end c = sym (length-take-le c.args.used (c.args.bytes.now) (store c).within)
-
-pub ids_size-n-requires : goal.ids_size-n-requires
-ids_size-n-requires c = stored (c.args.bytes.now) c.args.used (store c)
 
 pub returns-then-out-n-clause-value : goal.returns-then-out-n-clause-value
 returns-then-out-n-clause-value c =
     let a = c.args in
-    let h : length a.out.now < length (ids (goal.at.returns-then-out-n-clause-value c).In-Ok) = omega (arith, c.if-out-n.true, c.ids_size-n.ensures) in
-    let e = too_long rust_limits (length (c.args.bytes.now)) (length a.out.now) (c.args.bytes.now) a.used (bytes_all (c.args.bytes.now) (λ i. (c.type_inv.bytes i).fits)) (store (goal.at.returns-then-out-n-clause-value c).In-Ok) h in
+    let h : length a.out.now < length (ids (goal.at.returns-then-out-n-clause-value c).In_ok-held) = omega (arith, c.if-out-n.true, c.ids_size-n.ensures, ap length (same (goal.at.returns-then-out-n-clause-value c).In_ok-held)) in
+    let e = too_long rust_limits (length (c.args.bytes.now)) (length a.out.now) (c.args.bytes.now) a.used (bytes_all (c.args.bytes.now) (λ i. (c.type_inv.bytes i).fits)) (store (goal.at.returns-then-out-n-clause-value c).In_ok-held) h in
     ap ids_written e
 
 pub returns-then-out-n-clause-out_after : goal.returns-then-out-n-clause-out_after
 returns-then-out-n-clause-out_after c =
     let a = c.args in
-    let h : length a.out.now < length (ids (goal.at.returns-then-out-n-clause-out_after c).In-Ok) = omega (arith, c.if-out-n.true, c.ids_size-n.ensures) in
-    let e = too_long rust_limits (length (c.args.bytes.now)) (length a.out.now) (c.args.bytes.now) a.used (bytes_all (c.args.bytes.now) (λ i. (c.type_inv.bytes i).fits)) (store (goal.at.returns-then-out-n-clause-out_after c).In-Ok) h in
+    let h : length a.out.now < length (ids (goal.at.returns-then-out-n-clause-out_after c).In_ok-held) = omega (arith, c.if-out-n.true, c.ids_size-n.ensures, ap length (same (goal.at.returns-then-out-n-clause-out_after c).In_ok-held)) in
+    let e = too_long rust_limits (length (c.args.bytes.now)) (length a.out.now) (c.args.bytes.now) a.used (bytes_all (c.args.bytes.now) (λ i. (c.type_inv.bytes i).fits)) (store (goal.at.returns-then-out-n-clause-out_after c).In_ok-held) h in
     ap (λ (x : Answer). output_after x a.out.now) e
-
-pub slice_bounds-write_all-end : goal.slice_bounds-write_all-end
-slice_bounds-write_all-end c = sym (length-take-le c.args.used (c.args.bytes.now) (store (goal.at.slice_bounds-write_all-end c).In-Ok).within)
-
-pub write_all-requires-clause-stored : goal.write_all-requires-clause-stored
-write_all-requires-clause-stored c =
-    stored (c.args.bytes.now) c.args.used (store (goal.at.write_all-requires-clause-stored c).In-Ok)
 
 pub returns-clause-value : goal.returns-clause-value
 returns-clause-value c =
     let a = c.args in
-    let e = fitting rust_limits (length (c.args.bytes.now)) (length a.out.now) (c.args.bytes.now) a.used (bytes_all (c.args.bytes.now) (λ i. (c.type_inv.bytes i).fits)) (store (goal.at.returns-clause-value c).In-Ok) (fits (goal.at.returns-clause-value c).Else-out-n) in
-    ap Ok c.ids_size-n.ensures ∙ ap ids_written e
+    let e = fitting rust_limits (length (c.args.bytes.now)) (length a.out.now) (c.args.bytes.now) a.used (bytes_all (c.args.bytes.now) (λ i. (c.type_inv.bytes i).fits)) (store (goal.at.returns-clause-value c).In_ok-held) (omega (arith, c.if-out-n.false, c.ids_size-n.ensures, ap length (same (goal.at.returns-clause-value c).In_ok-held))) in
+    ap Ok (c.ids_size-n.ensures ∙ ap length (same (goal.at.returns-clause-value c).In_ok-held)) ∙ ap ids_written e
 
 pub returns-clause-out_after : goal.returns-clause-out_after
 returns-clause-out_after c =
     let a = c.args in
-    let e = fitting rust_limits (length (c.args.bytes.now)) (length a.out.now) (c.args.bytes.now) a.used (bytes_all (c.args.bytes.now) (λ i. (c.type_inv.bytes i).fits)) (store (goal.at.returns-clause-out_after c).In-Ok) (fits (goal.at.returns-clause-out_after c).Else-out-n) in
-    c.write_all.ensures ∙ ap (λ (x : Answer). output_after x a.out.now) e
+    let e = fitting rust_limits (length (c.args.bytes.now)) (length a.out.now) (c.args.bytes.now) a.used (bytes_all (c.args.bytes.now) (λ i. (c.type_inv.bytes i).fits)) (store (goal.at.returns-clause-out_after c).In_ok-held) (omega (arith, c.if-out-n.false, c.ids_size-n.ensures, ap length (same (goal.at.returns-clause-out_after c).In_ok-held))) in
+    c.write_all.ensures ∙ ap (λ (l : List ℕ). over l a.out.now) (same (goal.at.returns-clause-out_after c).In_ok-held) ∙ ap (λ (x : Answer). output_after x a.out.now) e

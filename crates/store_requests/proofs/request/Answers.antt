@@ -2,8 +2,9 @@
 use mathlib.Core.Path.{◌≡◌, sym, ap, subst, ◌∙◌}
 use mathlib.Core.Bool.{false}
 use Rattle.std.proofs.result.Match.{err_is}
-use Rattle.std.specs.Prelude.{ℕ, None, Ok, Result}
+use Rattle.std.specs.Prelude.{ℕ, Err, None, Ok, Result}
 use Rattle.limits.specs.Limits.{rust_limits}
+use Rattle.text.proofs.Lengths.{length_passed, length_stopped}
 use Rattle.limits.specs.Outcome.{check_of}
 use Rattle.limits.specs.declared.Refusal.{Refusal}
 use Rattle.text.specs.Answers.{too_long}
@@ -18,19 +19,9 @@ use Rattle.store_requests.proofs.RequestLaws.{request_long, request_bad, request
 use Rattle.store_requests.proofs.request.Goals as goal
 use Rattle.store_requests.proofs.request.Goals.{In_ok-t}
 
--- the parts of what several clauses say together
-first : {A B C : Type 0} → A × (B × C) → A
-first p = p.0
-
-second_first : {A B C : Type 0} → A × (B × C) → B
-second_first p = p.1.0
-
-second_second : {A B C : Type 0} → A × (B × C) → C
-second_second p = p.1.1
-
 -- the method is short, and the block was read
 short : (c : In_ok-t) → too_long rust_limits c.args.method.now ≡ false
-short c = sym c.too_long.ensures ∙ c.if-too_long.false
+short c = length_passed rust_limits c.args.method.now (sym c.check_length.ensures ∙ c.in_ok-check_length.was)
 
 read : (c : In_ok-t) → (block_cause rust_limits c.args.block.now ≡ None) × (c.in_ok-t.t ≡ table_of (lines_of c.args.block.now))
 read c = headers_read (block_cause rust_limits c.args.block.now) (table_of (lines_of c.args.block.now)) c.in_ok-t.t (sym c.read_headers.ensures ∙ c.in_ok-t.was)
@@ -44,20 +35,23 @@ checked c = ap check_of (good c)
 table : (c : In_ok-t) → c.in_ok-t.t ≡ table_of (lines_of c.args.block.now)
 table c = (read c).1
 
-pub returns-then-too_long-clause-value : goal.returns-then-too_long-clause-value
-returns-then-too_long-clause-value c =
+pub returns-in_err-check_length-clause-value : goal.returns-in_err-check_length-clause-value
+returns-in_err-check_length-clause-value c =
     let a = c.args in
-    first (request_long a.method.now a.block.now a.bytes.now a.used (sym c.too_long.ensures ∙ c.if-too_long.true))
+    let q = length_stopped rust_limits c.args.method.now (sym c.check_length.ensures ∙ c.in_err-check_length.was) in
+    err_is c.from_residual.result _ c.from_residual.ensures.1 ∙ ap Err q.1 ∙ (request_long a.method.now a.block.now a.bytes.now a.used q.0).0
 
-pub returns-then-too_long-clause-bytes_after : goal.returns-then-too_long-clause-bytes_after
-returns-then-too_long-clause-bytes_after c =
+pub returns-in_err-check_length-clause-bytes_after : goal.returns-in_err-check_length-clause-bytes_after
+returns-in_err-check_length-clause-bytes_after c =
     let a = c.args in
-    second_first (request_long a.method.now a.block.now a.bytes.now a.used (sym c.too_long.ensures ∙ c.if-too_long.true))
+    let q = length_stopped rust_limits c.args.method.now (sym c.check_length.ensures ∙ c.in_err-check_length.was) in
+    (request_long a.method.now a.block.now a.bytes.now a.used q.0).1.0
 
-pub returns-then-too_long-clause-used_value : goal.returns-then-too_long-clause-used_value
-returns-then-too_long-clause-used_value c =
+pub returns-in_err-check_length-clause-used_value : goal.returns-in_err-check_length-clause-used_value
+returns-in_err-check_length-clause-used_value c =
     let a = c.args in
-    second_second (request_long a.method.now a.block.now a.bytes.now a.used (sym c.too_long.ensures ∙ c.if-too_long.true))
+    let q = length_stopped rust_limits c.args.method.now (sym c.check_length.ensures ∙ c.in_err-check_length.was) in
+    ap (λ (r : Result ℕ Refusal). used_after r a.used) (err_is c.from_residual.result _ c.from_residual.ensures.1 ∙ ap Err q.1) ∙ (request_long a.method.now a.block.now a.bytes.now a.used q.0).1.1
 
 pub request_by-requires-clause-stands : goal.request_by-requires-clause-stands
 request_by-requires-clause-stands c = subst (Ready c.args.bytes.now) c.in_ok-p.was c.locate_named.ensures.ready
@@ -70,44 +64,44 @@ request_by-requires-clause-block_value c =
 pub returns-clause-value : goal.returns-clause-value
 returns-clause-value c =
     let a = c.args in
-    first (request_done a.method.now a.block.now a.bytes.now a.used (short (goal.at.returns-clause-value c).In_ok-t) (good (goal.at.returns-clause-value c).In_ok-t) (bytes_all a.bytes.now (λ i. (c.slice_known-1.given i).fits)) c.in_ok-p.p (sym c.in_ok-p.was ∙ c.locate_named.ensures.value) c.request_by.result c.request_by.new.bytes (c.request_by.ensures.value, c.request_by.ensures.bytes_after))
+    (request_done a.method.now a.block.now a.bytes.now a.used (short (goal.at.returns-clause-value c).In_ok-t) (good (goal.at.returns-clause-value c).In_ok-t) (bytes_all a.bytes.now (λ i. (c.slice_known-1.given i).fits)) c.in_ok-p.p (sym c.in_ok-p.was ∙ c.locate_named.ensures.value) c.request_by.result c.request_by.new.bytes (c.request_by.ensures.value, c.request_by.ensures.bytes_after)).0
 
 pub returns-clause-bytes_after : goal.returns-clause-bytes_after
 returns-clause-bytes_after c =
     let a = c.args in
-    second_first (request_done a.method.now a.block.now a.bytes.now a.used (short (goal.at.returns-clause-bytes_after c).In_ok-t) (good (goal.at.returns-clause-bytes_after c).In_ok-t) (bytes_all a.bytes.now (λ i. (c.slice_known-1.given i).fits)) c.in_ok-p.p (sym c.in_ok-p.was ∙ c.locate_named.ensures.value) c.request_by.result c.request_by.new.bytes (c.request_by.ensures.value, c.request_by.ensures.bytes_after))
+    (request_done a.method.now a.block.now a.bytes.now a.used (short (goal.at.returns-clause-bytes_after c).In_ok-t) (good (goal.at.returns-clause-bytes_after c).In_ok-t) (bytes_all a.bytes.now (λ i. (c.slice_known-1.given i).fits)) c.in_ok-p.p (sym c.in_ok-p.was ∙ c.locate_named.ensures.value) c.request_by.result c.request_by.new.bytes (c.request_by.ensures.value, c.request_by.ensures.bytes_after)).1.0
 
 pub returns-clause-used_value : goal.returns-clause-used_value
 returns-clause-used_value c =
     let a = c.args in
-    second_second (request_done a.method.now a.block.now a.bytes.now a.used (short (goal.at.returns-clause-used_value c).In_ok-t) (good (goal.at.returns-clause-used_value c).In_ok-t) (bytes_all a.bytes.now (λ i. (c.slice_known-1.given i).fits)) c.in_ok-p.p (sym c.in_ok-p.was ∙ c.locate_named.ensures.value) c.request_by.result c.request_by.new.bytes (c.request_by.ensures.value, c.request_by.ensures.bytes_after))
+    (request_done a.method.now a.block.now a.bytes.now a.used (short (goal.at.returns-clause-used_value c).In_ok-t) (good (goal.at.returns-clause-used_value c).In_ok-t) (bytes_all a.bytes.now (λ i. (c.slice_known-1.given i).fits)) c.in_ok-p.p (sym c.in_ok-p.was ∙ c.locate_named.ensures.value) c.request_by.result c.request_by.new.bytes (c.request_by.ensures.value, c.request_by.ensures.bytes_after)).1.1
 
 pub returns-in_err-p-clause-value : goal.returns-in_err-p-clause-value
 returns-in_err-p-clause-value c =
     let a = c.args in
-    err_is c.from_residual-in_err-p.result _ c.from_residual-in_err-p.ensures.1 ∙ first (request_turned a.method.now a.block.now a.bytes.now a.used (short (goal.at.returns-in_err-p-clause-value c).In_ok-t) (good (goal.at.returns-in_err-p-clause-value c).In_ok-t) (sym c.in_err-p.was ∙ c.locate_named.ensures.value))
+    err_is c.from_residual-in_err-p.result _ c.from_residual-in_err-p.ensures.1 ∙ (request_turned a.method.now a.block.now a.bytes.now a.used (short (goal.at.returns-in_err-p-clause-value c).In_ok-t) (good (goal.at.returns-in_err-p-clause-value c).In_ok-t) (sym c.in_err-p.was ∙ c.locate_named.ensures.value)).0
 
 pub returns-in_err-p-clause-bytes_after : goal.returns-in_err-p-clause-bytes_after
 returns-in_err-p-clause-bytes_after c =
     let a = c.args in
-    second_first (request_turned a.method.now a.block.now a.bytes.now a.used (short (goal.at.returns-in_err-p-clause-bytes_after c).In_ok-t) (good (goal.at.returns-in_err-p-clause-bytes_after c).In_ok-t) (sym c.in_err-p.was ∙ c.locate_named.ensures.value))
+    (request_turned a.method.now a.block.now a.bytes.now a.used (short (goal.at.returns-in_err-p-clause-bytes_after c).In_ok-t) (good (goal.at.returns-in_err-p-clause-bytes_after c).In_ok-t) (sym c.in_err-p.was ∙ c.locate_named.ensures.value)).1.0
 
 pub returns-in_err-p-clause-used_value : goal.returns-in_err-p-clause-used_value
 returns-in_err-p-clause-used_value c =
     let a = c.args in
-    ap (λ (r : Result ℕ Refusal). used_after r a.used) (err_is c.from_residual-in_err-p.result _ c.from_residual-in_err-p.ensures.1) ∙ second_second (request_turned a.method.now a.block.now a.bytes.now a.used (short (goal.at.returns-in_err-p-clause-used_value c).In_ok-t) (good (goal.at.returns-in_err-p-clause-used_value c).In_ok-t) (sym c.in_err-p.was ∙ c.locate_named.ensures.value))
+    ap (λ (r : Result ℕ Refusal). used_after r a.used) (err_is c.from_residual-in_err-p.result _ c.from_residual-in_err-p.ensures.1) ∙ (request_turned a.method.now a.block.now a.bytes.now a.used (short (goal.at.returns-in_err-p-clause-used_value c).In_ok-t) (good (goal.at.returns-in_err-p-clause-used_value c).In_ok-t) (sym c.in_err-p.was ∙ c.locate_named.ensures.value)).1.1
 
 pub returns-in_err-t-clause-value : goal.returns-in_err-t-clause-value
 returns-in_err-t-clause-value c =
     let a = c.args in
-    err_is c.from_residual.result _ c.from_residual.ensures.1 ∙ first (request_bad a.method.now a.block.now a.bytes.now a.used (sym c.too_long.ensures ∙ c.if-too_long.false) (headers_bad (block_cause rust_limits a.block.now) _ _ (sym c.read_headers.ensures ∙ c.in_err-t.was)))
+    err_is c.from_residual-in_err-t.result _ c.from_residual-in_err-t.ensures.1 ∙ (request_bad a.method.now a.block.now a.bytes.now a.used (length_passed rust_limits c.args.method.now (sym c.check_length.ensures ∙ c.in_ok-check_length.was)) (headers_bad (block_cause rust_limits a.block.now) _ _ (sym c.read_headers.ensures ∙ c.in_err-t.was))).0
 
 pub returns-in_err-t-clause-bytes_after : goal.returns-in_err-t-clause-bytes_after
 returns-in_err-t-clause-bytes_after c =
     let a = c.args in
-    second_first (request_bad a.method.now a.block.now a.bytes.now a.used (sym c.too_long.ensures ∙ c.if-too_long.false) (headers_bad (block_cause rust_limits a.block.now) _ _ (sym c.read_headers.ensures ∙ c.in_err-t.was)))
+    (request_bad a.method.now a.block.now a.bytes.now a.used (length_passed rust_limits c.args.method.now (sym c.check_length.ensures ∙ c.in_ok-check_length.was)) (headers_bad (block_cause rust_limits a.block.now) _ _ (sym c.read_headers.ensures ∙ c.in_err-t.was))).1.0
 
 pub returns-in_err-t-clause-used_value : goal.returns-in_err-t-clause-used_value
 returns-in_err-t-clause-used_value c =
     let a = c.args in
-    ap (λ (r : Result ℕ Refusal). used_after r a.used) (err_is c.from_residual.result _ c.from_residual.ensures.1) ∙ second_second (request_bad a.method.now a.block.now a.bytes.now a.used (sym c.too_long.ensures ∙ c.if-too_long.false) (headers_bad (block_cause rust_limits a.block.now) _ _ (sym c.read_headers.ensures ∙ c.in_err-t.was)))
+    ap (λ (r : Result ℕ Refusal). used_after r a.used) (err_is c.from_residual-in_err-t.result _ c.from_residual-in_err-t.ensures.1) ∙ (request_bad a.method.now a.block.now a.bytes.now a.used (length_passed rust_limits c.args.method.now (sym c.check_length.ensures ∙ c.in_ok-check_length.was)) (headers_bad (block_cause rust_limits a.block.now) _ _ (sym c.read_headers.ensures ∙ c.in_err-t.was))).1.1

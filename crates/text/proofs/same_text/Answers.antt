@@ -1,30 +1,17 @@
--- `text::same_text` meets its contract: at each turn the whole comparison is that of the rests. Assumes nothing.
-use native.Mathlib.Omega.{arith}
-use mathlib.Core.Path.{◌≡◌, sym, ap, ◌∙◌}
-use lib.ListN.{get_or}
+-- `text::same_text` meets its contract: texts of one length are the same where each pair of their bytes is. Assumes nothing.
+use Prim.Native.Nat.{ℕ}
+use Rattle.std.proofs.Common.{◌≡◌, sym, ◌∙◌, rules}
+use Rattle.std.proofs.lemmas.Iterator.{YieldsList-from_slice, YieldsList-from_zip, cases_from_all}
+use borrow.Author.Tests.{tests, ne_eqb}
 use Rattle.text.specs.Text.{lower}
-use Rattle.text.proofs.Alike.{alike_length, alike_done, alike_differ, alike_next, letters_differ, letters_same}
+use Rattle.text.proofs.Alike.{alike_length, alike_zip, letters_or, letters_nor}
 use Rattle.text.proofs.same_text.Goals as goal
-use Rattle.text.proofs.same_text.Goals.{else-a-i-via-then-a-i+else-not-eq_ignore_ascii_case, else-a-i-via-else-a-i}
+
+pub returns-else-a-b : goal.returns-else-a-b
+returns-else-a-b c = ne_eqb _ _ c.if-a-b.false ∙ sym (alike_length lower _ _ c.if-a-b.false)
 
 pub returns-then-a-b : goal.returns-then-a-b
-returns-then-a-b c = sym (alike_length lower _ _ c.if-a-b.true)
-
-pub returns-then-not-eq_ignore_ascii_case : goal.returns-then-not-eq_ignore_ascii_case
-returns-then-not-eq_ignore_ascii_case c =
-    let l = c.loop-i in
-    sym (l.invariant.1 ∙ alike_differ lower _ _ l.i (omega arith) (omega arith) (letters_differ (get_or c.args.a.now l.i 0) (get_or c.args.b.now l.i 0) (sym c.eq_ignore_ascii_case.ensures ∙ c.if-not-eq_ignore_ascii_case.true)))
-
-pub loop-i-preserved : goal.loop-i-preserved
-loop-i-preserved c =
-    let l = c.loop-i in
-    let e : lower (get_or c.args.a.now l.i 0) ≡ lower (get_or c.args.b.now l.i 0) = elim c.else-a-i.branch [
-      | else-a-i-via-then-a-i+else-not-eq_ignore_ascii_case w ↦ letters_same (get_or c.args.a.now l.i 0) (get_or c.args.b.now l.i 0) (sym w.eq_ignore_ascii_case.ensures ∙ w.if-not-eq_ignore_ascii_case.false)
-      | else-a-i-via-else-a-i w ↦ ap lower w.if-a-i.false
-    ] in
-    (l.invariant.0, l.invariant.1 ∙ alike_next lower _ _ l.i (omega arith) (omega arith) e)
-
-pub returns : goal.returns
-returns c =
-    let l = c.loop-i in
-    sym (l.invariant.1 ∙ alike_done lower _ _ l.i (omega arith) (omega arith))
+returns-then-a-b c =
+    let a = c.args.a.now in
+    let b = c.args.b.now in
+    alike_zip lower a b c.all.result c.if-a-b.true (cases_from_all c.all.new.self _ c.all.result (λ (p : ℕ × ℕ). lower p.0 ≡ lower p.1) (λ (p : ℕ × ℕ). lower p.0 ≡ lower p.1 → ⊥) c.all.ensures.ran (YieldsList-from_zip (YieldsList-from_slice a cc) (YieldsList-from_slice b cc)) (λ x q k. (search (rules, tests), letters_or x.0.now x.1.now (search (rules, tests)))) (λ x q k. letters_nor x.0.now x.1.now (search (rules, tests))))

@@ -1,6 +1,4 @@
 -- `uri::header_uri` meets its contract: the part that is read is the text that was cut out. Assumes nothing.
-use native.Mathlib.Omega.{arith}
-use borrow.Author.Rules.{rules}
 use Rattle.uri.proofs.Laws.{uncut, cut_inside, cut_unread, cut_read}
 use Rattle.uri.specs.HeaderUri.{header_uri_from}
 use mathlib.Core.Path.{sym, ap, ◌∙◌}
@@ -9,21 +7,14 @@ use Rattle.uri.proofs.header_uri.Goals as goal
 pub returns-in_err-part-clause-value : goal.returns-in_err-part-clause-value
 returns-in_err-part-clause-value c = c.from_residual.ensures ∙ ap header_uri_from (sym (uncut c.args.value.now (sym c.uri_text.ensures ∙ c.in_err-part.was)))
 
-pub overflow_add-end : goal.overflow_add-end
-overflow_add-end c =
-    let h = cut_inside c.args.value.now _ (sym c.uri_text.ensures ∙ c.in_ok-part.was) in
-    omega arith
-
-pub slice_bounds-read_uri-end : goal.slice_bounds-read_uri-end
-slice_bounds-read_uri-end c =
-    let h = cut_inside c.args.value.now _ (sym c.uri_text.ensures ∙ c.in_ok-part.was) in
-    search rules
+pub text-requires : goal.text-requires
+text-requires c = cut_inside c.args.value.now _ (sym c.uri_text.ensures ∙ c.in_ok-part.was)
 
 pub returns-in_default-clause-value : goal.returns-in_default-clause-value
-returns-in_default-clause-value c = ap header_uri_from (sym (cut_unread c.args.value.now _ (sym c.uri_text.ensures ∙ c.in_ok-part.was) (sym c.read_uri.ensures ∙ c.in_default.is)))
+returns-in_default-clause-value c = ap header_uri_from (sym (cut_unread c.args.value.now _ (sym c.uri_text.ensures ∙ c.in_ok-part.was) _ c.text.ensures (sym c.read_uri.ensures ∙ c.in_default.is)))
 
 pub returns-clause-value : goal.returns-clause-value
-returns-clause-value c = sym (cut_read c.args.value.now _ (sym c.uri_text.ensures ∙ c.in_ok-part.was) _ (sym c.read_uri.ensures ∙ c.in-Some.is))
+returns-clause-value c = sym (cut_read c.args.value.now _ (sym c.uri_text.ensures ∙ c.in_ok-part.was) _ c.text.ensures _ (sym c.read_uri.ensures ∙ c.in-Some.is))
 
 pub returns-clause-inside : goal.returns-clause-inside
 returns-clause-inside c = cut_inside c.args.value.now _ (sym c.uri_text.ensures ∙ c.in_ok-part.was)

@@ -4,11 +4,11 @@ use Prim.Native.Nat.{◌-◌}
 use Rattle.std.specs.Prelude.{Some}
 use Rattle.uri.proofs.Cuts.{unclosed, closed}
 use Rattle.uri.specs.Steps.{cut_from}
-use mathlib.Core.Path.{sym, ap, ◌∙◌}
+use mathlib.Core.Path.{refl, sym, ap, ◌∙◌}
 use Rattle.uri.proofs.in_brackets.Goals as goal
 
-pub returns-then-n-t : goal.returns-then-n-t
-returns-then-n-t c = ap cut_from (sym (unclosed c.args.value.now c.args.at (c.args.end - c.args.at) c.find-n.result c.find-n.ensures.value (omega arith)))
+pub returns-in_err-n : goal.returns-in_err-n
+returns-in_err-n c = c.from_residual.ensures ∙ ap cut_from (sym (unclosed c.args.value.now c.args.at (c.args.end - c.args.at) _ refl (omega (arith, c.in_err-n.ensures))))
 
 pub returns : goal.returns
-returns c = ap Some c.trimmed_part.ensures ∙ ap cut_from (sym (closed c.args.value.now c.args.at (c.args.end - c.args.at) c.find-n.result c.find-n.ensures.value (omega arith)))
+returns c = ap Some c.trimmed_part.ensures ∙ ap cut_from (sym (closed c.args.value.now c.args.at (c.args.end - c.args.at) _ c.in_ok-n.ensures.0 c.in_ok-n.ensures.1))

@@ -4,11 +4,11 @@ use Rattle.uri.specs.SipUri.{uri_from}
 use mathlib.Core.Path.{sym, ap, ◌∙◌}
 use Rattle.uri.proofs.read_uri.Goals as goal
 
-pub returns-then-at-eq0 : goal.returns-then-at-eq0
-returns-then-at-eq0 c = ap uri_from (sym (scheme_none c.args.s.now _ c.scheme_length-at.ensures c.if-at-eq0.true))
+pub returns-in_err-at : goal.returns-in_err-at
+returns-in_err-at c = c.from_residual.ensures ∙ ap uri_from (sym (scheme_none c.args.s.now (sym c.scheme_length.ensures ∙ c.in_err-at.was)))
 
 pub with_user-requires : goal.with_user-requires
-with_user-requires c = scheme_fits c.args.s.now _ c.scheme_length-at.ensures
+with_user-requires c = scheme_fits c.args.s.now _ _ (sym c.scheme_length.ensures ∙ c.in_ok-at.was)
 
 pub returns : goal.returns
-returns c = c.with_user.ensures ∙ ap uri_from (sym (scheme_read c.args.s.now _ c.scheme_length-at.ensures c.if-at-eq0.false))
+returns c = c.with_user.ensures ∙ ap uri_from (sym (scheme_read c.args.s.now _ _ (sym c.scheme_length.ensures ∙ c.in_ok-at.was)))

@@ -1,5 +1,4 @@
 -- `uri::with_host` meets its contract. Assumes nothing.
-use native.Mathlib.Omega.{arith}
 use Rattle.uri.proofs.Parts.{host_unread, port_unread, tail_bad, parts_read}
 use Rattle.uri.specs.SipUri.{uri_from}
 use borrow.Author.Tests.{not-true, not-false}
@@ -16,4 +15,4 @@ pub returns-then-not-all_of : goal.returns-then-not-all_of
 returns-then-not-all_of c = ap uri_from (sym (tail_bad c.args.secure c.args.s.now c.args.at c.args.user _ (sym c.read_host.ensures.value ∙ c.in_ok-n.was) (sym c.all_of.ensures ∙ not-true _ c.if-not-all_of.true-raw)))
 
 pub returns : goal.returns
-returns c = parts_read c.args.secure c.args.s.now c.args.at c.args.user _ (sym c.read_host.ensures.value ∙ c.in_ok-n.was) _ (omega arith) (sym c.after_host.ensures ∙ c.in-Some.is) (sym c.all_of.ensures ∙ not-false _ c.if-not-all_of.false-raw)
+returns c = parts_read c.args.secure c.args.s.now c.args.at c.args.user _ (sym c.read_host.ensures.value ∙ c.in_ok-n.was) _ c.requires.1 (sym c.after_host.ensures ∙ c.in-Some.is) (sym c.all_of.ensures ∙ not-false _ c.if-not-all_of.false-raw)

@@ -6,41 +6,38 @@ use Rattle.image.specs.declared.sections.IdsAt.{IdsAt}
 use Rattle.image.proofs.AnswerLaws.{record_got, record_not}
 use Rattle.record_walk.proofs.Walks.{Given, begun, given, ended}
 use Rattle.dialog_manager.specs.Search.{IdsWithin, TextsOf}
-use Rattle.dialog_manager.proofs.SearchLaws.{Left, start, stored_whole, nothing, unbroken, met, passed_by, Turn, turn, one_record_lem, places, standing, its_end, ids_within, texts_of}
+use Rattle.dialog_manager.proofs.SearchLaws.{Left, start, stored_held, nothing, unbroken, met, passed_by, Turn, turn, one_record_lem, places, standing, its_end, ids_within, texts_of}
 use Rattle.dialog_manager.proofs.finding.search.Goals as goal
 use Rattle.dialog_manager.proofs.finding.search.Given.{Over}
 use Rattle.dialog_manager.proofs.finding.search.Goals.{In-Some, After-ids_at-ids}
 
 -- the walk's turn
-taken : (g : Over) (c : In-Some g) → Given c.args.bytes.now c.loop-at.at-iterator c.in-Some.at c.next.new.self
-taken g c = given c.args.bytes.now c.loop-at.at-iterator c.loop-at.invariant.0 c.in-Some.ensures.steps
+taken : (g : Over) (c : In-Some g) → Given c.args.held.bytes.now c.loop-at.at-iterator c.in-Some.at c.next.new.self
+taken g c = given c.args.held.bytes.now c.loop-at.at-iterator c.loop-at.invariant.0 c.in-Some.ensures.steps
 
 -- what is asked is asked of the records from this one on
-left : (g : Over) (c : In-Some g) → Left (g.W.Wanted.test c.args.wanted.now) c.args.bytes.now c.in-Some.at
-left g c = subst (Left (g.W.Wanted.test c.args.wanted.now) c.args.bytes.now) (sym (taken g c).from) c.loop-at.invariant.1
+left : (g : Over) (c : In-Some g) → Left (g.W.Wanted.test c.args.wanted.now) c.args.held.bytes.now c.in-Some.at
+left g c = subst (Left (g.W.Wanted.test c.args.wanted.now) c.args.held.bytes.now) (sym (taken g c).from) c.loop-at.invariant.1
 
-known : (g : Over) (c : In-Some g) → Bytes c.args.bytes.now
-known g c = bytes_all c.args.bytes.now (λ i. (c.type_inv.bytes i).fits)
+known : (g : Over) (c : In-Some g) → Bytes c.args.held.bytes.now
+known g c = bytes_all c.args.held.bytes.now c.args.held.fit
 
 -- the record's parts
 abbrev parts : (g : Over) (c : In-Some g) → RecordAt
-parts g c = places c.args.bytes.now c.in-Some.at (known g c) (left g c).here (taken g c).here
+parts g c = places c.args.held.bytes.now c.in-Some.at (known g c) (left g c).here (taken g c).here
 
-held : (g : Over) (c : In-Some g) → Turn c.args.bytes.now c.in-Some.at (parts g c)
-held g c = standing c.args.bytes.now c.in-Some.at (known g c) (left g c).here (taken g c).here
+held : (g : Over) (c : In-Some g) → Turn c.args.held.bytes.now c.in-Some.at (parts g c)
+held g c = standing c.args.held.bytes.now c.in-Some.at (known g c) (left g c).here (taken g c).here
 
 placed : (g : Over) (c : After-ids_at-ids g) → c.ids_at-ids.result ≡ (parts g (goal.at.is_at-requires g c).In-Some).ids
 placed g c = c.ids_at-ids.ensures (taken g (goal.at.is_at-requires g c).In-Some).here.reading (taken g (goal.at.is_at-requires g c).In-Some).here.reads
 
-pub new-at-items-requires : goal.new-at-items-requires
-new-at-items-requires g c = stored_whole c.args.bytes.now c.requires
-
 pub loop-at-init : goal.loop-at-init
 loop-at-init g c =
     let f = g.W.Wanted.test c.args.wanted.now in
-    let s = c.args.bytes.now in
-    let b = begun s _ _ c.into_iter-at-iterator.ensures.into_iter_gives c.new-at-items.ensures.bytes c.new-at-items.ensures.at in
-    (b.0, subst (Left f s) (sym b.1) (start f s c.requires))
+    let s = c.args.held.bytes.now in
+    let b = begun s _ _ c.into_iter-at-iterator.ensures.into_iter_gives c.records-at-items.ensures.bytes c.records-at-items.ensures.at in
+    (b.0, subst (Left f s) (sym b.1) (start f s (stored_held c.args.held)))
 
 pub ids_at-ids-requires : goal.ids_at-ids-requires
 ids_at-ids-requires g c = (taken g c).here
@@ -48,7 +45,7 @@ ids_at-ids-requires g c = (taken g c).here
 pub is_at-requires : goal.is_at-requires
 is_at-requires g c =
     let i = (goal.at.is_at-requires g c).In-Some in
-    let s = c.args.bytes.now in
+    let s = c.args.held.bytes.now in
     subst (IdsWithin s) (sym (placed g c)) (ids_within s c.in-Some.at (parts g i) (held g i))
 
 pub read_record-requires : goal.read_record-requires
@@ -57,12 +54,12 @@ read_record-requires g c = (left g (goal.at.read_record-requires g c).In-Some).h
 pub returns-in_err-r-clause-value : goal.returns-in_err-r-clause-value
 returns-in_err-r-clause-value g c =
     let i = (goal.at.returns-in_err-r-clause-value g c).In-Some in
-    absurd (unbroken (g.W.Wanted.test c.args.wanted.now) c.args.bytes.now c.in-Some.at (left g i) (taken g i).more (record_not c.in-Some.at _ (sym c.read_record.ensures ∙ c.in_err-r.was)))
+    absurd (unbroken (g.W.Wanted.test c.args.wanted.now) c.args.held.bytes.now c.in-Some.at (left g i) (taken g i).more (record_not c.in-Some.at _ (sym c.read_record.ensures ∙ c.in_err-r.was)))
 
 pub returns-then-is_at-clause-value : goal.returns-then-is_at-clause-value
 returns-then-is_at-clause-value g c =
     let f = g.W.Wanted.test c.args.wanted.now in
-    let s = c.args.bytes.now in
+    let s = c.args.held.bytes.now in
     let at = c.in-Some.at in
     let i = (goal.at.returns-then-is_at-clause-value g c).In-Some in
     let a = (goal.at.returns-then-is_at-clause-value g c).After-ids_at-ids in
@@ -75,7 +72,7 @@ returns-then-is_at-clause-value g c =
 pub loop-at-preserved : goal.loop-at-preserved
 loop-at-preserved g c =
     let f = g.W.Wanted.test c.args.wanted.now in
-    let s = c.args.bytes.now in
+    let s = c.args.held.bytes.now in
     let at = c.in-Some.at in
     let i = (goal.at.loop-at-preserved g c).In-Some in
     let a = (goal.at.loop-at-preserved g c).After-ids_at-ids in
@@ -86,6 +83,6 @@ loop-at-preserved g c =
 
 pub returns-clause-value : goal.returns-clause-value
 returns-clause-value g c =
-    let s = c.args.bytes.now in
+    let s = c.args.held.bytes.now in
     let r = c.loop-at.at-iterator in
     nothing (g.W.Wanted.test c.args.wanted.now) s r.at c.loop-at.invariant.1 (ended s r c.loop-at.invariant.0 c.next.new.self c.in-None.ensures.steps)

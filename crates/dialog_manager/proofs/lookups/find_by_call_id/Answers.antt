@@ -1,54 +1,56 @@
 -- `lookups::find_by_call_id` meets its contract: 1, 3, then the first place in the store. Assumes nothing.
 use Prim.Native.Nat.{ℕ}
-use mathlib.Core.Path.{◌≡◌, sym, ◌∙◌}
+use mathlib.Core.Path.{◌≡◌, sym, ap, subst, ◌∙◌}
 use mathlib.Core.Bool.{true, false}
 use mathlib.Core.List.{List}
 use lib.ListN.{length}
-use lib.Seq.{length-take-le}
-use Rattle.std.specs.Prelude.{None}
+use Rattle.std.proofs.result.Match.{err_is}
+use Rattle.std.specs.Prelude.{Err, None, Ok}
 use Rattle.limits.specs.Limits.{rust_limits}
+use Rattle.text.proofs.Lengths.{length_passed, length_stopped}
 use Rattle.codec.proofs.CodecLaws.{bytes_all}
 use Rattle.book.specs.Calls.{find_by_call_id}
 use Rattle.book.specs.Book.{reading_cause}
+use Rattle.store.specs.Counting.{ReadAs}
+use Rattle.dialog_manager.specs.Search.{of_call_id}
 use Rattle.dialog_manager.specs.Lookups.{answer_in}
-use Rattle.dialog_manager.proofs.LookupLaws.{Kept, kept, stored, arguments_refuse, store_refuses, replies, call_cause, call_reply}
+use Rattle.dialog_manager.proofs.LookupLaws.{Kept, kept_by, of_used, arguments_refuse, store_refuses, replies, call_cause, call_reply}
 use Rattle.dialog_manager.proofs.lookups.find_by_call_id.Goals as goal
-use Rattle.dialog_manager.proofs.lookups.find_by_call_id.Goals.{Else-too_long, In-Ok, Start}
+use Rattle.dialog_manager.proofs.lookups.find_by_call_id.Goals.{In_ok-check_length, In_ok-held, Start}
 
 abbrev s : Start → List ℕ
 s c = c.args.bytes.now
 
-abbrev s-at-In-Ok : In-Ok → List ℕ
-s-at-In-Ok c = c.args.bytes.now
+abbrev s-at-In_ok-held : In_ok-held → List ℕ
+s-at-In_ok-held c = c.args.bytes.now
 
 abbrev t : Start → List ℕ
 t c = c.args.call_id.now
 
-abbrev t-at-Else-too_long : Else-too_long → List ℕ
-t-at-Else-too_long c = c.args.call_id.now
+abbrev t-at-In_ok-check_length : In_ok-check_length → List ℕ
+t-at-In_ok-check_length c = c.args.call_id.now
 
 -- the text is not too long
-clear : (c : Else-too_long) → reading_cause rust_limits (find_by_call_id (t-at-Else-too_long c)) ≡ None
-clear c = call_cause rust_limits (t-at-Else-too_long c) false (sym c.too_long.ensures ∙ c.if-too_long.false)
+clear : (c : In_ok-check_length) → reading_cause rust_limits (find_by_call_id (t-at-In_ok-check_length c)) ≡ None
+clear c = call_cause rust_limits (t-at-In_ok-check_length c) false (length_passed rust_limits (t-at-In_ok-check_length c) (sym c.check_length.ensures ∙ c.in_ok-check_length.was))
 
-store : (c : In-Ok) → Kept (s-at-In-Ok c) c.args.used
-store c = kept (s-at-In-Ok c) c.args.used (sym c.count.ensures ∙ c.in-Ok.is)
+-- the store was read
+opened : (c : In_ok-held) → ReadAs c.args.bytes.now c.args.used (Ok c.in_ok-held.held)
+opened c = subst (ReadAs c.args.bytes.now c.args.used) c.in_ok-held.was c.read.ensures
 
-pub returns-then-too_long : goal.returns-then-too_long
-returns-then-too_long c =
-    arguments_refuse rust_limits (length (s (goal.at.returns-then-too_long c).Start)) (find_by_call_id (t (goal.at.returns-then-too_long c).Start)) (s (goal.at.returns-then-too_long c).Start) c.args.used (bytes_all c.args.bytes.now (λ i. (c.type_inv.bytes i).fits)) (call_cause rust_limits (t (goal.at.returns-then-too_long c).Start) true (sym c.too_long.ensures ∙ c.if-too_long.true))
+store : (c : In_ok-held) → Kept (s-at-In_ok-held c) c.args.used
+store c = kept_by (s-at-In_ok-held c) c.args.used c.in_ok-held.held (opened c)
 
-pub returns-in_default : goal.returns-in_default
-returns-in_default c =
-    store_refuses rust_limits (length (s (goal.at.returns-in_default c).Start)) (find_by_call_id (t (goal.at.returns-in_default c).Start)) (s (goal.at.returns-in_default c).Start) c.args.used (bytes_all c.args.bytes.now (λ i. (c.type_inv.bytes i).fits)) (clear (goal.at.returns-in_default c).Else-too_long) (sym c.count.ensures ∙ c.in_default.is)
+pub returns-in_err-check_length : goal.returns-in_err-check_length
+returns-in_err-check_length c =
+    let q = length_stopped rust_limits c.args.call_id.now (sym c.check_length.ensures ∙ c.in_err-check_length.was) in
+    ap answer_in (err_is c.from_residual.result _ c.from_residual.ensures.1 ∙ ap Err q.1) ∙ arguments_refuse rust_limits (length (s (goal.at.returns-in_err-check_length c).Start)) (find_by_call_id (t (goal.at.returns-in_err-check_length c).Start)) (s (goal.at.returns-in_err-check_length c).Start) c.args.used (bytes_all c.args.bytes.now (λ i. (c.type_inv.bytes i).fits)) (call_cause rust_limits (t (goal.at.returns-in_err-check_length c).Start) true q.0)
 
-pub slice_bounds-place_of_call_id-end : goal.slice_bounds-place_of_call_id-end
-slice_bounds-place_of_call_id-end c = sym (length-take-le c.args.used (s (goal.at.slice_bounds-place_of_call_id-end c).Start) (store c).within)
-
-pub place_of_call_id-requires : goal.place_of_call_id-requires
-place_of_call_id-requires c = stored (s (goal.at.place_of_call_id-requires c).Start) c.args.used (store c)
+pub returns-in_err-held : goal.returns-in_err-held
+returns-in_err-held c =
+    ap answer_in (err_is c.from_residual-in_err-held.result _ c.from_residual-in_err-held.ensures.1) ∙ store_refuses rust_limits (length (s (goal.at.returns-in_err-held c).Start)) (find_by_call_id (t (goal.at.returns-in_err-held c).Start)) (s (goal.at.returns-in_err-held c).Start) c.args.used (bytes_all c.args.bytes.now (λ i. (c.type_inv.bytes i).fits)) (clear (goal.at.returns-in_err-held c).In_ok-check_length) (subst (ReadAs c.args.bytes.now c.args.used) c.in_err-held.was c.read.ensures)
 
 pub returns : goal.returns
 returns c =
-    replies rust_limits (length (s (goal.at.returns c).Start)) (find_by_call_id (t (goal.at.returns c).Start)) (s (goal.at.returns c).Start) c.args.used (bytes_all c.args.bytes.now (λ i. (c.type_inv.bytes i).fits)) (clear (goal.at.returns c).Else-too_long) (store (goal.at.returns c).In-Ok) (answer_in c.place_of_call_id.result)
-    (c.place_of_call_id.ensures ∙ call_reply (s (goal.at.returns c).Start) c.args.used (store (goal.at.returns c).In-Ok) (t (goal.at.returns c).Start))
+    replies rust_limits (length (s (goal.at.returns c).Start)) (find_by_call_id (t (goal.at.returns c).Start)) (s (goal.at.returns c).Start) c.args.used (bytes_all c.args.bytes.now (λ i. (c.type_inv.bytes i).fits)) (clear (goal.at.returns c).In_ok-check_length) (store (goal.at.returns c).In_ok-held) (answer_in c.place.result)
+    (c.place.ensures ∙ of_used (of_call_id c.args.call_id.now) c.args.bytes.now c.args.used c.in_ok-held.held (opened (goal.at.returns c).In_ok-held) ∙ call_reply (s (goal.at.returns c).Start) c.args.used (store (goal.at.returns c).In_ok-held) (t (goal.at.returns c).Start))

@@ -1,6 +1,8 @@
 -- `pairs::is_alone` meets its contract: what is asked of the records from the start is asked of those left. Assumes nothing.
 use native.Mathlib.Omega.{arith}
 use mathlib.Core.Path.{◌≡◌, sym, ap, subst, ◌∙◌}
+use mathlib.Core.Bool.{true, false, true≢false}
+use Rattle.std.specs.Cmp.{Equal-is}
 use Rattle.std.specs.declared.cmp.Ordering.TheVariants.{Equal}
 use Rattle.codec.proofs.CodecLaws.{Bytes, bytes_all}
 use Rattle.record_walk.proofs.Walks.{Given, given, ended}
@@ -28,23 +30,24 @@ loop-q-init c =
     let e = c.into_iter-q-iterator.ensures.into_iter_gives in
     (ap (λ (r : Records). r.bytes.now) e ∙ c.requires.1, ap (λ (r : Records). alone_from c.args.bytes.now c.args.p r.at) (sym e))
 
-pub compare-way-requires : goal.compare-way-requires
-compare-way-requires c = ((taken c).here, c.requires.0)
+pub compare-requires : goal.compare-requires
+compare-requires c = ((taken c).here, c.requires.0)
 
-pub returns-in-Equal : goal.returns-in-Equal
-returns-in-Equal c =
-    let i = (goal.at.returns-in-Equal c).In-Some in
+pub returns-then-is_eq : goal.returns-then-is_eq
+returns-then-is_eq c =
+    let i = (goal.at.returns-then-is_eq c).In-Some in
     let a = c.args in
     let from = ap (alone_from a.bytes.now a.p) (sym (taken i).from) in
-    sym (c.loop-q.invariant.1 ∙ from ∙ alone_met a.bytes.now (known i) a.p c.requires.0 c.in-Some.q (turn i) (sym c.compare-way.ensures ∙ c.in-Equal.is))
+    sym (c.loop-q.invariant.1 ∙ from ∙ alone_met a.bytes.now (known i) a.p c.requires.0 c.in-Some.q (turn i) (sym c.compare.ensures ∙ (Equal-is c.compare.result).0 (sym c.is_eq.ensures ∙ c.if-is_eq.true)))
 
 pub loop-q-preserved : goal.loop-q-preserved
 loop-q-preserved c =
     let i = (goal.at.loop-q-preserved c).In-Some in
     let a = c.args in
     let g = taken i in
-    let differ : c.compare-way.result ≡ Equal → ⊥ = c.in_default.not-Equal in
-    let next = alone_next a.bytes.now (known i) a.p c.requires.0 c.in-Some.q (turn i) (λ o. differ (c.compare-way.ensures ∙ o)) in
+    let differ : c.compare.result ≡ Equal → ⊥ =
+    λ o. let z : false ≡ true = sym c.if-is_eq.false ∙ c.is_eq.ensures ∙ (Equal-is c.compare.result).1 o in true≢false (sym z) in
+    let next = alone_next a.bytes.now (known i) a.p c.requires.0 c.in-Some.q (turn i) (λ o. differ (c.compare.ensures ∙ o)) in
     (g.same, c.loop-q.invariant.1 ∙ ap (alone_from a.bytes.now a.p) (sym g.from) ∙ next ∙ ap (alone_from a.bytes.now a.p) (sym g.ends))
 
 pub returns : goal.returns

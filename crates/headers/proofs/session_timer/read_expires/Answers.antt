@@ -1,16 +1,31 @@
 -- `headers::read_expires` meets its contract: the first part, then the others. Assumes nothing.
-use mathlib.Core.Path.{sym, ap, ◌∙◌}
+use mathlib.Core.Path.{refl, sym, ap, ◌∙◌}
+use lib.ListN.{length}
+use lib.Seq.{take_all}
 use Rattle.text.specs.Number.{read_digits}
+use Rattle.text.specs.Text.{trimmed}
 use Rattle.headers.specs.SessionExpires.{expires_from}
 use Rattle.headers.proofs.ExpiresLaws.{only_part, more_parts, no_digits, with_digits, no_refresher}
 use native.Mathlib.Omega.{arith}
 use Rattle.headers.proofs.session_timer.read_expires.Goals as goal
 
 pub returns-in_err-seconds : goal.returns-in_err-seconds
-returns-in_err-seconds c = c.from_residual.ensures ∙ ap expires_from (sym (no_digits c.args.value.now _ _ c.find-n.ensures.value c.trim-digits.ensures (c.find-n.ensures.upper_bound) (sym c.read_seconds.ensures ∙ c.in_err-seconds.was)))
+returns-in_err-seconds c =
+    let v = c.args.value.now in
+    c.from_residual.ensures ∙ ap expires_from (sym (no_digits v (length v) _ c.in_default.ensures (c.trim.ensures ∙ ap trimmed (sym (take_all (length v) v (omega arith)))) (omega arith) (sym c.read_seconds.ensures ∙ c.in_err-seconds.was)))
 
-pub returns-then-n-value : goal.returns-then-n-value
-returns-then-n-value c = with_digits (read_digits 32 c.trim-digits.result.now) _ _ _ (sym c.read_seconds.ensures ∙ c.in_ok-seconds.was) no_refresher ∙ ap expires_from (sym (only_part c.args.value.now _ _ c.find-n.ensures.value c.trim-digits.ensures c.if-n-value.true))
+pub returns-in_default : goal.returns-in_default
+returns-in_default c =
+    let v = c.args.value.now in
+    with_digits (read_digits 32 c.trim.result.now) _ _ _ (sym c.read_seconds.ensures ∙ c.in_ok-seconds.was) no_refresher
+    ∙ ap expires_from (sym (only_part v (length v) _ c.in_default.ensures (c.trim.ensures ∙ ap trimmed (sym (take_all (length v) v (omega arith)))) refl))
+
+pub returns-in_err-seconds-2 : goal.returns-in_err-seconds-2
+returns-in_err-seconds-2 c =
+    c.from_residual-in_err-seconds-2.ensures
+    ∙ ap expires_from (sym (no_digits c.args.value.now _ _ c.in-Some.ensures.0 c.trim-2.ensures (omega (arith, c.in-Some.ensures.1)) (sym c.read_seconds-2.ensures ∙ c.in_err-seconds-2.was)))
 
 pub returns : goal.returns
-returns c = with_digits (read_digits 32 c.trim-digits.result.now) _ _ _ (sym c.read_seconds.ensures ∙ c.in_ok-seconds.was) c.find_refresher-refresher.ensures ∙ ap expires_from (sym (more_parts c.args.value.now _ _ c.find-n.ensures.value c.trim-digits.ensures (omega (arith, (c.find-n.ensures.upper_bound)))))
+returns c =
+    with_digits (read_digits 32 c.trim-2.result.now) _ _ _ (sym c.read_seconds-2.ensures ∙ c.in_ok-seconds-2.was) c.find_refresher.ensures
+    ∙ ap expires_from (sym (more_parts c.args.value.now _ _ c.in-Some.ensures.0 c.trim-2.ensures c.in-Some.ensures.1))

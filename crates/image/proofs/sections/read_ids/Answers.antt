@@ -33,40 +33,40 @@ abbrev end-2-at-In_ok-remote_tag : In_ok-remote_tag → ℕ
 end-2-at-In_ok-remote_tag c = (c.in_ok-local_tag.local_tag).start + (c.in_ok-local_tag.local_tag).length
 
 second : (c : In_ok-local_tag) → IdGot (stands 1 c.args.map) c.args.bytes.now (end-1-at-In_ok-local_tag c) (c.in_ok-local_tag.local_tag)
-second c = id_told c.args.bytes.now (end-1-at-In_ok-local_tag c) c.bit-2.ensures (first-at-In_ok-local_tag c).got.within c.read_part-2.ensures c.in_ok-local_tag.was
+second c = id_told c.args.bytes.now (end-1-at-In_ok-local_tag c) c.bit-2.ensures (first-at-In_ok-local_tag c).got.within (rw c.end.ensures at c.read_part-2.ensures) c.in_ok-local_tag.was
 
 second-at-In_ok-remote_tag : (c : In_ok-remote_tag) → IdGot (stands 1 c.args.map) c.args.bytes.now (end-1-at-In_ok-remote_tag c) (c.in_ok-local_tag.local_tag)
-second-at-In_ok-remote_tag c = id_told c.args.bytes.now (end-1-at-In_ok-remote_tag c) c.bit-2.ensures (first-at-In_ok-remote_tag c).got.within c.read_part-2.ensures c.in_ok-local_tag.was
+second-at-In_ok-remote_tag c = id_told c.args.bytes.now (end-1-at-In_ok-remote_tag c) c.bit-2.ensures (first-at-In_ok-remote_tag c).got.within (rw c.end.ensures at c.read_part-2.ensures) c.in_ok-local_tag.was
 
 third : (c : In_ok-remote_tag) → IdGot (stands 2 c.args.map) c.args.bytes.now (end-2-at-In_ok-remote_tag c) (c.in_ok-remote_tag.remote_tag)
-third c = id_told c.args.bytes.now (end-2-at-In_ok-remote_tag c) c.bit-3.ensures (second-at-In_ok-remote_tag c).got.within c.read_part-3.ensures c.in_ok-remote_tag.was
+third c = id_told c.args.bytes.now (end-2-at-In_ok-remote_tag c) c.bit-3.ensures (second-at-In_ok-remote_tag c).got.within (rw c.end-2.ensures at c.read_part-3.ensures) c.in_ok-remote_tag.was
 
-pub overflow_add-call_id : goal.overflow_add-call_id
-overflow_add-call_id c = omega (arith, (first (goal.at.overflow_add-call_id c).In_ok-call_id).got.within)
+pub end-requires : goal.end-requires
+end-requires c = omega (arith, (first (goal.at.end-requires c).In_ok-call_id).got.within)
 
 pub read_part-requires-2 : goal.read_part-requires-2
-read_part-requires-2 c = (first (goal.at.read_part-requires-2 c).In_ok-call_id).got.within
+read_part-requires-2 c = rw c.end.ensures (first (goal.at.read_part-requires-2 c).In_ok-call_id).got.within
 
 pub returns-in_err-local_tag : goal.returns-in_err-local_tag
 returns-in_err-local_tag c =
     let a = c.args in
-    c.from_residual-in_err-local_tag.ensures ∙ ids_none_2 a.map a.bytes.now a.at (first (goal.at.returns-in_err-local_tag c).In_ok-call_id) (id_none a.bytes.now (end-1 (goal.at.returns-in_err-local_tag c).In_ok-call_id) c.bit-2.ensures c.read_part-2.ensures c.in_err-local_tag.was)
+    c.from_residual-in_err-local_tag.ensures ∙ ids_none_2 a.map a.bytes.now a.at (first (goal.at.returns-in_err-local_tag c).In_ok-call_id) (id_none a.bytes.now (end-1 (goal.at.returns-in_err-local_tag c).In_ok-call_id) c.bit-2.ensures (rw c.end.ensures at c.read_part-2.ensures) c.in_err-local_tag.was)
 
-pub overflow_add-local_tag : goal.overflow_add-local_tag
-overflow_add-local_tag c = omega (arith, (second (goal.at.overflow_add-local_tag c).In_ok-local_tag).got.within)
+pub end-requires-2 : goal.end-requires-2
+end-requires-2 c = omega (arith, (second (goal.at.end-requires-2 c).In_ok-local_tag).got.within)
 
 pub read_part-requires-3 : goal.read_part-requires-3
-read_part-requires-3 c = (second (goal.at.read_part-requires-3 c).In_ok-local_tag).got.within
+read_part-requires-3 c = rw c.end-2.ensures (second (goal.at.read_part-requires-3 c).In_ok-local_tag).got.within
 
 pub returns-in_err-remote_tag : goal.returns-in_err-remote_tag
 returns-in_err-remote_tag c =
     let a = c.args in
-    c.from_residual-in_err-remote_tag.ensures ∙ ids_none_3 a.map a.bytes.now a.at (first (goal.at.returns-in_err-remote_tag c).In_ok-call_id) (second (goal.at.returns-in_err-remote_tag c).In_ok-local_tag) (id_none a.bytes.now (end-2 (goal.at.returns-in_err-remote_tag c).In_ok-local_tag) c.bit-3.ensures c.read_part-3.ensures c.in_err-remote_tag.was)
+    c.from_residual-in_err-remote_tag.ensures ∙ ids_none_3 a.map a.bytes.now a.at (first (goal.at.returns-in_err-remote_tag c).In_ok-call_id) (second (goal.at.returns-in_err-remote_tag c).In_ok-local_tag) (id_none a.bytes.now (end-2 (goal.at.returns-in_err-remote_tag c).In_ok-local_tag) c.bit-3.ensures (rw c.end-2.ensures at c.read_part-3.ensures) c.in_err-remote_tag.was)
 
-pub overflow_add-result : goal.overflow_add-result
-overflow_add-result c = omega (arith, (third (goal.at.overflow_add-result c).In_ok-remote_tag).got.within)
+pub end-requires-3 : goal.end-requires-3
+end-requires-3 c = omega (arith, (third (goal.at.end-requires-3 c).In_ok-remote_tag).got.within)
 
 pub returns : goal.returns
 returns c =
     let a = c.args in
-    ids_whole a.map a.bytes.now a.at (first (goal.at.returns c).In_ok-call_id) (second (goal.at.returns c).In_ok-local_tag) (third (goal.at.returns c).In_ok-remote_tag)
+    rw c.end-3.ensures (ids_whole a.map a.bytes.now a.at (first (goal.at.returns c).In_ok-call_id) (second (goal.at.returns c).In_ok-local_tag) (third (goal.at.returns c).In_ok-remote_tag))

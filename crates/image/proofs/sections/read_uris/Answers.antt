@@ -34,40 +34,40 @@ abbrev end-2-at-In_ok-remote_uri : In_ok-remote_uri → ℕ
 end-2-at-In_ok-remote_uri c = (c.in_ok-local_uri.local_uri).start + (c.in_ok-local_uri.local_uri).length
 
 second : (c : In_ok-local_uri) → UriGot c.args.bytes.now (end-1-at-In_ok-local_uri c) (c.in_ok-local_uri.local_uri) c.in_ok-local_uri.local_secure
-second c = uri_got c.args.bytes.now (end-1-at-In_ok-local_uri c) (first-at-In_ok-local_uri c).got.within (sym c.read_uri_text-2.ensures ∙ c.in_ok-local_uri.was)
+second c = uri_got c.args.bytes.now (end-1-at-In_ok-local_uri c) (first-at-In_ok-local_uri c).got.within (sym (rw c.end.ensures at c.read_uri_text-2.ensures) ∙ c.in_ok-local_uri.was)
 
 second-at-In_ok-remote_uri : (c : In_ok-remote_uri) → UriGot c.args.bytes.now (end-1-at-In_ok-remote_uri c) (c.in_ok-local_uri.local_uri) c.in_ok-local_uri.local_secure
-second-at-In_ok-remote_uri c = uri_got c.args.bytes.now (end-1-at-In_ok-remote_uri c) (first-at-In_ok-remote_uri c).got.within (sym c.read_uri_text-2.ensures ∙ c.in_ok-local_uri.was)
+second-at-In_ok-remote_uri c = uri_got c.args.bytes.now (end-1-at-In_ok-remote_uri c) (first-at-In_ok-remote_uri c).got.within (sym (rw c.end.ensures at c.read_uri_text-2.ensures) ∙ c.in_ok-local_uri.was)
 
 third : (c : In_ok-remote_uri) → UriGot c.args.bytes.now (end-2-at-In_ok-remote_uri c) (c.in_ok-remote_uri.remote_uri) c.in_ok-remote_uri.remote_secure
-third c = uri_got c.args.bytes.now (end-2-at-In_ok-remote_uri c) (second-at-In_ok-remote_uri c).got.within (sym c.read_uri_text-3.ensures ∙ c.in_ok-remote_uri.was)
+third c = uri_got c.args.bytes.now (end-2-at-In_ok-remote_uri c) (second-at-In_ok-remote_uri c).got.within (sym (rw c.end-2.ensures at c.read_uri_text-3.ensures) ∙ c.in_ok-remote_uri.was)
 
-pub overflow_add-target : goal.overflow_add-target
-overflow_add-target c = omega (arith, (first (goal.at.overflow_add-target c).In_ok-target).got.within)
+pub end-requires : goal.end-requires
+end-requires c = omega (arith, (first (goal.at.end-requires c).In_ok-target).got.within)
 
 pub read_uri_text-requires-2 : goal.read_uri_text-requires-2
-read_uri_text-requires-2 c = (first (goal.at.read_uri_text-requires-2 c).In_ok-target).got.within
+read_uri_text-requires-2 c = rw c.end.ensures (first (goal.at.read_uri_text-requires-2 c).In_ok-target).got.within
 
 pub returns-in_err-local_uri : goal.returns-in_err-local_uri
 returns-in_err-local_uri c =
     let a = c.args in
-    c.from_residual-in_err-local_uri.ensures ∙ uris_none_2 a.bytes.now a.at (first (goal.at.returns-in_err-local_uri c).In_ok-target) (uri_not (end-1 (goal.at.returns-in_err-local_uri c).In_ok-target) (uri_text.read (drop (end-1 (goal.at.returns-in_err-local_uri c).In_ok-target) a.bytes.now)) (sym c.read_uri_text-2.ensures ∙ c.in_err-local_uri.was))
+    c.from_residual-in_err-local_uri.ensures ∙ uris_none_2 a.bytes.now a.at (first (goal.at.returns-in_err-local_uri c).In_ok-target) (uri_not (end-1 (goal.at.returns-in_err-local_uri c).In_ok-target) (uri_text.read (drop (end-1 (goal.at.returns-in_err-local_uri c).In_ok-target) a.bytes.now)) (sym (rw c.end.ensures at c.read_uri_text-2.ensures) ∙ c.in_err-local_uri.was))
 
-pub overflow_add-local_uri : goal.overflow_add-local_uri
-overflow_add-local_uri c = omega (arith, (second (goal.at.overflow_add-local_uri c).In_ok-local_uri).got.within)
+pub end-requires-2 : goal.end-requires-2
+end-requires-2 c = omega (arith, (second (goal.at.end-requires-2 c).In_ok-local_uri).got.within)
 
 pub read_uri_text-requires-3 : goal.read_uri_text-requires-3
-read_uri_text-requires-3 c = (second (goal.at.read_uri_text-requires-3 c).In_ok-local_uri).got.within
+read_uri_text-requires-3 c = rw c.end-2.ensures (second (goal.at.read_uri_text-requires-3 c).In_ok-local_uri).got.within
 
 pub returns-in_err-remote_uri : goal.returns-in_err-remote_uri
 returns-in_err-remote_uri c =
     let a = c.args in
-    c.from_residual-in_err-remote_uri.ensures ∙ uris_none_3 a.bytes.now a.at (first (goal.at.returns-in_err-remote_uri c).In_ok-target) (second (goal.at.returns-in_err-remote_uri c).In_ok-local_uri) (uri_not (end-2 (goal.at.returns-in_err-remote_uri c).In_ok-local_uri) (uri_text.read (drop (end-2 (goal.at.returns-in_err-remote_uri c).In_ok-local_uri) a.bytes.now)) (sym c.read_uri_text-3.ensures ∙ c.in_err-remote_uri.was))
+    c.from_residual-in_err-remote_uri.ensures ∙ uris_none_3 a.bytes.now a.at (first (goal.at.returns-in_err-remote_uri c).In_ok-target) (second (goal.at.returns-in_err-remote_uri c).In_ok-local_uri) (uri_not (end-2 (goal.at.returns-in_err-remote_uri c).In_ok-local_uri) (uri_text.read (drop (end-2 (goal.at.returns-in_err-remote_uri c).In_ok-local_uri) a.bytes.now)) (sym (rw c.end-2.ensures at c.read_uri_text-3.ensures) ∙ c.in_err-remote_uri.was))
 
-pub overflow_add-result : goal.overflow_add-result
-overflow_add-result c = omega (arith, (third (goal.at.overflow_add-result c).In_ok-remote_uri).got.within)
+pub end-requires-3 : goal.end-requires-3
+end-requires-3 c = omega (arith, (third (goal.at.end-requires-3 c).In_ok-remote_uri).got.within)
 
 pub returns : goal.returns
 returns c =
     let a = c.args in
-    uris_whole a.bytes.now a.at (first (goal.at.returns c).In_ok-target) (second (goal.at.returns c).In_ok-local_uri) (third (goal.at.returns c).In_ok-remote_uri)
+    rw c.end-3.ensures (uris_whole a.bytes.now a.at (first (goal.at.returns c).In_ok-target) (second (goal.at.returns c).In_ok-local_uri) (third (goal.at.returns c).In_ok-remote_uri))

@@ -12,4 +12,4 @@ part t = (id_text (is_filled t)).write t
 pub returns-clause-out_after : goal.returns-clause-out_after
 returns-clause-out_after c =
     let a = c.args in
-    (wrote_three a.at (part a.id.call_id.now) (part a.id.local_tag.now) (part a.id.remote_tag.now) a.out.now (omega arith) (c.write_id-a.ensures.value, c.write_id-a.ensures.out_after) (c.write_id-b.ensures.value, c.write_id-b.ensures.out_after) (c.write_id.ensures.value, c.write_id.ensures.out_after)).1
+    (wrote_three a.at (part a.front.id.call_id.now) (part a.front.id.local_tag.now) (part a.front.id.remote_tag.now) a.out.now (omega arith) (c.write_id-a.ensures.value, c.write_id-a.ensures.out_after) (c.write_id-b.ensures.value, c.write_id-b.ensures.out_after) (c.write_id.ensures.value, c.write_id.ensures.out_after)).1

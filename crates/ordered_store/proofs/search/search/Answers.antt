@@ -1,49 +1,90 @@
--- `search::search` meets its contract: what is asked of the store is asked of the entries from `at` on. Assumes nothing.
-use Rattle.std.proofs.Common.{◌≡◌, Ok, Some, sym, ap, ◌∙◌, drop}
+-- `search::search` meets its contract: what is asked of the store is asked of the entries left. Assumes nothing.
+use Rattle.std.proofs.Common.{◌≡◌, Ok, Some, sym, ap, subst, ◌∙◌, ℕ, arith, drop, length}
+use Rattle.std.specs.Result.{result_ok}
 use Rattle.codec.proofs.CodecLaws.{bytes_all}
 use Rattle.ordered_store.specs.Layout.{places_read, found_of}
+use Rattle.limits.specs.declared.Refusal.TheVariants.{BadStore}
+use Rattle.ordered_store.specs.Slot.{free}
+use Rattle.ordered_store.specs.Steps.{goes_on}
 use Rattle.ordered_store.proofs.PlaceLaws.{Here}
-use Rattle.ordered_store.proofs.SearchLaws.{start, Turn, turn, ended, unbroken, met, found, passed, gone_by}
+use Rattle.ordered_store.proofs.SearchLaws.{Left, start, Turn, turn, ended, unbroken, met, found, passed, gone_by}
+use Rattle.ordered_store.proofs.WalkLaws.{absent, Given, given, over_at}
 use Rattle.ordered_store.proofs.search.search.Given.{Over}
 use Rattle.ordered_store.proofs.search.search.Goals as goal
-use Rattle.ordered_store.proofs.search.search.Goals.{In-Some, In-loop-at}
+use Rattle.ordered_store.proofs.search.search.Goals.{In_ok-e, In-Some}
 
--- the first entry left
-first : (g : Over) (c : In-loop-at g) → Turn g.E.Entry.layout (g.E.KeyedBy.texts c.args.key) c.args.bytes.now c.loop-at.at
-first g c = turn g.E.Entry.layout (g.E.KeyedBy.texts c.args.key) c.args.bytes.now c.loop-at.at c.requires.lawful c.loop-at.invariant c.loop-at-test.true
+-- the turn, and the first entry left
+now : (g : Over) (c : In-Some g) → Given g.E.Entry.layout c.args.bytes.now c.loop-at.at-iterator.at c.in-Some.at c.in-Some.entry c.next.new.self.bytes.now c.next.new.self.at
+now g c = given g.E.Entry.layout c.args.bytes.now c.loop-at.invariant.same c.in-Some.ensures.steps
 
-read : (g : Over) (c : In-Some g) → places_read g.E.Entry.layout c.loop-at.at (g.E.Entry.layout.form.read (drop c.loop-at.at c.args.bytes.now)) ≡ Some c.in-Some.e
-read g c = sym c.read.ensures ∙ c.in-Some.is
+first : (g : Over) (c : In-Some g) → Turn g.E.Entry.layout (g.E.KeyedBy.texts c.args.key) c.args.bytes.now c.loop-at.at-iterator.at
+first g c = turn g.E.Entry.layout (g.E.KeyedBy.texts c.args.key) c.args.bytes.now c.loop-at.at-iterator.at g.met.E.Entry.lawful c.loop-at.invariant.left (now g c).more
 
-lies : (g : Over) (c : In-Some g) (t : Turn g.E.Entry.layout (g.E.KeyedBy.texts c.args.key) c.args.bytes.now c.loop-at.at)
-    → Here g.E.Entry.layout c.args.bytes.now c.loop-at.at c.in-Some.e t.value
-lies g c t = met g.E.Entry.layout (g.E.KeyedBy.texts c.args.key) c.args.bytes.now c.loop-at.at c.requires.lawful t (read g c)
+read : (g : Over) (c : In_ok-e g) → Given g.E.Entry.layout c.args.bytes.now c.loop-at.at-iterator.at c.in-Some.at c.in-Some.entry c.next.new.self.bytes.now c.next.new.self.at
+    → places_read g.E.Entry.layout c.loop-at.at-iterator.at (g.E.Entry.layout.form.read (drop c.loop-at.at-iterator.at c.args.bytes.now)) ≡ Some c.in_ok-e.e
+read g c w = w.reads ∙ c.ok_or.ensures.ok_part ∙ ap result_ok c.in_ok-e.was
+
+lies : (g : Over) (c : In_ok-e g) → Given g.E.Entry.layout c.args.bytes.now c.loop-at.at-iterator.at c.in-Some.at c.in-Some.entry c.next.new.self.bytes.now c.next.new.self.at
+    → (t : Turn g.E.Entry.layout (g.E.KeyedBy.texts c.args.key) c.args.bytes.now c.loop-at.at-iterator.at) → Here g.E.Entry.layout c.args.bytes.now c.loop-at.at-iterator.at c.in_ok-e.e t.value
+lies g c w t = met g.E.Entry.layout (g.E.KeyedBy.texts c.args.key) c.args.bytes.now c.loop-at.at-iterator.at g.met.E.Entry.lawful t (read g c w)
 
 pub loop-at-init : goal.loop-at-init
-loop-at-init g c = start g.E.Entry.layout (g.E.KeyedBy.texts c.args.key) c.args.bytes.now c.requires.lawful (bytes_all c.args.bytes.now (λ i. (c.type_inv.bytes i).fits)) c.requires.stored
+loop-at-init g c =
+    let s = c.args.bytes.now in
+    let e = c.into_iter-at-iterator.ensures.into_iter_gives in
+    let z : c.into_iter-at-iterator.result.at ≡ 0 = ap (λ i. i.at) e ∙ c.new-at-items.ensures.at in
+    record {
+      same = ap (λ i. i.bytes.now) e ∙ c.new-at-items.ensures.bytes;
+      left = subst (Left g.E.Entry.layout (g.E.KeyedBy.texts c.args.key) s) (sym z) (start g.E.Entry.layout (g.E.KeyedBy.texts c.args.key) s g.met.E.Entry.lawful (bytes_all s (λ i. (c.type_inv.bytes i).fits)) c.requires);
+    }
 
-pub returns-in_default : goal.returns-in_default
-returns-in_default g c =
-    absurd (unbroken g.E.Entry.layout (g.E.KeyedBy.texts c.args.key) c.args.bytes.now c.loop-at.at c.requires.lawful (first g (goal.at.returns-in_default g c).In-loop-at) (sym c.read.ensures ∙ c.in_default.is))
+pub returns-in_err-e : goal.returns-in_err-e
+returns-in_err-e g c =
+    let i = (goal.at.returns-in_err-e g c).In-Some in
+    absurd (unbroken g.E.Entry.layout (g.E.KeyedBy.texts c.args.key) c.args.bytes.now c.loop-at.at-iterator.at g.met.E.Entry.lawful (first g i) ((now g i).reads ∙ absent c.in-Some.entry BadStore c.ok_or.ensures.value c.in_err-e.was))
+
+pub loop-at-smaller : goal.loop-at-smaller
+loop-at-smaller g c =
+    let w = now g (goal.at.loop-at-smaller g c).In-Some in
+    let h = lies g (goal.at.loop-at-smaller g c).In_ok-e w (first g (goal.at.loop-at-smaller g c).In-Some) in
+    let e : c.next.new.self.at ≡ g.E.Entry.layout.end_of c.in_ok-e.e = w.ends ∙ ap (goes_on g.E.Entry.layout c.args.bytes.now) (c.ok_or.ensures.ok_part ∙ ap result_ok c.in_ok-e.was) in
+    omega (arith, e, h.moves, h.within, ap length w.same, ap length c.loop-at.invariant.same)
 
 pub compare-requires : goal.compare-requires
-compare-requires g c = (lies g c (first g (goal.at.compare-requires g c).In-loop-at)).inside
+compare-requires g c =
+    let i = (goal.at.compare-requires g c).In-Some in
+    (lies g c (now g i) (first g i)).inside
 
 pub loop-at-preserved : goal.loop-at-preserved
 loop-at-preserved g c =
-    rw c.end-at.ensures (gone_by g.E.Entry.layout (g.E.KeyedBy.texts c.args.key) c.args.bytes.now c.loop-at.at c.requires.lawful (first g (goal.at.loop-at-preserved g c).In-loop-at)
-    (read g (goal.at.loop-at-preserved g c).In-Some) c.compare.ensures c.in-Less.is)
+    let i = (goal.at.loop-at-preserved g c).In-Some in
+    let w = now g i in
+    let e : c.next.new.self.at ≡ g.E.Entry.layout.end_of c.in_ok-e.e = w.ends ∙ ap (goes_on g.E.Entry.layout c.args.bytes.now) (c.ok_or.ensures.ok_part ∙ ap result_ok c.in_ok-e.was) in
+    record {
+      same = w.same;
+      left = subst (Left g.E.Entry.layout (g.E.KeyedBy.texts c.args.key) c.args.bytes.now) (sym e)
+          (gone_by g.E.Entry.layout (g.E.KeyedBy.texts c.args.key) c.args.bytes.now c.loop-at.at-iterator.at g.met.E.Entry.lawful (first g i) (read g (goal.at.loop-at-preserved g c).In_ok-e w) c.compare.ensures c.in-Less.is);
+    }
 
 pub returns-in-Equal : goal.returns-in-Equal
 returns-in-Equal g c =
-    let t = first g (goal.at.returns-in-Equal g c).In-loop-at in
-    ap (λ p. Ok (Ok p)) (lies g (goal.at.returns-in-Equal g c).In-Some t).placed
-    ∙ ap (found_of g.E.Entry.layout) (found g.E.Entry.layout (g.E.KeyedBy.texts c.args.key) c.args.bytes.now c.loop-at.at c.requires.lawful t (read g (goal.at.returns-in-Equal g c).In-Some) c.compare.ensures c.in-Equal.is)
+    let i = (goal.at.returns-in-Equal g c).In-Some in
+    let w = now g i in
+    ap (λ p. Ok (Ok p)) (lies g (goal.at.returns-in-Equal g c).In_ok-e w (first g i)).placed
+    ∙ ap (found_of g.E.Entry.layout) (found g.E.Entry.layout (g.E.KeyedBy.texts c.args.key) c.args.bytes.now c.loop-at.at-iterator.at g.met.E.Entry.lawful (first g i) (read g (goal.at.returns-in-Equal g c).In_ok-e w) c.compare.ensures c.in-Equal.is)
 
 pub returns-in-Greater : goal.returns-in-Greater
 returns-in-Greater g c =
-    ap (found_of g.E.Entry.layout) (passed g.E.Entry.layout (g.E.KeyedBy.texts c.args.key) c.args.bytes.now c.loop-at.at c.requires.lawful (first g (goal.at.returns-in-Greater g c).In-loop-at)
-    (read g (goal.at.returns-in-Greater g c).In-Some) c.compare.ensures c.in-Greater.is)
+    let i = (goal.at.returns-in-Greater g c).In-Some in
+    let w = now g i in
+    ap (found_of g.E.Entry.layout)
+    (ap (λ (k : ℕ). Some (free k)) w.from
+    ∙ passed g.E.Entry.layout (g.E.KeyedBy.texts c.args.key) c.args.bytes.now c.loop-at.at-iterator.at g.met.E.Entry.lawful (first g i) (read g (goal.at.returns-in-Greater g c).In_ok-e w) c.compare.ensures c.in-Greater.is)
 
 pub returns : goal.returns
-returns g c = ap (found_of g.E.Entry.layout) (ended g.E.Entry.layout (g.E.KeyedBy.texts c.args.key) c.args.bytes.now c.loop-at.at c.requires.lawful c.loop-at.invariant c.loop-at-test.false)
+returns g c =
+    let s = c.args.bytes.now in
+    let r = c.loop-at.at-iterator in
+    let h = over_at g.E.Entry.layout s c.loop-at.invariant.same c.in-None.ensures.steps in
+    let e : length s ≡ r.at = omega (arith, h, c.loop-at.invariant.left.inside) in
+    ap (found_of g.E.Entry.layout) (ap (λ (k : ℕ). Some (free k)) e ∙ ended g.E.Entry.layout (g.E.KeyedBy.texts c.args.key) s r.at g.met.E.Entry.lawful c.loop-at.invariant.left h)

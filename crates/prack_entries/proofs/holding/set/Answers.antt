@@ -32,22 +32,27 @@ old c = (c.in-Ok.t).end - from c
 inside : (c : In-Ok) → from c + old c ≤ c.args.used
 inside c = omega (arith, (F c).text_inside, (F c).end_within)
 
+pub end-from-requires : goal.end-from-requires
+end-from-requires c = omega (arith, inside (goal.at.end-from-requires c).In-Ok, (S (goal.at.end-from-requires c).In-Ok).within)
+
 pub overflow_sub-used : goal.overflow_sub-used
-overflow_sub-used c = omega (arith, inside (goal.at.overflow_sub-used c).In-Ok)
+overflow_sub-used c = omega (arith, inside (goal.at.overflow_sub-used c).In-Ok, c.end-from.ensures)
 
 pub returns-then-bytes-used-clause-value : goal.returns-then-bytes-used-clause-value
 returns-then-bytes-used-clause-value c =
-    let k = by_held (c.args.id.now) (c.args.bytes.now) (c.args.body.now) (c.args.used) (bytes_all (c.args.bytes.now) (λ i. (c.type_inv.bytes i).fits)) c.in-Ok.is (no_room (c.args.bytes.now) (c.args.body.now) (c.args.used) (from (goal.at.returns-then-bytes-used-clause-value c).In-Ok) (old (goal.at.returns-then-bytes-used-clause-value c).In-Ok) (inside (goal.at.returns-then-bytes-used-clause-value c).In-Ok) (S (goal.at.returns-then-bytes-used-clause-value c).In-Ok).within c.if-bytes-used.true) in
+    let k = by_held (c.args.id.now) (c.args.bytes.now) (c.args.body.now) (c.args.used) (bytes_all (c.args.bytes.now) (λ i. (c.type_inv.bytes i).fits)) c.in-Ok.is (no_room (c.args.bytes.now) (c.args.body.now) (c.args.used) (from (goal.at.returns-then-bytes-used-clause-value c).In-Ok) (old (goal.at.returns-then-bytes-used-clause-value c).In-Ok) (inside (goal.at.returns-then-bytes-used-clause-value c).In-Ok) (S (goal.at.returns-then-bytes-used-clause-value c).In-Ok).within (rw c.end-from.ensures at c.if-bytes-used.true)) in
     λ w x e f. (k w x e f).0
 
 pub returns-then-bytes-used-clause-bytes_after : goal.returns-then-bytes-used-clause-bytes_after
 returns-then-bytes-used-clause-bytes_after c =
-    let k = by_held (c.args.id.now) (c.args.bytes.now) (c.args.body.now) (c.args.used) (bytes_all (c.args.bytes.now) (λ i. (c.type_inv.bytes i).fits)) c.in-Ok.is (no_room (c.args.bytes.now) (c.args.body.now) (c.args.used) (from (goal.at.returns-then-bytes-used-clause-bytes_after c).In-Ok) (old (goal.at.returns-then-bytes-used-clause-bytes_after c).In-Ok) (inside (goal.at.returns-then-bytes-used-clause-bytes_after c).In-Ok) (S (goal.at.returns-then-bytes-used-clause-bytes_after c).In-Ok).within c.if-bytes-used.true) in
+    let k = by_held (c.args.id.now) (c.args.bytes.now) (c.args.body.now) (c.args.used) (bytes_all (c.args.bytes.now) (λ i. (c.type_inv.bytes i).fits)) c.in-Ok.is (no_room (c.args.bytes.now) (c.args.body.now) (c.args.used) (from (goal.at.returns-then-bytes-used-clause-bytes_after c).In-Ok) (old (goal.at.returns-then-bytes-used-clause-bytes_after c).In-Ok) (inside (goal.at.returns-then-bytes-used-clause-bytes_after c).In-Ok) (S (goal.at.returns-then-bytes-used-clause-bytes_after c).In-Ok).within (rw c.end-from.ensures at c.if-bytes-used.true)) in
     λ w x e f. (k w x e f).1
 
 pub replace-requires : goal.replace-requires
 replace-requires c =
-    (omega (arith, inside (goal.at.replace-requires c).In-Ok), (S (goal.at.replace-requires c).In-Ok).within, omega (arith, inside (goal.at.replace-requires c).In-Ok, (S (goal.at.replace-requires c).In-Ok).within, c.if-bytes-used.false))
+    let i = inside (goal.at.replace-requires c).In-Ok in
+    let w = (S (goal.at.replace-requires c).In-Ok).within in
+    (omega (arith, i, c.end-from.ensures), w, omega (arith, i, w, c.if-bytes-used.false, c.end-from.ensures))
 
 pub insert-requires-clause-at_le_used : goal.insert-requires-clause-at_le_used
 insert-requires-clause-at_le_used c =
@@ -56,12 +61,12 @@ insert-requires-clause-at_le_used c =
 
 pub returns-else-bytes-used-clause-value : goal.returns-else-bytes-used-clause-value
 returns-else-bytes-used-clause-value c =
-    let k = by_held (c.args.id.now) (c.args.bytes.now) (c.args.body.now) (c.args.used) (known-at-In-Ok (goal.at.returns-else-bytes-used-clause-value c).In-Ok) c.in-Ok.is (replaced (c.args.bytes.now) (c.args.body.now) (c.args.used) (from (goal.at.returns-else-bytes-used-clause-value c).In-Ok) (old (goal.at.returns-else-bytes-used-clause-value c).In-Ok) (inside (goal.at.returns-else-bytes-used-clause-value c).In-Ok) (S (goal.at.returns-else-bytes-used-clause-value c).In-Ok).within c.if-bytes-used.false c.replace.ensures.value (c.replace.ensures.bytes_after)) in
+    let k = by_held (c.args.id.now) (c.args.bytes.now) (c.args.body.now) (c.args.used) (known-at-In-Ok (goal.at.returns-else-bytes-used-clause-value c).In-Ok) c.in-Ok.is (replaced (c.args.bytes.now) (c.args.body.now) (c.args.used) (from (goal.at.returns-else-bytes-used-clause-value c).In-Ok) (old (goal.at.returns-else-bytes-used-clause-value c).In-Ok) (inside (goal.at.returns-else-bytes-used-clause-value c).In-Ok) (S (goal.at.returns-else-bytes-used-clause-value c).In-Ok).within (rw c.end-from.ensures at c.if-bytes-used.false) (rw c.end-from.ensures at c.replace.ensures.value) (rw c.end-from.ensures at c.replace.ensures.bytes_after)) in
     λ w x e f. (k w x e f).0
 
 pub returns-else-bytes-used-clause-bytes_after : goal.returns-else-bytes-used-clause-bytes_after
 returns-else-bytes-used-clause-bytes_after c =
-    let k = by_held (c.args.id.now) (c.args.bytes.now) (c.args.body.now) (c.args.used) (known-at-In-Ok (goal.at.returns-else-bytes-used-clause-bytes_after c).In-Ok) c.in-Ok.is (replaced (c.args.bytes.now) (c.args.body.now) (c.args.used) (from (goal.at.returns-else-bytes-used-clause-bytes_after c).In-Ok) (old (goal.at.returns-else-bytes-used-clause-bytes_after c).In-Ok) (inside (goal.at.returns-else-bytes-used-clause-bytes_after c).In-Ok) (S (goal.at.returns-else-bytes-used-clause-bytes_after c).In-Ok).within c.if-bytes-used.false c.replace.ensures.value (c.replace.ensures.bytes_after)) in
+    let k = by_held (c.args.id.now) (c.args.bytes.now) (c.args.body.now) (c.args.used) (known-at-In-Ok (goal.at.returns-else-bytes-used-clause-bytes_after c).In-Ok) c.in-Ok.is (replaced (c.args.bytes.now) (c.args.body.now) (c.args.used) (from (goal.at.returns-else-bytes-used-clause-bytes_after c).In-Ok) (old (goal.at.returns-else-bytes-used-clause-bytes_after c).In-Ok) (inside (goal.at.returns-else-bytes-used-clause-bytes_after c).In-Ok) (S (goal.at.returns-else-bytes-used-clause-bytes_after c).In-Ok).within (rw c.end-from.ensures at c.if-bytes-used.false) (rw c.end-from.ensures at c.replace.ensures.value) (rw c.end-from.ensures at c.replace.ensures.bytes_after)) in
     λ w x e f. (k w x e f).1
 
 pub returns-in-Err-clause-value : goal.returns-in-Err-clause-value

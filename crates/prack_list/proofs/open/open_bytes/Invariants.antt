@@ -1,10 +1,7 @@
-use Prim.Native.Nat.{◌≤◌}
+-- The bytes left are those of whole entries, and of the entries before them those that are open are written.
 use mathlib.Core.Path.{◌≡◌}
-use lib.ListN.{length}
-use Rattle.prack_body.specs.Lists.{Tracked, entries_of}
-use Rattle.prack_body.specs.Body.{Holds}
-use Rattle.prack_list.proofs.OpenLaws.{Opening}
+use Rattle.prack_list.proofs.OpenLaws.{Written}
 use Rattle.prack_list.proofs.open.open_bytes.Given as goal
 
-abbrev pub invariant-loop-i : goal.invariant-loop-i
-invariant-loop-i l = (l.i ≤ l.count) × ((length l.out ≡ length l.initial.out) × ((t : Tracked) → Holds l.body (length l.body) t → Opening (entries_of t.list) l.initial.out l.i l.to l.out))
+abbrev pub invariant-loop-entry : goal.invariant-loop-entry
+invariant-loop-entry l = record { size : l.entry-iterator.size ≡ 20; written : Written l.body l.initial.out l.entry-iterator.rest.now l.to l.out }

@@ -1,22 +1,38 @@
 -- `open::open_size` meets its contract: at each turn the size is that of the entries left beside those counted. Assumes nothing.
-use Prim.Native.Nat.{◌+◌}
-use mathlib.Core.Path.{◌≡◌, ap}
+use mathlib.Core.Path.{ap, sym, ◌∙◌}
 use lib.ListN.{length}
+use Rattle.std.proofs.lemmas.List.{take_rest}
 use Rattle.prack_body.specs.Lists.{entries_of}
-use Rattle.prack_list.proofs.OpenLaws.{entry_count, next_entry, open_long, closed_turn, open_end}
+use Rattle.prack_list.proofs.OpenLaws.{entry_count, open_end, counting, count_fits, counted_one, left_out, all_counted}
 use native.Mathlib.Omega.{arith}
 use Rattle.prack_list.proofs.open.open_size.Goals as goal
-use Rattle.prack_list.proofs.open.open_size.Goals.{else-body-i-eq0, then-body-i-eq0}
 
-pub loop-i-preserved : goal.loop-i-preserved
-loop-i-preserved c =
-    let a = c.args in
-    elim c.if-body-i-eq0.branch [
-      | then-body-i-eq0 w ↦ let k : c.if-body-i-eq0.size ≡ c.loop-i.size + 6 = w.size-is in
-          (omega arith, (omega arith, λ t h. let x = next_entry h c.loop-i.i (omega arith) in omega (arith, c.loop-i.invariant.1.1 t h, open_long x w.if-body-i-eq0.true)))
-      | else-body-i-eq0 w ↦ let k : c.if-body-i-eq0.size ≡ c.loop-i.size = w.size-is in
-          (omega arith, (omega arith, λ t h. let x = next_entry h c.loop-i.i (omega arith) in omega (arith, c.loop-i.invariant.1.1 t h, ap length (closed_turn x w.if-body-i-eq0.false))))
-    ]
+pub returns-then-body-lt-ENTRIES_AT : goal.returns-then-body-lt-ENTRIES_AT
+returns-then-body-lt-ENTRIES_AT c = λ t h. sym (ap length (open_end 0 (entries_of t.list) (omega (arith, entry_count h, c.if-body-lt-ENTRIES_AT.true))))
+
+pub loop-entry-init : goal.loop-entry-init
+loop-entry-init c =
+    let e = c.into_iter-entry-iterator.ensures.into_iter_gives in
+    let f = c.chunks_exact-entry-items.ensures in
+    record { size = ap (λ i. i.size) e ∙ f.size; counted = counting c.args.body.now (ap (λ i. i.rest.now) e ∙ f.rest ∙ take_rest c.args.body.now 10) }
+
+pub overflow_add-size : goal.overflow_add-size
+overflow_add-size c =
+    let i = c.loop-entry.invariant in
+    let e = c.in-Some.ensures.steps.1 in
+    omega (arith, count_fits i.counted _ _ e.0 (e.1 ∙ i.size))
+
+pub loop-entry-preserved-then-entry-eq0 : goal.loop-entry-preserved-then-entry-eq0
+loop-entry-preserved-then-entry-eq0 c =
+    let i = c.loop-entry.invariant in
+    let e = c.in-Some.ensures.steps in
+    record { size = e.0 ∙ i.size; counted = counted_one i.counted _ _ e.1.0 (e.1.1 ∙ i.size) c.if-entry-eq0.true }
+
+pub loop-entry-preserved : goal.loop-entry-preserved
+loop-entry-preserved c =
+    let i = c.loop-entry.invariant in
+    let e = c.in-Some.ensures.steps in
+    record { size = e.0 ∙ i.size; counted = left_out i.counted _ _ e.1.0 (e.1.1 ∙ i.size) c.if-entry-eq0.false }
 
 pub returns : goal.returns
-returns c = λ t h. omega (arith, c.loop-i.invariant.1.1 t h, ap length (open_end c.loop-i.i (entries_of t.list) (omega (arith, entry_count h))))
+returns c = all_counted c.if-body-lt-ENTRIES_AT.false c.loop-entry.invariant.counted (omega (arith, c.in-None.ensures.steps.1.0))

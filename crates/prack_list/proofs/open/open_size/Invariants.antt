@@ -1,11 +1,7 @@
-use Prim.Native.Nat.{◌+◌, ◌*◌, ◌≤◌}
+-- The bytes left are those of whole entries, and of the entries before them those that are open are counted.
 use mathlib.Core.Path.{◌≡◌}
-use lib.ListN.{length}
-use Rattle.prack_body.specs.Lists.{Tracked, entries_of, open_in}
-use Rattle.prack_body.specs.Layout.{open_bytes}
-use Rattle.prack_body.specs.Body.{Holds}
-use Rattle.prack_list.proofs.OpenLaws.{opened}
+use Rattle.prack_list.proofs.OpenLaws.{Counted}
 use Rattle.prack_list.proofs.open.open_size.Given as goal
 
-abbrev pub invariant-loop-i : goal.invariant-loop-i
-invariant-loop-i l = (l.i ≤ l.count) × ((l.size ≤ l.i * 6) × ((t : Tracked) → Holds l.body (length l.body) t → l.size + length (opened l.i (entries_of t.list)) ≡ length (open_bytes (open_in t.list))))
+abbrev pub invariant-loop-entry : goal.invariant-loop-entry
+invariant-loop-entry l = record { size : l.entry-iterator.size ≡ 20; counted : Counted l.body l.entry-iterator.rest.now l.size }

@@ -2,7 +2,6 @@ use Prim.Native.Nat.{◌*◌, ◌≤◌}
 use mathlib.Core.Path.{◌≡◌}
 use mathlib.Core.Bool.{false}
 use mathlib.Core.List.{◌++◌}
-use lib.ListN.{length}
 use Rattle.limits.specs.Limits.{rust_limits}
 use Rattle.msg.specs.Lines.{values_ahead}
 use Rattle.route_set.specs.Routes.{route_elements}
@@ -13,9 +12,9 @@ use Rattle.route_section.proofs.FillingLaws.{AllShort}
 use Rattle.route_section.proofs.filling.fill_routes.Given as goal
 
 abbrev pub invariant-loop-e : goal.invariant-loop-e
-invariant-loop-e l =
-    (filled rust_limits l.reversed (record { count = 0; size = 0; bytes = l.fn.out }) (route_elements l.block)
-    ≡ filled rust_limits l.reversed (record { count = l.count; size = l.size; bytes = l.out }) (elements_ahead l.e-iterator ++ elements_among (values_ahead l.v-iterator)))
+invariant-loop-e g l =
+    (filled rust_limits g.O.Order.reversed (record { count = 0; size = 0; bytes = l.fn.out }) (route_elements l.block)
+    ≡ filled rust_limits g.O.Order.reversed (record { count = l.count; size = l.size; bytes = l.out }) (elements_ahead l.e-iterator ++ elements_among (values_ahead l.v-iterator)))
     × (l.full ≡ false)
     × (l.count ≤ 50)
     × (l.size ≤ l.count * 8194)
@@ -23,9 +22,9 @@ invariant-loop-e l =
     × AllShort 8192 (values_ahead l.v-iterator)
 
 abbrev pub invariant-lines : goal.invariant-lines
-invariant-lines l =
-    (filled rust_limits l.reversed (record { count = 0; size = 0; bytes = l.fn.out }) (route_elements l.block)
-    ≡ filled rust_limits l.reversed (record { count = l.count; size = l.size; bytes = l.out }) (elements_among (values_ahead l.v-iterator)))
+invariant-lines g l =
+    (filled rust_limits g.O.Order.reversed (record { count = 0; size = 0; bytes = l.fn.out }) (route_elements l.block)
+    ≡ filled rust_limits g.O.Order.reversed (record { count = l.count; size = l.size; bytes = l.out }) (elements_among (values_ahead l.v-iterator)))
     × (l.full ≡ false)
     × (l.count ≤ 50)
     × (l.size ≤ l.count * 8194)

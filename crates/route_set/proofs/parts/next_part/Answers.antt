@@ -8,7 +8,7 @@ pub loop-g-init : goal.loop-g-init
 loop-g-init c = first_among c.args.from _ ∙ ap element_among (sym (rw c.into_iter-g-iterator.ensures.into_iter_gives c.from-g-items.ensures))
 
 pub returns-then-p-gt0 : goal.returns-then-p-gt0
-returns-then-p-gt0 c = element_here _ _ _ c.in-Some.ensures.steps _ c.trim_span-p.ensures.value c.if-p-gt0.true ∙ ap part_from (sym c.loop-g.invariant)
+returns-then-p-gt0 c = rw c.moved.ensures (element_here _ _ _ c.in-Some.ensures.steps _ c.trim_span-p.ensures.value c.if-p-gt0.true ∙ ap part_from (sym c.loop-g.invariant))
 
 pub loop-g-preserved : goal.loop-g-preserved
 loop-g-preserved c = c.loop-g.invariant ∙ element_later _ _ _ c.in-Some.ensures.steps _ c.trim_span-p.ensures.value c.if-p-gt0.false

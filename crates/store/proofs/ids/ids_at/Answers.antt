@@ -1,75 +1,28 @@
--- `ids::ids_at` meets its contract: each step goes past one text of the identifier. Assumes nothing.
+-- `ids::ids_at` meets its contract: each text lies between the end of the one before it and its own. Assumes nothing.
 use Prim.Native.Nat.{◌+◌}
 use native.Mathlib.Omega.{arith}
-use mathlib.Core.Path.{◌≡◌, sym, ap, ◌∙◌}
-use Rattle.std.specs.Prelude.{Some}
-use Rattle.codec.specs.Codec.{Reading}
-use Rattle.record.specs.Record.{Record}
-use Rattle.codec.proofs.CodecLaws.{Bytes, bytes_all}
-use Rattle.image.specs.Places.{ids_places, ids_of}
-use Rattle.record_walk.proofs.Images
+use Rattle.record.specs.Record.{fields_of}
+use Rattle.record_walk.specs.Walk.{EndsOf}
 use Rattle.store.proofs.IdLaws.{three}
 use Rattle.store.proofs.ids.ids_at.Goals as goal
+use Rattle.store.proofs.ids.ids_at.Goals.{After-id_ends-ends}
 
-pub two-map-requires : goal.two-map-requires
-two-map-requires c =
-    let k : Bytes c.args.bytes.now = bytes_all c.args.bytes.now (λ i. (c.type_inv.bytes i).fits) in
-    Images.map_here c.args.bytes.now c.args.p k c.requires
-
-pub past-second-requires : goal.past-second-requires
-past-second-requires c =
-    let k : Bytes c.args.bytes.now = bytes_all c.args.bytes.now (λ i. (c.type_inv.bytes i).fits) in
-    let f = Images.first_past c.args.bytes.now c.args.p k c.requires c.two-map.result c.two-map.ensures.0 in
-    rw f (Images.second_at c.args.bytes.now c.args.p k c.requires).here
-
-pub past-third-requires : goal.past-third-requires
-past-third-requires c =
-    let k : Bytes c.args.bytes.now = bytes_all c.args.bytes.now (λ i. (c.type_inv.bytes i).fits) in
-    let f = Images.first_past c.args.bytes.now c.args.p k c.requires c.two-map.result c.two-map.ensures.0 in
-    let g = Images.second_past c.args.bytes.now c.args.p k c.requires c.two-map.result c.past-second.result c.two-map.ensures.0 (c.past-second.ensures ∙ f) in
-    rw g (Images.third_at c.args.bytes.now c.args.p k c.requires).here
-
-pub past-end-requires : goal.past-end-requires
-past-end-requires c =
-    let k : Bytes c.args.bytes.now = bytes_all c.args.bytes.now (λ i. (c.type_inv.bytes i).fits) in
-    let f = Images.first_past c.args.bytes.now c.args.p k c.requires c.two-map.result c.two-map.ensures.0 in
-    let g = Images.second_past c.args.bytes.now c.args.p k c.requires c.two-map.result c.past-second.result c.two-map.ensures.0 (c.past-second.ensures ∙ f) in
-    let h = Images.third_past c.args.bytes.now c.args.p k c.requires c.two-map.result c.past-third.result c.two-map.ensures.0 (c.past-third.ensures ∙ g) in
-    rw h (Images.after_at c.args.bytes.now c.args.p k c.requires).here
+-- the ends of the texts of the record that stands there
+known : (c : After-id_ends-ends) → EndsOf (c.args.p + 2) (fields_of c.requires.reading.value).first c.id_ends-ends.result
+known c = c.id_ends-ends.ensures.ends c.requires.reading c.requires.reads
 
 pub span_to-requires : goal.span_to-requires
-span_to-requires c =
-    let k : Bytes c.args.bytes.now = bytes_all c.args.bytes.now (λ i. (c.type_inv.bytes i).fits) in
-    let f = Images.first_past c.args.bytes.now c.args.p k c.requires c.two-map.result c.two-map.ensures.0 in
-    omega (arith, c.past-second.ensures ∙ f)
+span_to-requires c = let e = known (goal.at.span_to-requires c).After-id_ends-ends in omega (arith, e.0)
 
 pub span_to-requires-2 : goal.span_to-requires-2
-span_to-requires-2 c =
-    let k : Bytes c.args.bytes.now = bytes_all c.args.bytes.now (λ i. (c.type_inv.bytes i).fits) in
-    let f = Images.first_past c.args.bytes.now c.args.p k c.requires c.two-map.result c.two-map.ensures.0 in
-    let g = Images.second_past c.args.bytes.now c.args.p k c.requires c.two-map.result c.past-second.result c.two-map.ensures.0 (c.past-second.ensures ∙ f) in
-    omega (arith, c.past-second.ensures ∙ f, c.past-third.ensures ∙ g)
+span_to-requires-2 c = let e = known (goal.at.span_to-requires-2 c).After-id_ends-ends in omega (arith, e.1)
 
 pub span_to-requires-3 : goal.span_to-requires-3
-span_to-requires-3 c =
-    let k : Bytes c.args.bytes.now = bytes_all c.args.bytes.now (λ i. (c.type_inv.bytes i).fits) in
-    let f = Images.first_past c.args.bytes.now c.args.p k c.requires c.two-map.result c.two-map.ensures.0 in
-    let g = Images.second_past c.args.bytes.now c.args.p k c.requires c.two-map.result c.past-second.result c.two-map.ensures.0 (c.past-second.ensures ∙ f) in
-    let h = Images.third_past c.args.bytes.now c.args.p k c.requires c.two-map.result c.past-third.result c.two-map.ensures.0 (c.past-third.ensures ∙ g) in
-    omega (arith, c.past-third.ensures ∙ g, c.past-end.ensures ∙ h)
+span_to-requires-3 c = let e = known (goal.at.span_to-requires-3 c).After-id_ends-ends in omega (arith, e.2)
 
 pub returns : goal.returns
 returns c x e =
-    let k : Bytes c.args.bytes.now = bytes_all c.args.bytes.now (λ i. (c.type_inv.bytes i).fits) in
-    let f = Images.first_past c.args.bytes.now c.args.p k c.requires c.two-map.result c.two-map.ensures.0 in
-    let g = Images.second_past c.args.bytes.now c.args.p k c.requires c.two-map.result c.past-second.result c.two-map.ensures.0 (c.past-second.ensures ∙ f) in
-    let h = Images.third_past c.args.bytes.now c.args.p k c.requires c.two-map.result c.past-third.result c.two-map.ensures.0 (c.past-third.ensures ∙ g) in
-    let q : Some c.requires.reading ≡ Some x = sym c.requires.reads ∙ e in
-    let r : c.requires.reading ≡ x = cc in
-    let v : Images.rec c.args.bytes.now c.args.p k c.requires ≡ x.value = ap (λ (y : Reading Record). y.value) r in
-    let i = Images.ids c.args.bytes.now c.args.p k c.requires in
-    let a = c.past-second.ensures ∙ f in
-    let b = c.past-third.ensures ∙ g in
-    let d = c.past-end.ensures ∙ h in
-    three (c.args.p + 2) i c.past-second.result c.past-third.result c.past-end.result c.span_to.result c.span_to-2.result c.span_to-3.result a (omega (arith, a, b)) (omega (arith, b, d)) c.span_to.ensures c.span_to-2.ensures c.span_to-3.ensures
-    ∙ ap (λ (r : Record). ids_places (c.args.p + 2) (ids_of r)) v
+    let i = (fields_of x.value).first in
+    let q : EndsOf (c.args.p + 2) i c.id_ends-ends.result = c.id_ends-ends.ensures.ends x e in
+    let d = c.id_ends-ends.result in
+    three (c.args.p + 2) i d.call_id d.local_tag d.remote_tag c.span_to.result c.span_to-2.result c.span_to-3.result q.0 q.1 q.2 c.span_to.ensures c.span_to-2.ensures c.span_to-3.ensures

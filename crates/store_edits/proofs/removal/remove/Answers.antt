@@ -10,13 +10,6 @@ use Rattle.store_edits.proofs.RemoveLaws.{turned_back, removes, refuses}
 use native.Mathlib.Omega.{arith}
 use Rattle.store_edits.proofs.removal.remove.Goals as goal
 
--- the parts of what several clauses say together
-first2 : {A B : Type 0} → A × B → A
-first2 p = p.0
-
-second2 : {A B : Type 0} → A × B → B
-second2 p = p.1
-
 pub replace-requires : goal.replace-requires
 replace-requires c =
     let a = c.args in
@@ -40,9 +33,9 @@ returns-clause-bytes_after c =
 pub returns-in_err-at-clause-value : goal.returns-in_err-at-clause-value
 returns-in_err-at-clause-value c =
     let a = c.args in
-    err_is c.from_residual.result _ c.from_residual.ensures.1 ∙ first2 (turned_back (refuses rust_limits (length a.bytes.now) a.id.call_id.now a.id.local_tag.now a.id.remote_tag.now a.bytes.now a.used (bytes_all a.bytes.now (λ i. (c.slice_known-1.given i).fits)) _ (ap answer_in (sym c.in_err-at.was) ∙ c.get.ensures)))
+    err_is c.from_residual.result _ c.from_residual.ensures.1 ∙ (turned_back (refuses rust_limits (length a.bytes.now) a.id.call_id.now a.id.local_tag.now a.id.remote_tag.now a.bytes.now a.used (bytes_all a.bytes.now (λ i. (c.slice_known-1.given i).fits)) _ (ap answer_in (sym c.in_err-at.was) ∙ c.get.ensures))).0
 
 pub returns-in_err-at-clause-bytes_after : goal.returns-in_err-at-clause-bytes_after
 returns-in_err-at-clause-bytes_after c =
     let a = c.args in
-    second2 (turned_back (refuses rust_limits (length a.bytes.now) a.id.call_id.now a.id.local_tag.now a.id.remote_tag.now a.bytes.now a.used (bytes_all a.bytes.now (λ i. (c.slice_known-1.given i).fits)) _ (ap answer_in (sym c.in_err-at.was) ∙ c.get.ensures)))
+    (turned_back (refuses rust_limits (length a.bytes.now) a.id.call_id.now a.id.local_tag.now a.id.remote_tag.now a.bytes.now a.used (bytes_all a.bytes.now (λ i. (c.slice_known-1.given i).fits)) _ (ap answer_in (sym c.in_err-at.was) ∙ c.get.ensures))).1

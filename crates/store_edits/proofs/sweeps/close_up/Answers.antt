@@ -1,18 +1,19 @@
 -- `sweeps::close_up` meets its contract: the front is the images that stay, the bytes after it are what they were. Assumes nothing.
-use Prim.Native.Nat.{ℕ, ◌+◌, ◌-◌, ◌≤◌}
-use mathlib.Core.Path.{sym, ap, ◌∙◌}
+use Prim.Native.Nat.{ℕ, ◌-◌}
+use mathlib.Core.Path.{sym, ap, subst, ◌∙◌}
 use mathlib.Core.List.{List}
 use lib.ListN.{length}
 use Rattle.edit.specs.Edit.{over}
 use Rattle.codec.proofs.CodecLaws.{bytes_all}
-use Rattle.store_edits.specs.Edits.{StayingAt}
+use Rattle.store_edits.specs.Edits.{TerminatedAt}
 use Rattle.store_edits.proofs.SweepLaws.{start, stands, Next, next, done, same_long}
 use native.Mathlib.Omega.{arith}
 use Rattle.store_edits.proofs.sweeps.close_up.Goals as goal
+use Rattle.store_edits.proofs.sweeps.close_up.Goals.{After-record_end-end}
 
--- how many bytes stay
-few : (s : List ℕ) (used : ℕ) (bytes : List ℕ) (at to end n : ℕ) → Next s used bytes at to end → StayingAt bytes at (end - at) n → at + n ≤ used
-few s used bytes at to end n t h = omega (arith, t.few n h, t.moves, t.fits)
+-- the turn
+turn : (c : After-record_end-end) → let l = c.loop-at in Next c.args.bytes.now c.args.used l.bytes l.at l.to c.record_end-end.result
+turn c = let l = c.loop-at in next c.args.bytes.now c.args.used l.bytes l.at l.to l.invariant c.loop-at-test.true c.record_end-end.result c.record_end-end.ensures
 
 pub loop-at-init : goal.loop-at-init
 loop-at-init c = let a = c.args in start a.bytes.now a.used (bytes_all a.bytes.now (λ i. (c.type_inv.bytes i).fits)) c.requires.used_in_bounds c.requires.stored
@@ -21,42 +22,45 @@ pub record_end-end-requires : goal.record_end-end-requires
 record_end-end-requires c =
     let l = c.loop-at in stands c.args.bytes.now c.args.used l.bytes l.at l.to l.invariant c.loop-at-test.true
 
-pub overflow_sub-end : goal.overflow_sub-end
-overflow_sub-end c =
-    let l = c.loop-at in
-    let t = next c.args.bytes.now c.args.used l.bytes l.at l.to l.invariant c.loop-at-test.true c.record_end-end.result c.record_end-end.ensures in
-    omega (arith, t.moves)
-
-pub staying-n-requires : goal.staying-n-requires
-staying-n-requires c =
+pub is_terminated-requires : goal.is_terminated-requires
+is_terminated-requires c =
     let l = c.loop-at in stands c.args.bytes.now c.args.used l.bytes l.at l.to l.invariant c.loop-at-test.true
+
+pub overflow_sub-n : goal.overflow_sub-n
+overflow_sub-n c = let t = turn (goal.at.overflow_sub-n c).After-record_end-end in omega (arith, t.moves)
 
 pub shift-requires : goal.shift-requires
 shift-requires c =
     let l = c.loop-at in
-    let t = next c.args.bytes.now c.args.used l.bytes l.at l.to l.invariant c.loop-at-test.true c.record_end-end.result c.record_end-end.ensures in
-    let f = few c.args.bytes.now c.args.used l.bytes l.at l.to c.record_end-end.result c.staying-n.result t c.staying-n.ensures in
+    let t = turn (goal.at.shift-requires c).After-record_end-end in
     let m = same_long c.args.bytes.now c.args.used l.bytes l.at l.to l.invariant in
-    (omega (arith, f, l.invariant.within, m), omega (arith, f, l.invariant.below, l.invariant.within, m))
+    (omega (arith, t.moves, t.fits, l.invariant.within, m), omega (arith, t.moves, t.fits, l.invariant.below, l.invariant.within, m))
 
 pub overflow_add-to : goal.overflow_add-to
 overflow_add-to c =
     let l = c.loop-at in
-    let t = next c.args.bytes.now c.args.used l.bytes l.at l.to l.invariant c.loop-at-test.true c.record_end-end.result c.record_end-end.ensures in
-    let f = few c.args.bytes.now c.args.used l.bytes l.at l.to c.record_end-end.result c.staying-n.result t c.staying-n.ensures in
-    omega (arith, f, l.invariant.below, c.requires.used_in_bounds)
+    let t = turn (goal.at.overflow_add-to c).After-record_end-end in
+    omega (arith, t.moves, t.fits, l.invariant.below, c.requires.used_in_bounds)
 
 pub loop-at-smaller : goal.loop-at-smaller
-loop-at-smaller c =
-    let l = c.loop-at in
-    let t = next c.args.bytes.now c.args.used l.bytes l.at l.to l.invariant c.loop-at-test.true c.record_end-end.result c.record_end-end.ensures in
-    omega (arith, t.moves, t.fits)
+loop-at-smaller c = let t = turn (goal.at.loop-at-smaller c).After-record_end-end in omega (arith, t.moves, t.fits)
 
+pub loop-at-smaller-then-not-is_terminated : goal.loop-at-smaller-then-not-is_terminated
+loop-at-smaller-then-not-is_terminated c = let t = turn (goal.at.loop-at-smaller-then-not-is_terminated c).After-record_end-end in omega (arith, t.moves, t.fits)
+
+-- a record that stays
+pub loop-at-preserved-then-not-is_terminated : goal.loop-at-preserved-then-not-is_terminated
+loop-at-preserved-then-not-is_terminated c =
+    let l = c.loop-at in
+    let t = turn (goal.at.loop-at-preserved-then-not-is_terminated c).After-record_end-end in
+    t.stays (subst (TerminatedAt l.bytes l.at) c.if-not-is_terminated.true c.is_terminated.ensures) c.shift.ensures
+
+-- one that goes
 pub loop-at-preserved : goal.loop-at-preserved
 loop-at-preserved c =
     let l = c.loop-at in
-    let t = next c.args.bytes.now c.args.used l.bytes l.at l.to l.invariant c.loop-at-test.true c.record_end-end.result c.record_end-end.ensures in
-    t.again c.staying-n.result c.shift.new.bytes c.staying-n.ensures c.shift.ensures
+    let t = turn (goal.at.loop-at-preserved c).After-record_end-end in
+    t.goes (subst (TerminatedAt l.bytes l.at) c.if-not-is_terminated.false c.is_terminated.ensures)
 
 pub returns-clause-value : goal.returns-clause-value
 returns-clause-value c =

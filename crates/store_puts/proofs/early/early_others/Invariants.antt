@@ -4,4 +4,4 @@ use Rattle.store_puts.proofs.EarlyLaws.{Counting}
 use Rattle.store_puts.proofs.early.early_others.Given as goal
 
 abbrev pub invariant-loop-at : goal.invariant-loop-at
-invariant-loop-at l = (l.at-iterator.bytes.now ≡ l.bytes) × Counting (ident_of l.id) l.bytes l.at-iterator.at l.n
+invariant-loop-at l = (l.at-iterator.bytes.now ≡ l.held.bytes.now) × Counting (ident_of l.id) l.held.bytes.now l.at-iterator.at l.n

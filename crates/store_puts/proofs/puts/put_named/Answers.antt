@@ -1,32 +1,30 @@
 -- `puts::put_named` meets its contract: 17, then the image in its place, or after all others. Assumes nothing.
 use Prim.Native.Nat.{◌≤◌}
-use mathlib.Core.Path.{sym, subst, ◌∙◌}
+use mathlib.Core.Path.{sym, ap, subst, ◌∙◌}
 use lib.ListN.{length, take}
 use Rattle.std.specs.Prelude.{Some}
 use Rattle.limits.specs.Limits.{rust_limits}
 use Rattle.codec.proofs.CodecLaws.{Bytes, bytes_all}
+use Rattle.record.specs.Record.{is_given}
+use Rattle.store.proofs.HeldLaws.{front_fits}
 use Rattle.dialog_manager.specs.Search.{Stands}
 use Rattle.store_puts.proofs.PutLaws.{crowded, added_new, replaced_old, found_within}
 use Rattle.store_edits.proofs.RemoveLaws.{turned_back}
 use native.Mathlib.Omega.{arith}
 use Rattle.store_puts.proofs.puts.put_named.Goals as goal
 
--- the parts of what several clauses say together
-first2 : {A B : Type 0} → A × B → A
-first2 p = p.0
-
-second2 : {A B : Type 0} → A × B → B
-second2 p = p.1
+pub invariant_of-held : goal.invariant_of-held
+invariant_of-held c = let a = c.args in record { fit = front_fits a.used a.bytes.now (λ i. (c.slice_known-1.given i).fits); stored = ap is_given c.requires.fact.are }
 
 pub returns-then-is_crowded-clause-value : goal.returns-then-is_crowded-clause-value
 returns-then-is_crowded-clause-value c =
     let a = c.args in
-    (first2 (turned_back (crowded rust_limits (length a.bytes.now) a.image.now a.bytes.now a.used a.state a.id.call_id.now a.id.local_tag.now a.id.remote_tag.now c.requires.named c.requires.fact (sym c.is_crowded.ensures ∙ c.if-is_crowded.true))))
+    (turned_back (crowded rust_limits (length a.bytes.now) a.image.now a.bytes.now a.used a.state a.id.call_id.now a.id.local_tag.now a.id.remote_tag.now c.requires.named c.requires.fact (sym c.is_crowded.ensures ∙ c.if-is_crowded.true))).0
 
 pub returns-then-is_crowded-clause-bytes_after : goal.returns-then-is_crowded-clause-bytes_after
 returns-then-is_crowded-clause-bytes_after c =
     let a = c.args in
-    (second2 (turned_back (crowded rust_limits (length a.bytes.now) a.image.now a.bytes.now a.used a.state a.id.call_id.now a.id.local_tag.now a.id.remote_tag.now c.requires.named c.requires.fact (sym c.is_crowded.ensures ∙ c.if-is_crowded.true))))
+    (turned_back (crowded rust_limits (length a.bytes.now) a.image.now a.bytes.now a.used a.state a.id.call_id.now a.id.local_tag.now a.id.remote_tag.now c.requires.named c.requires.fact (sym c.is_crowded.ensures ∙ c.if-is_crowded.true))).1
 
 pub returns-in_default-clause-value : goal.returns-in_default-clause-value
 returns-in_default-clause-value c =

@@ -10,39 +10,29 @@ use Rattle.store_updates.proofs.CallLaws.{raises, call_refused, raise_not, raise
 use Rattle.store_updates.proofs.calls.next_local_cseq.Goals as goal
 use Rattle.store_updates.proofs.calls.next_local_cseq.Goals.{Start}
 
--- the parts of what several clauses say together
-first : {A B C : Type 0} → A × (B × C) → A
-first p = p.0
-
-second_first : {A B C : Type 0} → A × (B × C) → B
-second_first p = p.1.0
-
-second_second : {A B C : Type 0} → A × (B × C) → C
-second_second p = p.1.1
-
 abbrev name : Start → Ident
 name c = ident c.args.id.call_id.now c.args.id.local_tag.now c.args.id.remote_tag.now
 
 pub returns-clause-value : goal.returns-clause-value
 returns-clause-value c =
-    first (raise_done (name (goal.at.returns-clause-value c).Start) c.args.bytes.now c.args.used c.find_record.ensures.value c.in_ok-p.was (bytes_all c.args.bytes.now (λ i. (c.slice_known-1.given i).fits)) (c.local_at.ensures.value, c.local_at.ensures.bytes_after))
+    (raise_done (name (goal.at.returns-clause-value c).Start) c.args.bytes.now c.args.used c.find_record.ensures.value c.in_ok-p.was (bytes_all c.args.bytes.now (λ i. (c.slice_known-1.given i).fits)) (c.local_at.ensures.value, c.local_at.ensures.bytes_after)).0
 
 pub returns-clause-bytes_after : goal.returns-clause-bytes_after
 returns-clause-bytes_after c =
-    second_first (raise_done (name (goal.at.returns-clause-bytes_after c).Start) c.args.bytes.now c.args.used c.find_record.ensures.value c.in_ok-p.was (bytes_all c.args.bytes.now (λ i. (c.slice_known-1.given i).fits)) (c.local_at.ensures.value, c.local_at.ensures.bytes_after))
+    (raise_done (name (goal.at.returns-clause-bytes_after c).Start) c.args.bytes.now c.args.used c.find_record.ensures.value c.in_ok-p.was (bytes_all c.args.bytes.now (λ i. (c.slice_known-1.given i).fits)) (c.local_at.ensures.value, c.local_at.ensures.bytes_after)).1.0
 
 pub returns-clause-used_value : goal.returns-clause-used_value
 returns-clause-used_value c =
-    second_second (raise_done (name (goal.at.returns-clause-used_value c).Start) c.args.bytes.now c.args.used c.find_record.ensures.value c.in_ok-p.was (bytes_all c.args.bytes.now (λ i. (c.slice_known-1.given i).fits)) (c.local_at.ensures.value, c.local_at.ensures.bytes_after))
+    (raise_done (name (goal.at.returns-clause-used_value c).Start) c.args.bytes.now c.args.used c.find_record.ensures.value c.in_ok-p.was (bytes_all c.args.bytes.now (λ i. (c.slice_known-1.given i).fits)) (c.local_at.ensures.value, c.local_at.ensures.bytes_after)).1.1
 
 pub returns-in_err-p-clause-value : goal.returns-in_err-p-clause-value
 returns-in_err-p-clause-value c =
-    err_is c.from_residual.result _ c.from_residual.ensures.1 ∙ first (raise_not (name (goal.at.returns-in_err-p-clause-value c).Start) c.args.bytes.now c.args.used (call_refused (raises (name (goal.at.returns-in_err-p-clause-value c).Start)) c.args.bytes.now c.args.used c.find_record.ensures.value c.in_err-p.was))
+    err_is c.from_residual.result _ c.from_residual.ensures.1 ∙ (raise_not (name (goal.at.returns-in_err-p-clause-value c).Start) c.args.bytes.now c.args.used (call_refused (raises (name (goal.at.returns-in_err-p-clause-value c).Start)) c.args.bytes.now c.args.used c.find_record.ensures.value c.in_err-p.was)).0
 
 pub returns-in_err-p-clause-bytes_after : goal.returns-in_err-p-clause-bytes_after
 returns-in_err-p-clause-bytes_after c =
-    second_first (raise_not (name (goal.at.returns-in_err-p-clause-bytes_after c).Start) c.args.bytes.now c.args.used (call_refused (raises (name (goal.at.returns-in_err-p-clause-bytes_after c).Start)) c.args.bytes.now c.args.used c.find_record.ensures.value c.in_err-p.was))
+    (raise_not (name (goal.at.returns-in_err-p-clause-bytes_after c).Start) c.args.bytes.now c.args.used (call_refused (raises (name (goal.at.returns-in_err-p-clause-bytes_after c).Start)) c.args.bytes.now c.args.used c.find_record.ensures.value c.in_err-p.was)).1.0
 
 pub returns-in_err-p-clause-used_value : goal.returns-in_err-p-clause-used_value
 returns-in_err-p-clause-used_value c =
-    ap (λ (r : Result (ℕ × ℕ) Refusal). used_raised r c.args.used) (err_is c.from_residual.result _ c.from_residual.ensures.1) ∙ second_second (raise_not (name (goal.at.returns-in_err-p-clause-used_value c).Start) c.args.bytes.now c.args.used (call_refused (raises (name (goal.at.returns-in_err-p-clause-used_value c).Start)) c.args.bytes.now c.args.used c.find_record.ensures.value c.in_err-p.was))
+    ap (λ (r : Result (ℕ × ℕ) Refusal). used_raised r c.args.used) (err_is c.from_residual.result _ c.from_residual.ensures.1) ∙ (raise_not (name (goal.at.returns-in_err-p-clause-used_value c).Start) c.args.bytes.now c.args.used (call_refused (raises (name (goal.at.returns-in_err-p-clause-used_value c).Start)) c.args.bytes.now c.args.used c.find_record.ensures.value c.in_err-p.was)).1.1

@@ -1,68 +1,105 @@
 -- `calls::response` meets its contract: 1, 2, 3, 15, then the step on the record in its place. Assumes nothing.
-use mathlib.Core.Path.{◌≡◌, ap, subst, ◌∙◌}
+use mathlib.Core.Path.{◌≡◌, refl, sym, ap, ◌∙◌}
 use Rattle.std.proofs.result.Match.{err_is}
-use Rattle.std.specs.Prelude.{ℕ, Result}
+use Rattle.std.specs.Prelude.{ℕ, None, Result}
 use Rattle.limits.specs.declared.Refusal.{Refusal}
 use Rattle.limits.specs.Limits.{rust_limits}
-use Rattle.limits.specs.Outcome.{check_of}
+use Rattle.limits.proofs.Laws.{passed, stopped}
 use Rattle.msg.specs.Block.{block_cause}
 use Rattle.codec.proofs.CodecLaws.{bytes_all}
 use Rattle.dialog_updates.proofs.BlockLaws.{short_block}
-use Rattle.dialog_id.specs.Ident.{Ident, ident}
+use Rattle.dialog_id.specs.Ident.{Ident, ident, ident_cause}
 use Rattle.book.specs.Book.{revised}
-use Rattle.store_entries.specs.Entries.{used_after, standing_of, Ready}
-use Rattle.store_updates.specs.Finding.{cause_in, found_in}
-use Rattle.store_updates.proofs.CallLaws.{responds, others_passed, check_passed, call_refused, call_done}
+use Rattle.store_entries.specs.Entries.{used_after}
+use Rattle.store_updates.proofs.CallLaws.{responds, found_long, found_other, found_then, call_refused, call_done}
 use Rattle.store_updates.proofs.calls.response.Goals as goal
-use Rattle.store_updates.proofs.calls.response.Goals.{After-find_record, Start}
-
--- the parts of what several clauses say together
-first : {A B C : Type 0} → A × (B × C) → A
-first p = p.0
-
-second_first : {A B C : Type 0} → A × (B × C) → B
-second_first p = p.1.0
-
-second_second : {A B C : Type 0} → A × (B × C) → C
-second_second p = p.1.1
+use Rattle.store_updates.proofs.calls.response.Goals.{In_ok-check_lengths, In_ok-check_block, Start}
 
 abbrev name : Start → Ident
 name c = ident c.args.id.call_id.now c.args.id.local_tag.now c.args.id.remote_tag.now
 
-abbrev name-at-After-find_record : After-find_record → Ident
-name-at-After-find_record c = ident c.args.id.call_id.now c.args.id.local_tag.now c.args.id.remote_tag.now
+-- no text is too long
+clear : (c : In_ok-check_lengths) → let i = c.args.id in ident_cause rust_limits (ident i.call_id.now i.local_tag.now i.remote_tag.now) ≡ None
+clear c = let i = c.args.id in passed (ident_cause rust_limits (ident i.call_id.now i.local_tag.now i.remote_tag.now)) (sym c.check_lengths.ensures ∙ c.in_ok-check_lengths.was)
 
--- where the record was found
-found : (c : After-find_record) → c.find_record.result ≡ standing_of c.args.used (found_in (name-at-After-find_record c) (cause_in (check_of (block_cause rust_limits c.args.block.now))) c.args.bytes.now c.args.used)
-found c = c.find_record.ensures.value ∙ ap (λ (v : Result (Unit {0}) Refusal). standing_of c.args.used (found_in (name-at-After-find_record c) (cause_in v) c.args.bytes.now c.args.used)) c.check_block-others.ensures
+-- the block passed its check
+checked : (c : In_ok-check_block) → block_cause rust_limits c.args.block.now ≡ None
+checked c = passed (block_cause rust_limits c.args.block.now) (sym c.check_block.ensures ∙ c.in_ok-check_block.was)
 
 pub response_at-requires-clause-block_bound : goal.response_at-requires-clause-block_bound
-response_at-requires-clause-block_bound c =
-    (short_block rust_limits c.args.block.now (check_passed (check_of (block_cause rust_limits c.args.block.now)) (others_passed (responds (name (goal.at.response_at-requires-clause-block_bound c).Start) c.args.status c.args.block.now) c.args.bytes.now c.args.used (found (goal.at.response_at-requires-clause-block_bound c).After-find_record) c.in_ok-p.was)))
+response_at-requires-clause-block_bound c = short_block rust_limits c.args.block.now (sym c.check_block.ensures ∙ c.in_ok-check_block.was)
 
 pub returns-clause-value : goal.returns-clause-value
 unfolding revised
 returns-clause-value c =
-    first (call_done (responds (name (goal.at.returns-clause-value c).Start) c.args.status c.args.block.now) c.args.bytes.now c.args.used (found (goal.at.returns-clause-value c).After-find_record) c.in_ok-p.was (bytes_all c.args.bytes.now (λ i. (c.slice_known-1.given i).fits)) (c.response_at.ensures.value, c.response_at.ensures.bytes_after))
+    let n = name (goal.at.returns-clause-value c).Start in
+    let o = block_cause rust_limits c.args.block.now in
+    (call_done (responds n c.args.status c.args.block.now) c.args.bytes.now c.args.used (found_then n o c.args.bytes.now c.args.used (clear (goal.at.returns-clause-value c).In_ok-check_lengths) (checked (goal.at.returns-clause-value c).In_ok-check_block) c.locate.ensures.value) c.in_ok-p.was (bytes_all c.args.bytes.now (λ i. (c.slice_known-1.given i).fits)) (c.response_at.ensures.value, c.response_at.ensures.bytes_after)).0
 
 pub returns-clause-bytes_after : goal.returns-clause-bytes_after
 unfolding revised
 returns-clause-bytes_after c =
-    second_first (call_done (responds (name (goal.at.returns-clause-bytes_after c).Start) c.args.status c.args.block.now) c.args.bytes.now c.args.used (found (goal.at.returns-clause-bytes_after c).After-find_record) c.in_ok-p.was (bytes_all c.args.bytes.now (λ i. (c.slice_known-1.given i).fits)) (c.response_at.ensures.value, c.response_at.ensures.bytes_after))
+    let n = name (goal.at.returns-clause-bytes_after c).Start in
+    let o = block_cause rust_limits c.args.block.now in
+    (call_done (responds n c.args.status c.args.block.now) c.args.bytes.now c.args.used (found_then n o c.args.bytes.now c.args.used (clear (goal.at.returns-clause-bytes_after c).In_ok-check_lengths) (checked (goal.at.returns-clause-bytes_after c).In_ok-check_block) c.locate.ensures.value) c.in_ok-p.was (bytes_all c.args.bytes.now (λ i. (c.slice_known-1.given i).fits)) (c.response_at.ensures.value, c.response_at.ensures.bytes_after)).1.0
 
 pub returns-clause-used_value : goal.returns-clause-used_value
 unfolding revised
 returns-clause-used_value c =
-    second_second (call_done (responds (name (goal.at.returns-clause-used_value c).Start) c.args.status c.args.block.now) c.args.bytes.now c.args.used (found (goal.at.returns-clause-used_value c).After-find_record) c.in_ok-p.was (bytes_all c.args.bytes.now (λ i. (c.slice_known-1.given i).fits)) (c.response_at.ensures.value, c.response_at.ensures.bytes_after))
+    let n = name (goal.at.returns-clause-used_value c).Start in
+    let o = block_cause rust_limits c.args.block.now in
+    (call_done (responds n c.args.status c.args.block.now) c.args.bytes.now c.args.used (found_then n o c.args.bytes.now c.args.used (clear (goal.at.returns-clause-used_value c).In_ok-check_lengths) (checked (goal.at.returns-clause-used_value c).In_ok-check_block) c.locate.ensures.value) c.in_ok-p.was (bytes_all c.args.bytes.now (λ i. (c.slice_known-1.given i).fits)) (c.response_at.ensures.value, c.response_at.ensures.bytes_after)).1.1
+
+pub returns-in_err-check_lengths-clause-value : goal.returns-in_err-check_lengths-clause-value
+returns-in_err-check_lengths-clause-value c =
+    let n = name (goal.at.returns-in_err-check_lengths-clause-value c).Start in
+    let o = block_cause rust_limits c.args.block.now in
+    err_is c.from_residual.result _ c.from_residual.ensures.1 ∙ (call_refused (responds n c.args.status c.args.block.now) c.args.bytes.now c.args.used (found_long n o c.args.bytes.now c.args.used (stopped (ident_cause rust_limits n) (sym c.check_lengths.ensures ∙ c.in_err-check_lengths.was))) refl).0
+
+pub returns-in_err-check_lengths-clause-bytes_after : goal.returns-in_err-check_lengths-clause-bytes_after
+returns-in_err-check_lengths-clause-bytes_after c =
+    let n = name (goal.at.returns-in_err-check_lengths-clause-bytes_after c).Start in
+    let o = block_cause rust_limits c.args.block.now in
+    (call_refused (responds n c.args.status c.args.block.now) c.args.bytes.now c.args.used (found_long n o c.args.bytes.now c.args.used (stopped (ident_cause rust_limits n) (sym c.check_lengths.ensures ∙ c.in_err-check_lengths.was))) refl).1.0
+
+pub returns-in_err-check_lengths-clause-used_value : goal.returns-in_err-check_lengths-clause-used_value
+returns-in_err-check_lengths-clause-used_value c =
+    let n = name (goal.at.returns-in_err-check_lengths-clause-used_value c).Start in
+    let o = block_cause rust_limits c.args.block.now in
+    ap (λ (r : Result ℕ Refusal). used_after r c.args.used) (err_is c.from_residual.result _ c.from_residual.ensures.1) ∙ (call_refused (responds n c.args.status c.args.block.now) c.args.bytes.now c.args.used (found_long n o c.args.bytes.now c.args.used (stopped (ident_cause rust_limits n) (sym c.check_lengths.ensures ∙ c.in_err-check_lengths.was))) refl).1.1
+
+pub returns-in_err-check_block-clause-value : goal.returns-in_err-check_block-clause-value
+returns-in_err-check_block-clause-value c =
+    let n = name (goal.at.returns-in_err-check_block-clause-value c).Start in
+    let o = block_cause rust_limits c.args.block.now in
+    err_is c.from_residual-in_err-check_block.result _ c.from_residual-in_err-check_block.ensures.1 ∙ (call_refused (responds n c.args.status c.args.block.now) c.args.bytes.now c.args.used (found_other n o c.args.bytes.now c.args.used (clear (goal.at.returns-in_err-check_block-clause-value c).In_ok-check_lengths) (stopped o (sym c.check_block.ensures ∙ c.in_err-check_block.was))) refl).0
+
+pub returns-in_err-check_block-clause-bytes_after : goal.returns-in_err-check_block-clause-bytes_after
+returns-in_err-check_block-clause-bytes_after c =
+    let n = name (goal.at.returns-in_err-check_block-clause-bytes_after c).Start in
+    let o = block_cause rust_limits c.args.block.now in
+    (call_refused (responds n c.args.status c.args.block.now) c.args.bytes.now c.args.used (found_other n o c.args.bytes.now c.args.used (clear (goal.at.returns-in_err-check_block-clause-bytes_after c).In_ok-check_lengths) (stopped o (sym c.check_block.ensures ∙ c.in_err-check_block.was))) refl).1.0
+
+pub returns-in_err-check_block-clause-used_value : goal.returns-in_err-check_block-clause-used_value
+returns-in_err-check_block-clause-used_value c =
+    let n = name (goal.at.returns-in_err-check_block-clause-used_value c).Start in
+    let o = block_cause rust_limits c.args.block.now in
+    ap (λ (r : Result ℕ Refusal). used_after r c.args.used) (err_is c.from_residual-in_err-check_block.result _ c.from_residual-in_err-check_block.ensures.1) ∙ (call_refused (responds n c.args.status c.args.block.now) c.args.bytes.now c.args.used (found_other n o c.args.bytes.now c.args.used (clear (goal.at.returns-in_err-check_block-clause-used_value c).In_ok-check_lengths) (stopped o (sym c.check_block.ensures ∙ c.in_err-check_block.was))) refl).1.1
 
 pub returns-in_err-p-clause-value : goal.returns-in_err-p-clause-value
 returns-in_err-p-clause-value c =
-    err_is c.from_residual.result _ c.from_residual.ensures.1 ∙ first (call_refused (responds (name (goal.at.returns-in_err-p-clause-value c).Start) c.args.status c.args.block.now) c.args.bytes.now c.args.used (found (goal.at.returns-in_err-p-clause-value c).After-find_record) c.in_err-p.was)
+    let n = name (goal.at.returns-in_err-p-clause-value c).Start in
+    let o = block_cause rust_limits c.args.block.now in
+    err_is c.from_residual-in_err-p.result _ c.from_residual-in_err-p.ensures.1 ∙ (call_refused (responds n c.args.status c.args.block.now) c.args.bytes.now c.args.used (found_then n o c.args.bytes.now c.args.used (clear (goal.at.returns-in_err-p-clause-value c).In_ok-check_lengths) (checked (goal.at.returns-in_err-p-clause-value c).In_ok-check_block) c.locate.ensures.value) c.in_err-p.was).0
 
 pub returns-in_err-p-clause-bytes_after : goal.returns-in_err-p-clause-bytes_after
 returns-in_err-p-clause-bytes_after c =
-    second_first (call_refused (responds (name (goal.at.returns-in_err-p-clause-bytes_after c).Start) c.args.status c.args.block.now) c.args.bytes.now c.args.used (found (goal.at.returns-in_err-p-clause-bytes_after c).After-find_record) c.in_err-p.was)
+    let n = name (goal.at.returns-in_err-p-clause-bytes_after c).Start in
+    let o = block_cause rust_limits c.args.block.now in
+    (call_refused (responds n c.args.status c.args.block.now) c.args.bytes.now c.args.used (found_then n o c.args.bytes.now c.args.used (clear (goal.at.returns-in_err-p-clause-bytes_after c).In_ok-check_lengths) (checked (goal.at.returns-in_err-p-clause-bytes_after c).In_ok-check_block) c.locate.ensures.value) c.in_err-p.was).1.0
 
 pub returns-in_err-p-clause-used_value : goal.returns-in_err-p-clause-used_value
 returns-in_err-p-clause-used_value c =
-    ap (λ (r : Result ℕ Refusal). used_after r c.args.used) (err_is c.from_residual.result _ c.from_residual.ensures.1) ∙ second_second (call_refused (responds (name (goal.at.returns-in_err-p-clause-used_value c).Start) c.args.status c.args.block.now) c.args.bytes.now c.args.used (found (goal.at.returns-in_err-p-clause-used_value c).After-find_record) c.in_err-p.was)
+    let n = name (goal.at.returns-in_err-p-clause-used_value c).Start in
+    let o = block_cause rust_limits c.args.block.now in
+    ap (λ (r : Result ℕ Refusal). used_after r c.args.used) (err_is c.from_residual-in_err-p.result _ c.from_residual-in_err-p.ensures.1) ∙ (call_refused (responds n c.args.status c.args.block.now) c.args.bytes.now c.args.used (found_then n o c.args.bytes.now c.args.used (clear (goal.at.returns-in_err-p-clause-used_value c).In_ok-check_lengths) (checked (goal.at.returns-in_err-p-clause-used_value c).In_ok-check_block) c.locate.ensures.value) c.in_err-p.was).1.1

@@ -5,14 +5,14 @@ use Rattle.uri.specs.Steps.{after_host_from}
 use mathlib.Core.Path.{sym, ap, ◌∙◌}
 use Rattle.uri.proofs.authority.after_host.Goals as goal
 
-pub returns-then-s-eq0 : goal.returns-then-s-eq0
-returns-then-s-eq0 c = ap after_host_from (sym (port_none c.args.s.now (omega arith)))
+pub returns-in-empty : goal.returns-in-empty
+returns-in-empty c = ap after_host_from (sym (port_none c.args.s.now (omega arith)))
 
-pub returns-then-s-eq58 : goal.returns-then-s-eq58
-returns-then-s-eq58 c = c.read_port.ensures ∙ ap after_host_from (sym (port_given c.args.s.now (omega arith) (omega arith)))
+pub returns-in-58 : goal.returns-in-58
+returns-in-58 c = c.read_port.ensures ∙ ap after_host_from (sym (port_given c.args.s.now (omega arith) (omega arith)))
 
-pub returns-then-ends_port : goal.returns-then-ends_port
-returns-then-ends_port c = rw (port_absent c.args.s.now (omega arith) c.if-s-eq58.false, sym c.ends_port.ensures ∙ c.if-ends_port.true)
+pub returns-in-len1-up : goal.returns-in-len1-up
+returns-in-len1-up c = rw (port_absent c.args.s.now (omega arith) (omega arith), sym c.ends_port.ensures ∙ c.if-ends_port.true)
 
-pub returns : goal.returns
-returns c = rw (port_absent c.args.s.now (omega arith) c.if-s-eq58.false, sym c.ends_port.ensures ∙ c.if-ends_port.false)
+pub returns-in_default : goal.returns-in_default
+returns-in_default c = rw (port_absent c.args.s.now (omega arith) (omega arith), sym c.ends_port.ensures ∙ c.if-ends_port.false)
