@@ -9,6 +9,7 @@ use mathlib.Core.List.{List, [], ◌∷◌, ◌++◌}
 use lib.ListN.{length}
 use lib.Dec.{leb, ltb, eqb}
 use borrow.Author.Tests.{leb-true, ltb-true, eq-eqb, ne_eqb, eqb-true, eqb-false, le-ltb, lt-ltb, ltb-false, le-leb, lt-leb}
+use Rattle.std.proofs.lemmas.Bool.{and_parts}
 use Rattle.std.specs.Prelude.{Err, None, Ok, Option, Result, Some}
 use Rattle.limits.specs.Limits.{LimitSet}
 use Rattle.limits.specs.Outcome.{number_in, cause_if, or_else, refuse_by, refuse_if, and_then, or_refuse}
@@ -43,7 +44,7 @@ use Rattle.book.proofs.ChangeLaws.{bytes_of, full_off, crowded_off, accepted}
 use Rattle.book.proofs.IdentLaws.{same_ident_lem}
 use Rattle.book.proofs.SentenceLaws.{new_last, fits_taken, only_size}
 use Rattle.book.proofs.ThoseLaws.{has_ident, none_found, none_before, found_there, names_ident, none_named, amended, placed_again, dropped, swept_those, early_others_lem, place_behind, place_nowhere, not_held, all_unequal, ids_same, is_ack, is_other_lem, image_given, no_image, value_given, least_given_lem, lent_kept}
-use Rattle.text.proofs.Sames.{both, equal_same}
+use Rattle.text.proofs.Sames.{equal_same}
 
 -- ---- from the verdict to what the caller sees
 
@@ -463,7 +464,7 @@ response_answered L status block r = record {
     by_success false q o e = absurd (false≢true q)
 
     success_is : is_success status ≡ true → (200 ≤ status) × (status < 300)
-    success_is q = let z = both (leb 200 status) (ltb status 300) q in (leb-true 200 status z.0, ltb-true status 300 z.1)
+    success_is q = let z = and_parts (leb 200 status) (ltb status 300) q in (leb-true 200 status z.0, ltb-true status 300 z.1)
 
     -- a state that a confirmation doesn't change, or no 2xx
     by_state : (p : Bool) → is_success status ≡ p → (o : Option Interval) (s : State) → r.numbers.state ≡ s → (Confirming status r → ⊥)

@@ -11,13 +11,14 @@ use lib.Seq.{take-append_seam, drop-append-add}
 use lib.Dec.{leb, ltb}
 use borrow.Author.Tests.{le-leb, lt-leb, le-ltb}
 use Rattle.std.specs.Prelude.{Err, None, Ok, Option, Result, Some}
+use Rattle.std.proofs.lemmas.Bool.{and_parts, and_right}
 use Rattle.limits.specs.Limits.{LimitSet}
 use Rattle.limits.specs.Outcome.{refuse_by, refuse_if, and_then, or_refuse}
 use Rattle.limits.specs.declared.Refusal.{Refusal}
 use Rattle.limits.specs.declared.Refusal.TheVariants.{BadStore, NotFound, TooManyDialogs, TooManyEarlyDialogs, NoRoom}
 use Rattle.text.specs.Text.{equal}
 use Rattle.dialog_id.specs.DialogId.{Identifier, identifier_of, from_name, to_name}
-use Rattle.text.proofs.Sames.{both, equal_same, equal_is}
+use Rattle.text.proofs.Sames.{equal_same, equal_is}
 use Rattle.codec.specs.Codec.{write_all}
 use Rattle.record.specs.Record.{State, early, confirmed, terminated, Record, image}
 use Rattle.dialog_rules.specs.OneImage.{one_record}
@@ -74,11 +75,7 @@ unfolding is_crowded
 own_uncounted L r w b d h e c =
     let one : ◌≡◌ {A = ℕ} (early_in r.call_id w) 1 = ap (λ t. cond t 1 0) e in
     let k = early_split r.call_id (ident_of r) w b d h in
-    off (is_early r.numbers.state) (leb L.early_per_call_id (early_of r.call_id (keep (others (ident_of r)) b))) (lt-leb L.early_per_call_id (early_of r.call_id (keep (others (ident_of r)) b)) (omega (arith, one, k, c)))
-  where
-    off : (p q : Bool) → q ≡ false → p && q ≡ false
-    off true q e = e
-    off false q e = refl
+    and_right (is_early r.numbers.state) (leb L.early_per_call_id (early_of r.call_id (keep (others (ident_of r)) b))) (lt-leb L.early_per_call_id (early_of r.call_id (keep (others (ident_of r)) b)) (omega (arith, one, k, c)))
 
 -- a new Early record is not, with 100 others
 pub crowded_refused : (L : LimitSet) (r : Record) (b : Book) → is_early r.numbers.state ≡ true → L.early_per_call_id ≤ early_of r.call_id (keep (others (ident_of r)) b) → is_crowded L r b ≡ true
@@ -232,8 +229,8 @@ matching_found block b r f h = by (identifier_of from_name to_name block) h
     by : (o : Option Identifier) → named_by r o ≡ true → find_named (swapped o) b ≡ Some r
     by None h = absurd (false≢true h)
     by (Some i) h =
-        let p = both (equal i.call_id.text r.call_id) (equal i.local_tag.text r.remote_tag && equal i.remote_tag.text r.local_tag) h in
-        let q = both (equal i.local_tag.text r.remote_tag) (equal i.remote_tag.text r.local_tag) p.1 in
+        let p = and_parts (equal i.call_id.text r.call_id) (equal i.local_tag.text r.remote_tag && equal i.remote_tag.text r.local_tag) h in
+        let q = and_parts (equal i.local_tag.text r.remote_tag) (equal i.remote_tag.text r.local_tag) p.1 in
         let c : i.call_id.text ≡ r.call_id = equal_is i.call_id.text r.call_id p.0 in
         let m : i.local_tag.text ≡ r.remote_tag = equal_is i.local_tag.text r.remote_tag q.0 in
         let l : i.remote_tag.text ≡ r.local_tag = equal_is i.remote_tag.text r.local_tag q.1 in

@@ -11,6 +11,7 @@ use lib.ListN.{length, length-append}
 use lib.Dec.{eqb, ltb}
 use Rattle.std.specs.Prelude.{Err, None, Ok, Option, Result, Some}
 use Rattle.std.specs.Option.{option_map, unwrap_or}
+use Rattle.std.proofs.lemmas.Iterator.Adapters.{option_map_id}
 use Rattle.limits.specs.Outcome.{or_refuse}
 use Rattle.limits.specs.Refusal.{least_of}
 use Rattle.limits.specs.declared.Refusal.{Refusal}
@@ -259,22 +260,18 @@ no_image s h n = by (one_record s) refl
 
 -- ---- what is given back
 
-pub same_option : {A : Type 0} (o : Option A) → option_map (λ (x : A). x) o ≡ o
-same_option None = refl
-same_option (Some x) = refl
-
 pub value_given : (v : Value) (l : Lent) → lent_after (Ok v) l ≡ given_back v l
-value_given no_value l = λ i. record { number = same_option l.number i; place = same_option l.place i; length = same_option l.length i; least = same_option l.least i; count = (given_back no_value l).count; output = same_option l.output i }
-value_given (number n) l = λ i. record { number = (given_back (number n) l).number; place = same_option l.place i; length = same_option l.length i; least = same_option l.least i; count = (given_back (number n) l).count; output = same_option l.output i }
-value_given (image_at p n) l = λ i. record { number = same_option l.number i; place = (given_back (image_at p n) l).place; length = (given_back (image_at p n) l).length; least = same_option l.least i; count = (given_back (image_at p n) l).count; output = same_option l.output i }
-value_given (written s) l = λ i. record { number = same_option l.number i; place = same_option l.place i; length = (given_back (written s) l).length; least = same_option l.least i; count = (given_back (written s) l).count; output = (given_back (written s) l).output }
+value_given no_value l = λ i. record { number = option_map_id l.number i; place = option_map_id l.place i; length = option_map_id l.length i; least = option_map_id l.least i; count = (given_back no_value l).count; output = option_map_id l.output i }
+value_given (number n) l = λ i. record { number = (given_back (number n) l).number; place = option_map_id l.place i; length = option_map_id l.length i; least = option_map_id l.least i; count = (given_back (number n) l).count; output = option_map_id l.output i }
+value_given (image_at p n) l = λ i. record { number = option_map_id l.number i; place = (given_back (image_at p n) l).place; length = (given_back (image_at p n) l).length; least = option_map_id l.least i; count = (given_back (image_at p n) l).count; output = option_map_id l.output i }
+value_given (written s) l = λ i. record { number = option_map_id l.number i; place = option_map_id l.place i; length = (given_back (written s) l).length; least = option_map_id l.least i; count = (given_back (written s) l).count; output = (given_back (written s) l).output }
 
 pub least_given_lem : (n : ℕ) (l : Lent) → lent_after (Err (SessionExpiresTooSmall n)) l ≡ least_given n l
-least_given_lem n l = λ i. record { number = same_option l.number i; place = same_option l.place i; length = same_option l.length i; least = (least_given n l).least; count = same_option l.count i; output = same_option l.output i }
+least_given_lem n l = λ i. record { number = option_map_id l.number i; place = option_map_id l.place i; length = option_map_id l.length i; least = (least_given n l).least; count = option_map_id l.count i; output = option_map_id l.output i }
 
 -- a refusal without a value leaves what was lent as it was
 pub lent_kept : (cause : Refusal) (l : Lent) → least_of cause ≡ None → lent_after (Err cause) l ≡ l
-lent_kept cause l n = λ i. record { number = same_option l.number i; place = same_option l.place i; length = same_option l.length i; least = least_same i; count = same_option l.count i; output = same_option l.output i }
+lent_kept cause l n = λ i. record { number = option_map_id l.number i; place = option_map_id l.place i; length = option_map_id l.length i; least = least_same i; count = option_map_id l.count i; output = option_map_id l.output i }
   where
     least_same : (lent_after (Err cause) l).least ≡ l.least
-    least_same = ap (λ o. option_map (λ (old : ℕ). unwrap_or o old) l.least) n ∙ same_option l.least
+    least_same = ap (λ o. option_map (λ (old : ℕ). unwrap_or o old) l.least) n ∙ option_map_id l.least

@@ -7,9 +7,10 @@ use mathlib.Core.Logic.{◌≢◌}
 use mathlib.Core.Bool.{Bool, true, false, cond, ◌&&◌, false≢true}
 use mathlib.Core.List.{List, [], ◌∷◌}
 use lib.ListN.{length}
+use Rattle.std.proofs.lemmas.Bool.{and_parts}
 use Rattle.std.specs.Prelude.{None, Option, Some}
 use Rattle.text.specs.Text.{equal}
-use Rattle.text.proofs.Sames.{both, equal_same, equal_is}
+use Rattle.text.proofs.Sames.{equal_same, equal_is}
 use Rattle.record.specs.Record.{State, early, confirmed, terminated, Record}
 use Rattle.book.specs.Trace.{All, or_earlier, is_some, stage, same_routes, Course, Step, remote_by, last_put, calls_since, Moment, between, moments, Leads, Forward, route_changes, OnlyConfirming, Told}
 use Rattle.book.proofs.BookLaws.{some_is, no_record}
@@ -24,7 +25,7 @@ unfolding same_routes
 routes_are [] [] e = refl
 routes_are [] (y ∷ b) e = absurd (false≢true e)
 routes_are (x ∷ a) [] e = absurd (false≢true e)
-routes_are (x ∷ a) (y ∷ b) e = let k = both (equal x y) (same_routes a b) e in ap₂ (λ (t : List ℕ) (l : List (List ℕ)). t ∷ l) (equal_is x y k.0) (routes_are a b k.1)
+routes_are (x ∷ a) (y ∷ b) e = let k = and_parts (equal x y) (same_routes a b) e in ap₂ (λ (t : List ℕ) (l : List (List ℕ)). t ∷ l) (equal_is x y k.0) (routes_are a b k.1)
 
 differ : (a b : List (List ℕ)) → same_routes a b ≡ false → a ≢ b
 differ a b e q = absurd (false≢true (sym e ∙ subst (λ x. same_routes a x ≡ true) q (routes_same a)))

@@ -75,6 +75,20 @@ with_least_after (Err cause) old = record { value = old.value; least = least_aft
 abbrev pub WithLeastGives : {A : Type 0} → Result A Refusal → WithLeastNumbers A → ℕ → WithLeastNumbers A → Type 0
 WithLeastGives answer old r left = Gives (number_in answer) (with_least_after answer old) r left
 
+-- ---- one value that may be absent: `found` is 1 with it, or 0
+
+pub record FoundNumbers (A : Type 0) : Type 0 where
+  pub found : ℕ
+  pub value : A
+
+abbrev pub found_after : {A : Type 0} → Result (Option A) Refusal → FoundNumbers A → FoundNumbers A
+found_after (Ok (Some a)) old = record { found = 1; value = a }
+found_after (Ok None) old = record { found = 0; value = old.value }
+found_after (Err cause) old = old
+
+abbrev pub FoundGives : {A : Type 0} → Result (Option A) Refusal → FoundNumbers A → ℕ → FoundNumbers A → Type 0
+FoundGives answer old r left = Gives (number_in answer) (found_after answer old) r left
+
 -- ---- a look-up: `found` is 1 with a place and a length, or 0
 
 pub record LookupNumbers : Type 0 where

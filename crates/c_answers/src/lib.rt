@@ -1,10 +1,11 @@
 // Answers handed over to a C caller: the number is returned, and the values go to the lent numbers.
+// Kept (1, 5): the header gives each lent number a parameter of its own: a flag beside what it is of, a place and its length.
 #![tactic(auto)]
 
 ghost use Rattle.std.specs.Prelude.{◌≡◌};
 ghost use Rattle.limits.specs.Outcome.{number_in};
 ghost use Rattle.limits.specs.Refusal.{number_of};
-ghost use Rattle.c_answers.specs.Given.{refresher_number, least_after, ValueGives, FlagGives, WithUsedGives, WithLeastGives, LookupGives, NextGives, PartGives, SpansGives, IdGives, UriGives, ExpiresGives, MethodLookupGives, RackGives, ValidatedGives};
+ghost use Rattle.c_answers.specs.Given.{refresher_number, least_after, ValueGives, FlagGives, WithUsedGives, WithLeastGives, FoundGives, LookupGives, NextGives, PartGives, SpansGives, IdGives, UriGives, ExpiresGives, MethodLookupGives, RackGives, ValidatedGives};
 
 use dialog_id::DialogId;
 use headers::Refresher;
@@ -44,13 +45,7 @@ pub fn give<T: Copy>(answer: Result<T, Refusal>, value: &mut T) -> u8
 pub fn give_flag(answer: Result<bool, Refusal>, flag: &mut u8) -> u8
     ensures { FlagGives answer flag.old result flag.new }
 {
-    match answer {
-        Ok(yes) => {
-            *flag = u8::from(yes);
-            0
-        }
-        Err(x) => x.number(),
-    }
+    give(answer.map(u8::from), flag)
 }
 
 // One value, and the new used length.
@@ -61,25 +56,45 @@ pub fn give_with_used<T: Copy>(
 ) -> u8
     ensures { WithUsedGives answer (record { used = used.old; value = value.old }) result (record { used = used.new; value = value.new }) }
 {
-    let (given, length) = match answer {
-        Ok(pair) => pair,
-        Err(x) => return x.number(),
-    };
-    *used = length;
-    *value = given;
-    0
+    match answer {
+        Ok((given, length)) => {
+            *used = length;
+            *value = given;
+            0
+        }
+        Err(cause) => cause.number(),
+    }
 }
 
 // One value, or with 13 the least.
 pub fn give_with_least<T: Copy>(answer: Result<T, Refusal>, value: &mut T, least: &mut u64) -> u8
     ensures { WithLeastGives answer (record { value = value.old; least = least.old }) result (record { value = value.new; least = least.new }) }
 {
-    let given = match answer {
-        Ok(given) => given,
-        Err(x) => return give_least(x, least),
-    };
-    *value = given;
-    0
+    match answer {
+        Ok(given) => {
+            *value = given;
+            0
+        }
+        Err(x) => give_least(x, least),
+    }
+}
+
+// One value where there is one, and whether there is.
+fn give_found<T: Copy>(answer: Result<Option<T>, Refusal>, found: &mut u8, value: &mut T) -> u8
+    ensures { FoundGives answer (record { found = found.old; value = value.old }) result (record { found = found.new; value = value.new }) }
+{
+    match answer {
+        Ok(Some(given)) => {
+            *found = FOUND;
+            *value = given;
+            0
+        }
+        Ok(None) => {
+            *found = NOTHING;
+            0
+        }
+        Err(x) => x.number(),
+    }
 }
 
 pub fn give_lookup(
@@ -90,19 +105,14 @@ pub fn give_lookup(
 ) -> u8
     ensures { LookupGives answer (record { found = found.old; place = place.old; length = length.old }) result (record { found = found.new; place = place.new; length = length.new }) }
 {
-    match answer {
-        Ok(Some(s)) => {
-            *found = FOUND;
-            *place = s.start;
-            *length = s.length;
-            0
-        }
-        Ok(None) => {
-            *found = NOTHING;
-            0
-        }
-        Err(x) => x.number(),
-    }
+    let mut part = Span {
+        start: *place,
+        length: *length,
+    };
+    let number = give_found(answer, found, &mut part);
+    *place = part.start;
+    *length = part.length;
+    number
 }
 
 pub fn give_next(
@@ -114,20 +124,19 @@ pub fn give_next(
 ) -> u8
     ensures { NextGives answer (record { found = found.old; place = place.old; length = length.old; next = next.old }) result (record { found = found.new; place = place.new; length = length.new; next = next.new }) }
 {
-    match answer {
-        Ok(Some((s, after))) => {
-            *found = FOUND;
-            *place = s.start;
-            *length = s.length;
-            *next = after;
-            0
-        }
-        Ok(None) => {
-            *found = NOTHING;
-            0
-        }
-        Err(x) => x.number(),
-    }
+    let mut given = (
+        Span {
+            start: *place,
+            length: *length,
+        },
+        *next,
+    );
+    let number = give_found(answer, found, &mut given);
+    let (part, after) = given;
+    *place = part.start;
+    *length = part.length;
+    *next = after;
+    number
 }
 
 pub fn give_part(answer: Result<Span, Refusal>, place: &mut usize, length: &mut usize) -> u8
@@ -231,19 +240,11 @@ pub fn give_expires(
 ) -> u8
     ensures { ExpiresGives answer (record { found = found.old; seconds = seconds.old; refresher = refresher.old }) result (record { found = found.new; seconds = seconds.new; refresher = refresher.new }) }
 {
-    match answer {
-        Ok(Some((n, r))) => {
-            *found = FOUND;
-            *seconds = n;
-            *refresher = refresher_number(r);
-            0
-        }
-        Ok(None) => {
-            *found = NOTHING;
-            0
-        }
-        Err(x) => x.number(),
-    }
+    let parts = answer.map(|o| o.map(|(n, r)| (n, refresher_number(r))));
+    let mut given = (*seconds, *refresher);
+    let number = give_found(parts, found, &mut given);
+    (*seconds, *refresher) = given;
+    number
 }
 
 pub fn give_method_lookup(
@@ -253,18 +254,7 @@ pub fn give_method_lookup(
 ) -> u8
     ensures { MethodLookupGives answer (record { found = found.old; method = method.old }) result (record { found = found.new; method = method.new }) }
 {
-    match answer {
-        Ok(Some(n)) => {
-            *found = FOUND;
-            *method = n;
-            0
-        }
-        Ok(None) => {
-            *found = NOTHING;
-            0
-        }
-        Err(x) => x.number(),
-    }
+    give_found(answer, found, method)
 }
 
 pub fn give_rack(
@@ -286,14 +276,12 @@ pub fn give_rack(
     }
 }
 
-// Kept (4): two cases of an answer and no conversion: a refusal leaves the least too.
+// That there is an interval, or with 13 the least.
 pub fn give_validated(answer: Result<u64, Refusal>, least: &mut u64) -> u8
     ensures { ValidatedGives answer least.old result least.new }
 {
-    match answer {
-        Ok(_) => 0,
-        Err(x) => give_least(x, least),
-    }
+    let mut seconds = 0;
+    give_with_least(answer, &mut seconds, least)
 }
 
 // 0 none, 1 uac, 2 uas.

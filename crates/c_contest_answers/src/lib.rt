@@ -1,4 +1,5 @@
 // The answer of the interval contest handed over to a C caller: the number is returned, and the values go to the lent numbers.
+// Kept (1, 5): the header gives each lent number a parameter of its own: a flag beside the least and the most that it is of.
 #![tactic(auto)]
 
 ghost use Rattle.interval_contest.specs.Answers.{outcome_in};

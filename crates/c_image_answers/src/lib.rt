@@ -1,4 +1,5 @@
 // Answers about one record image handed over to a C caller: the number is returned, and the values go to the lent numbers.
+// Kept (1, 5): the header gives each lent number a parameter of its own: a flag beside what it is of, a place and its length.
 #![tactic(auto)]
 
 ghost use Rattle.c_image_answers.specs.Given.{StateGives, UrisGives, NumbersGives};

@@ -1,4 +1,5 @@
 // The answer to a PRACK handed over to a C caller: the number is returned, and the values go to the lent numbers.
+// Kept (1, 5): the header gives each part of a RAck a parameter of its own, the method as its number.
 #![tactic(auto)]
 
 ghost use Rattle.c_prack_answers.specs.Given.{rack_of, ValidatedGives};

@@ -1,4 +1,4 @@
--- The values beside the number: the next local number, 13's least interval, the count, how many bytes of the output were written. Assumes nothing.
+-- The values beside the number: the next local number, the count, how many bytes of the output were written. Assumes nothing.
 use Prim.Native.Nat.{ℕ}
 use mathlib.Core.Path.{◌≡◌, refl, sym, ap, subst, ◌∙◌}
 use mathlib.Core.List.{List}
@@ -13,31 +13,13 @@ use Rattle.dialog_id.specs.Ident.{Ident}
 use Rattle.book.specs.Calls.{local_number, Call, update, read, count, all_ids, Value, number, Answer}
 use Rattle.book.specs.Book.{reading_cause, reply}
 use Rattle.book.specs.Store.{run}
-use Rattle.book.specs.Returned.{Returns, number_after, length_after, least_after}
+use Rattle.book.specs.Returned.{Returns, number_after, length_after}
 use Rattle.book.proofs.ReadingLaws.{local_value, identifiers_value}
-use Rattle.dialog_manager.specs.Answers.{written_by, written_in, ids_written}
+use Rattle.dialog_manager.specs.Answers.{written_by, ids_written}
 use Rattle.store_entries.specs.Entries.{raised_by, raised_in}
 use Rattle.dialog_manager.proofs.LookupLaws.{Kept, kept, store_refuses, replies}
-use Rattle.c_answers.specs.Given.{ValueGives, value_after, WithUsedGives, WithUsedNumbers, with_used_after, WithLeastGives, WithLeastNumbers, with_least_after}
+use Rattle.c_answers.specs.Given.{ValueGives, value_after, WithUsedGives, WithUsedNumbers, with_used_after}
 use Rattle.c_store_answers.proofs.ReturnLaws.{written_returns}
-
--- ---- a new interval: 13's least
-
-module _ (L : LimitSet) (c : Call) (bytes : List ℕ) (used : ℕ) where
-  pub set_returns : (w : Result ℕ Refusal) (after : List ℕ) (old : ℕ) (left : WithLeastNumbers ℕ) (r : ℕ) → w ≡ written_in (run L c bytes used) → after ≡ (run L c bytes used).bytes
-      → WithLeastGives w (record { value = used; least = old }) r left → Returns (run L c bytes used) after left.value r × (left.least ≡ least_after (run L c bytes used).answer old)
-  set_returns w after old left r e b g = (
-    written_returns L c bytes used w after left.value r e b (record { number_is = g.number_is; left_is = ap (λ (x : WithLeastNumbers ℕ). x.value) g.left_is ∙ used_same w }),
-    ap (λ (x : WithLeastNumbers ℕ). x.least) g.left_is ∙ (ap (λ (x : Result ℕ Refusal). (with_least_after x (record { value = used; least = old })).least) e ∙ least_same (run L c bytes used).answer (run L c bytes used).used),
-  )
-    where
-      used_same : (x : Result ℕ Refusal) → (with_least_after x (record { value = used; least = old })).value ≡ value_after x used
-      used_same (Err cause) = refl
-      used_same (Ok n) = refl
-
-      least_same : (a : Answer) (n : ℕ) → (with_least_after (written_by n a) (record { value = used; least = old })).least ≡ least_after a old
-      least_same (Err cause) n = refl
-      least_same (Ok v) n = refl
 
 -- ---- the next local number
 

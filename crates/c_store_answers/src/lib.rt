@@ -1,4 +1,5 @@
 // Answers of the calls on a dialog store handed over to a C caller: the number is returned, and the values go to the lent numbers.
+// Kept (5): the header gives each lent number a parameter of its own, a place and its length too.
 #![tactic(auto)]
 
 ghost use Rattle.std.specs.Prelude.{◌≡◌};
@@ -7,12 +8,12 @@ ghost use Rattle.book.specs.Returned.{place_after, length_after};
 ghost use Rattle.dialog_manager.specs.Lookups.{answer_in};
 ghost use Rattle.c_store_answers.specs.Given.{CountedGives};
 
+use c_answers::give_part;
 use limits::Refusal;
 use metrics::count_one;
+use text::Span;
 
 // Where a record's image lies, and its length.
-// Kept (2): `c_answers::give_part` says what it gives by a part of a text; here it is the value of a call on a store, by which the clauses of the C functions
-// name it.
 pub fn give_place(
     answer: Result<(usize, usize), Refusal>,
     place: &mut usize,
@@ -22,14 +23,11 @@ pub fn give_place(
     ensures place_after { place.new ≡ place_after (answer_in answer) place.old }
     ensures length_after { length.new ≡ length_after (answer_in answer) length.old }
 {
-    match answer {
-        Ok((at, n)) => {
-            *place = at;
-            *length = n;
-            0
-        }
-        Err(x) => x.number(),
-    }
+    give_part(
+        answer.map(|(start, length)| Span { start, length }),
+        place,
+        length,
+    )
 }
 
 // The new used length, and one more counted.

@@ -37,10 +37,6 @@ module _ {A R : Type 0} {broken : R} {tell : A → R} where
   nothing_got None e apart = refl
   nothing_got (Some x) e apart = absurd (let z = apart x.value e in omega arith)
 
--- an answer of two parts
-pub both : {A B : Type 0} {p q : A × B} → p ≡ q → (p.0 ≡ q.0) × (p.1 ≡ q.1)
-both {A} {B} e = (ap (λ (p : A × B). p.0) e, ap (λ (p : A × B). p.1) e)
-
 abbrev pub span_end : Span → ℕ
 span_end p = p.start + p.length
 

@@ -5,7 +5,7 @@ use native.Mathlib.Omega.{arith}
 use mathlib.Core.Path.{◌≡◌, refl, ap, ◌∙◌}
 use mathlib.Core.Bool.{Bool, true, false}
 use mathlib.Core.List.{List, [], ◌∷◌}
-use lib.ListN.{length, take, drop, get_or, length-drop, drop_of_length-le}
+use lib.ListN.{length, take, drop, get_or, length-drop}
 use lib.Seq.{get_or-take, get_or-drop, drop-cons}
 use lib.Dec.{leb}
 use borrow.Author.Tests.{leb-true, leb-false}
@@ -45,9 +45,6 @@ short_four (a ∷ b ∷ c ∷ d ∷ t) h = absurd (omega arith)
 module _ (s : List ℕ) (at : ℕ) where
   pub byte_at : at < length s → byte.read (drop at s) ≡ Some (record { value = get_or s at 0; rest = drop (at + 1) s })
   byte_at h = rw (drop-cons s at 0 h, add-one at)
-
-  pub byte_none : length s ≡ at → byte.read (drop at s) ≡ None
-  byte_none e = rw (drop_of_length-le s {i = at} (omega arith))
 
   pub two_at : at + 2 ≤ length s → two.read (drop at s) ≡ Some (record { value = get_or s at 0 * 256 + get_or s (at + 1) 0; rest = drop (at + 2) s })
   two_at h =

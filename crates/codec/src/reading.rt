@@ -9,7 +9,7 @@ use text::Span;
 pub const LENGTH_SIZE: usize = 2;
 
 // Two length bytes, then as many bytes.
-// Kept (5): a place is a number that records hold and clauses name, and each reading goes on at one that the code adds up.
+// Kept (5): what is answered is a place of the whole bytes; of a slice cut at `at` each caller would have to move it by as much.
 pub fn read_text(bytes: &[u8], at: usize) -> Option<Span>
     requires { at ≤ length bytes.now }
     ensures { result ≡ text_from at (text.read (drop at bytes.now)) }
@@ -28,7 +28,7 @@ pub fn read_text(bytes: &[u8], at: usize) -> Option<Span>
 }
 
 // The two bytes at a place, as a number.
-// Kept (5): a place is a number that records hold and clauses name, and each reading goes on at one that the code adds up.
+// Kept (5): the next reading is at a place of the same bytes (`rest` in the clause); of a slice cut at `at` each caller would have to add it on.
 pub fn read_two(bytes: &[u8], at: usize) -> usize
     requires { at + 2 ≤ length bytes.now }
     ensures bytes_value { two.read (drop at bytes.now) ≡ Some (record { value = result; rest = drop (at + 2) bytes.now }) }
@@ -38,7 +38,8 @@ pub fn read_two(bytes: &[u8], at: usize) -> usize
 }
 
 // The four bytes at a place, as a number.
-// Kept (5): a place is a number that records hold and clauses name, and each reading goes on at one that the code adds up.
+// Kept (5): the next reading is at a place of the same bytes (`rest` in the clause); of a slice cut at `at` each caller would have to add it on.
+// Kept (2): one line each: `from_be_bytes` is each number type's own, so that a function over the type would need a trait of ours for it.
 pub fn read_four(bytes: &[u8], at: usize) -> u32
     requires { at + 4 ≤ length bytes.now }
     ensures { four.read (drop at bytes.now) ≡ Some (record { value = result; rest = drop (at + 4) bytes.now }) }
@@ -47,7 +48,8 @@ pub fn read_four(bytes: &[u8], at: usize) -> u32
 }
 
 // The eight bytes at a place, as a number.
-// Kept (5): a place is a number that records hold and clauses name, and each reading goes on at one that the code adds up.
+// Kept (5): the next reading is at a place of the same bytes (`rest` in the clause); of a slice cut at `at` each caller would have to add it on.
+// Kept (2): one line each: `from_be_bytes` is each number type's own, so that a function over the type would need a trait of ours for it.
 pub fn read_eight(bytes: &[u8], at: usize) -> u64
     requires { at + 8 ≤ length bytes.now }
     ensures { eight.read (drop at bytes.now) ≡ Some (record { value = result; rest = drop (at + 8) bytes.now }) }
@@ -56,7 +58,7 @@ pub fn read_eight(bytes: &[u8], at: usize) -> u64
 }
 
 // The N bytes at a place.
-// Kept (5): a place is a number that records hold and clauses name, and each reading goes on at one that the code adds up.
+// Kept (5): the bytes and the place that its three callers are given; cut at the place in each of them, the slice would be made three times.
 // Kept (6): the array is what std's `from_be_bytes` takes.
 fn bytes_at<const N: usize>(bytes: &[u8], at: usize) -> [u8; N]
     requires { at + N ≤ length bytes.now }

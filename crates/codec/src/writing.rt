@@ -33,6 +33,7 @@ pub fn write_byte(out: &mut [u8], at: usize, b: u8) -> usize
 // A number of two bytes, the higher first.
 // Kept (5): a writer of bytes and place would need a clause about its reference in each function that is lent it, beside those about the bytes and
 // the place: three where two stand.
+// Kept (2): two lines: a function over `[u8; N]` would make them one, and have a contract of its own.
 pub fn write_two(out: &mut [u8], at: usize, n: usize) -> usize
     requires { (n < 65536) × (at + 2 ≤ length out.old) }
     ensures value { result ≡ at + 2 }
@@ -45,6 +46,7 @@ pub fn write_two(out: &mut [u8], at: usize, n: usize) -> usize
 // A number of four bytes, the highest first.
 // Kept (5): a writer of bytes and place would need a clause about its reference in each function that is lent it, beside those about the bytes and
 // the place: three where two stand.
+// Kept (2): two lines: a function over `[u8; N]` would make them one, and have a contract of its own.
 pub fn write_four(out: &mut [u8], at: usize, n: u32) -> usize
     requires { at + 4 ≤ length out.old }
     ensures value { result ≡ at + 4 }
@@ -57,6 +59,7 @@ pub fn write_four(out: &mut [u8], at: usize, n: u32) -> usize
 // A number of eight bytes, the highest first.
 // Kept (5): a writer of bytes and place would need a clause about its reference in each function that is lent it, beside those about the bytes and
 // the place: three where two stand.
+// Kept (2): two lines: a function over `[u8; N]` would make them one, and have a contract of its own.
 pub fn write_eight(out: &mut [u8], at: usize, n: u64) -> usize
     requires { at + 8 ≤ length out.old }
     ensures value { result ≡ at + 8 }

@@ -17,7 +17,7 @@ use Rattle.record.specs.declared.numbers.Numbers.{Numbers as CodeNumbers}
 use Rattle.dialog_rules.specs.Creation.{numbers_at, sequence_in, interval_cause}
 use Rattle.dialog_rules.specs.Updates.{interval_from}
 use Rattle.route_section.specs.Section.{section_of, route_texts}
-use Rattle.route_section.specs.Measured.{Measured}
+use Rattle.route_section.specs.Measured.{MeasuredIn}
 use Rattle.route_section.specs.declared.PeerRoutes.{PeerRoutes}
 
 -- ---- the side
@@ -84,4 +84,4 @@ remainder_in (Err cause) = Err cause
 
 -- the routes beside the numbers are those of the block, and were measured
 abbrev pub MeasuredOf : List ℕ → CodeNumbers × PeerRoutes → Type 0
-MeasuredOf block (x, p) = (p.block.now ≡ block) × Measured p
+MeasuredOf block (x, p) = MeasuredIn block p

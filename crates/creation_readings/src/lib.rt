@@ -48,7 +48,7 @@ pub fn state_for(status: u16) -> Option<State>
 }
 
 // 7 or 8 in the routes, then 4, 9, 10, 13 and 14 of the numbers.
-// Kept (5): the clause asks for the length alone; a type of a checked block would need a second `check_block` that hands it out, and `.text` at each reading.
+// Kept (5): the fact is one inequality; a struct with it as its ghost field would be made at each call and its bytes taken out at each reading.
 pub fn read_rest<'a, S: Side>(
     state: State,
     c: NewDialog<'_>,
@@ -58,14 +58,8 @@ pub fn read_rest<'a, S: Side>(
     ensures value { remainder_in result ≡ remainder_of rust_limits (side_for S.WE_ARE_UAC) (state_in state) c.entry.request.now c.entry.response.now peer.now }
     ensures measured { IfOk result (MeasuredOf peer.now) }
 {
-    let (count, size) = measure_routes(peer)?;
-    let numbers = read_numbers::<S>(state, c)?;
-    let routes = PeerRoutes {
-        block: peer,
-        count,
-        size,
-    };
-    Ok((numbers, routes))
+    let routes = measure_routes(peer)?;
+    Ok((read_numbers::<S>(state, c)?, routes))
 }
 
 // The numbers: 4, 9, 10 of the request's CSeq, 13 and 14 of the response's interval.

@@ -1,14 +1,11 @@
 // The side of the dialog that we are, as a type: by it a creation picks the message, the tags and the number that are ours.
-ghost use Rattle.std.specs.Prelude.{◌≡◌, ◌≤◌, Bool, true, false, length};
-ghost use Rattle.limits.specs.Limits.{rust_limits};
+ghost use Rattle.std.specs.Prelude.{◌≡◌, Bool, true, false, refl};
 ghost use Rattle.dialog_id.specs.DialogId.{id_from};
-ghost use Rattle.route_set.specs.Routes.{routes_of};
-ghost use Rattle.route_section.specs.Section.{section_in};
 ghost use Rattle.creation_readings.specs.Steps.{peer_of, identifier_for, sequences_for};
 
 use creation_checks::NewDialog;
 use dialog_id::DialogId;
-use route_section::{AsReceived, Reversed};
+use route_section::{AsReceived, Order, Reversed};
 
 pub trait Side {
     ghost WE_ARE_UAC: { Bool };
@@ -27,10 +24,10 @@ pub trait Side {
     fn sequences(n: u32) -> (u32, u32)
         ensures { result ≡ sequences_for WE_ARE_UAC n };
 
-    // The section of the peer's routes, over lent bytes that are as long as it is: reversed for uac.
-    fn write_routes(out: &mut [u8], peer: &[u8])
-        requires { (length peer.now ≤ 8192) × (length out.old ≡ length (section_in WE_ARE_UAC (routes_of rust_limits peer.now))) }
-        ensures { out.new ≡ section_in WE_ARE_UAC (routes_of rust_limits peer.now) };
+    // The order in which the peer's routes stand in the record: reversed for uac.
+    type Order: Order;
+
+    ghost order: { Self.Order.reversed ≡ WE_ARE_UAC };
 }
 
 // We sent the request.
@@ -46,17 +43,16 @@ impl Side for Uac {
     }
 
     fn identifier(response: &[u8]) -> Option<DialogId> {
-        dialog_id::read_id(response, b"From", b"To")
+        dialog_id::request_id(response)
     }
 
     fn sequences(n: u32) -> (u32, u32) {
         (n, 0)
     }
 
-    // Kept (5): the parameters are the trait's.
-    fn write_routes(out: &mut [u8], peer: &[u8]) {
-        route_section::write_routes::<Reversed>(out, peer);
-    }
+    type Order = Reversed;
+
+    ghost order = { refl };
 }
 
 // We answered it.
@@ -79,8 +75,7 @@ impl Side for Uas {
         (0, n)
     }
 
-    // Kept (5): the parameters are the trait's.
-    fn write_routes(out: &mut [u8], peer: &[u8]) {
-        route_section::write_routes::<AsReceived>(out, peer);
-    }
+    type Order = AsReceived;
+
+    ghost order = { refl };
 }

@@ -15,7 +15,7 @@ use dialog_id::IdTexts;
 use image_writer::{Front, UriTexts, write_front};
 use limits::Refusal;
 use record::Numbers;
-use route_section::PeerRoutes;
+use route_section::{PeerRoutes, write_routes};
 
 // The image over the front of `out`, by the side that we are: 18.
 pub fn write_image<S: Side>(
@@ -40,7 +40,7 @@ pub fn write_image<S: Side>(
     };
     let n = write_front(out, front, peer.size)?;
     let end = n + peer.size;
-    S::write_routes(&mut out[n..end], peer.block);
+    write_routes::<S::Order>(&mut out[n..end], peer.block);
     Ok(end)
 }
 

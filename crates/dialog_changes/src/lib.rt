@@ -14,7 +14,7 @@ use record_edit::revise_numbers;
 use store_steps::{interval_at, local_at, terminate_at};
 
 // Dialog::confirm: 3. Early becomes Confirmed; every other state stays.
-// Kept (5, 6): a C caller lends bytes and says how many are used.
+// Kept (5, 6): C says how many of the lent bytes are used, perhaps too many: 3, in its turn among the causes; so both are taken as given.
 pub fn confirm(bytes: &mut [u8], used: usize) -> Result<usize, Refusal>
     ensures value { result ≡ written_from (confirmed bytes.old used) }
     ensures bytes_after { bytes.new ≡ leaves (confirmed bytes.old used) bytes.old }
@@ -24,7 +24,8 @@ pub fn confirm(bytes: &mut [u8], used: usize) -> Result<usize, Refusal>
 }
 
 // Dialog::terminate: 3.
-// Kept (5, 6): a C caller lends bytes and says how many are used.
+// Kept (5, 6): C says how many of the lent bytes are used, perhaps too many: 3, in its turn among the causes; so both are taken as given.
+// Kept (2): two lines, and a clause of its own for each: what is found, and the step that is taken there.
 pub fn terminate(bytes: &mut [u8], used: usize) -> Result<usize, Refusal>
     ensures value { result ≡ written_from (terminated bytes.old used) }
     ensures bytes_after { bytes.new ≡ leaves (terminated bytes.old used) bytes.old }
@@ -34,7 +35,8 @@ pub fn terminate(bytes: &mut [u8], used: usize) -> Result<usize, Refusal>
 }
 
 // Dialog::next_local_cseq: 3, 18. Answers the new number, and the image's new length.
-// Kept (5, 6): a C caller lends bytes and says how many are used.
+// Kept (5, 6): C says how many of the lent bytes are used, perhaps too many: 3, in its turn among the causes; so both are taken as given.
+// Kept (2): two lines, and a clause of its own for each: what is found, and the step that is taken there.
 pub fn next_local_cseq(bytes: &mut [u8], used: usize) -> Result<(u32, usize), Refusal>
     ensures value { result ≡ raised_answer (raised_record bytes.old used) }
     ensures bytes_after { bytes.new ≡ leaves (local_raised bytes.old used) bytes.old }
@@ -44,7 +46,7 @@ pub fn next_local_cseq(bytes: &mut [u8], used: usize) -> Result<(u32, usize), Re
 }
 
 // Dialog::set_session_expires: 3, 13 with 90, 14, 18.
-// Kept (5, 6): a C caller lends bytes and says how many are used.
+// Kept (5, 6): C says how many of the lent bytes are used, perhaps too many: 3, in its turn among the causes; so both are taken as given.
 pub fn set_session_expires(bytes: &mut [u8], used: usize, seconds: u64) -> Result<usize, Refusal>
     ensures value { result ≡ written_from (interval_set rust_limits seconds bytes.old used) }
     ensures bytes_after { bytes.new ≡ leaves (interval_set rust_limits seconds bytes.old used) bytes.old }
@@ -54,7 +56,7 @@ pub fn set_session_expires(bytes: &mut [u8], used: usize, seconds: u64) -> Resul
 }
 
 // The one record of the used bytes, which begins at 0: 3.
-// Kept (5, 6): a C caller lends bytes and says how many are used, and may say more than there are.
+// Kept (5, 6): C says how many of the lent bytes are used, perhaps too many: 3, in its turn among the causes; so both are taken as given.
 pub fn read_used(bytes: &[u8], used: usize) -> Result<RecordPlace, Refusal>
     ensures value { result ≡ place_answer used (used_record bytes.now used) }
     ensures stands { IfOk result (λ p. StandsAt bytes.now p) }

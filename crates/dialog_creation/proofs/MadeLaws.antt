@@ -32,7 +32,7 @@ use Rattle.record.specs.NumbersForm.{meaning, state_in, state_from}
 use Rattle.record.specs.declared.numbers.State.{State as CodeState}
 use Rattle.record.specs.declared.numbers.Numbers.{Numbers as CodeNumbers}
 use Rattle.record.proofs.NumberLaws.{state_same}
-use Rattle.image_writer.specs.Parts.{Parts, Short, ids_given, uris_given, parts_of, image_of}
+use Rattle.image_writer.specs.Parts.{Parts, uris_given, parts_of, image_of}
 use Rattle.image_writer.specs.declared.front.UriTexts.{UriTexts}
 use Rattle.image_writer.proofs.ImageLaws.{image_parts}
 use Rattle.dialog_rules.specs.Creation.{Creation, peer_block, identifier_in, target_of, is_uac, numbers_at, estimate_cause, state_by, sequence_in, interval_cause, record_with, made_by}
@@ -192,9 +192,6 @@ own_texts u r i n =
 
 part_short : (r : List ℕ) (v : Span) → length r ≤ 8192 → length (part_in r v) < 65536
 part_short r v h = omega (arith, length-take v.length (drop v.start r), length-drop v.start r)
-
-pub id_short : (r : List ℕ) (i : DialogId) (k : IdTexts) → ident_of k ≡ ident_in r i → length r ≤ 8192 → Short (ids_given k)
-id_short r i k e h = subst (λ (x : Ident). (length x.call_id < 65536) × (length x.local_tag < 65536) × (length x.remote_tag < 65536)) (sym e) (part_short r i.call_id h, part_short r i.local_tag h, part_short r i.remote_tag h)
 
 -- the parts of an image by the identifier and the URIs
 abbrev parts_by : Bool → Numbers → Ident → Uris → List ℕ → Parts

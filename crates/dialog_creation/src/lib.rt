@@ -17,7 +17,7 @@ use limits::Refusal;
 
 // The record of a dialog that our request opens, by the response to it, as an image over the front of `out`. The method is measured and no
 // more: 1, 2, 6, 4, 5, 7, 8, 4, 9, 10, 13 with 90, 14, 18.
-// Kept (5): what is read, and the lent output.
+// Kept (5): `out` is `&mut`: in `NewDialog` it would make that no Copy, and the checks take it by value one after another.
 pub fn new_uac(c: NewDialog<'_>, out: &mut [u8]) -> Result<usize, Refusal>
     ensures value { result ≡ written_from (new_image rust_limits uac (creation_of c.entry) (length out.old)) }
     ensures out_after { out.new ≡ leaves (new_image rust_limits uac (creation_of c.entry) (length out.old)) out.old }
@@ -26,7 +26,7 @@ pub fn new_uac(c: NewDialog<'_>, out: &mut [u8]) -> Result<usize, Refusal>
 }
 
 // The record of a dialog that a request to us opens, by our response to it: the same refusals.
-// Kept (5): what is read, and the lent output.
+// Kept (5): `out` is `&mut`: in `NewDialog` it would make that no Copy, and the checks take it by value one after another.
 pub fn new_uas(c: NewDialog<'_>, out: &mut [u8]) -> Result<usize, Refusal>
     ensures value { result ≡ written_from (new_image rust_limits uas (creation_of c.entry) (length out.old)) }
     ensures out_after { out.new ≡ leaves (new_image rust_limits uas (creation_of c.entry) (length out.old)) out.old }
@@ -35,7 +35,7 @@ pub fn new_uas(c: NewDialog<'_>, out: &mut [u8]) -> Result<usize, Refusal>
 }
 
 // Either of the two: 1, 2 and 6, and then all that depends on what is read.
-// Kept (5): what is read, and the lent output.
+// Kept (5): `out` is `&mut`: in `NewDialog` it would make that no Copy, and the checks take it by value one after another.
 fn create<S: Side>(c: NewDialog<'_>, out: &mut [u8]) -> Result<usize, Refusal>
     ensures value { result ≡ written_from (new_image rust_limits (side_for S.WE_ARE_UAC) (creation_of c.entry) (length out.old)) }
     ensures out_after { out.new ≡ leaves (new_image rust_limits (side_for S.WE_ARE_UAC) (creation_of c.entry) (length out.old)) out.old }
@@ -47,7 +47,7 @@ fn create<S: Side>(c: NewDialog<'_>, out: &mut [u8]) -> Result<usize, Refusal>
 }
 
 // The same of what has passed these checks.
-// Kept (5): what is read, and the lent output.
+// Kept (5): `out` is `&mut`: in `NewDialog` it would make that no Copy, and the checks take it by value one after another.
 fn make<S: Side>(c: NewDialog<'_>, out: &mut [u8]) -> Result<usize, Refusal>
     requires { (length c.request.now ≤ 8192) × (length c.response.now ≤ 8192) × (length c.local_uri.now ≤ 8192) × (length c.remote_uri.now ≤ 8192) }
     ensures value { result ≡ written_from (made_image rust_limits (side_for S.WE_ARE_UAC) (checked_of c.entry) (length out.old)) }

@@ -19,7 +19,7 @@ use msg::HeaderTable;
 use text::Span;
 
 // The three texts of an identifier.
-#[derive(Clone, Copy, PartialEq)]
+#[derive(Clone, Copy, PartialEq, Eq, PartialOrd, Ord)]
 pub struct IdTexts<'a> {
     pub call_id: &'a [u8],
     pub local_tag: &'a [u8],
@@ -138,6 +138,8 @@ pub fn read_id(block: &[u8], local_name: &[u8], remote_name: &[u8]) -> Option<Di
 }
 
 // The Call-ID and the tags of three lines that were looked up.
+// Kept (5): a line that was looked up is its place and the next line's, kept without a lifetime (`HeaderTable` has eight); a `text::Part` would
+// carry the text beside the place, and each table the block's lifetime.
 pub fn id_at(
     block: &[u8],
     call_id: Option<(Span, usize)>,
@@ -158,8 +160,8 @@ pub fn id_at(
 }
 
 // The tag of a line that was looked up, where it stands in the block.
-// Kept (5): a line is a value that definitions give (`found_of`, `table_of`); with its text in it, which is lent, it is none, and the table of the
-// definitions would be a second type beside `HeaderTable`.
+// Kept (5): a line that was looked up is its place and the next line's, kept without a lifetime (`HeaderTable` has eight); a `text::Part` would
+// carry the text beside the place, and each table the block's lifetime.
 fn tag_at(block: &[u8], line: Option<(Span, usize)>) -> Option<Span>
     requires { end_of line ≤ length block.now }
     ensures { result ≡ part_of (tag_in (value_at line block.now)) }
@@ -195,5 +197,5 @@ fn all_plain(s: &[u8]) -> bool
 fn is_plain(b: u8) -> bool
     ensures { result ≡ is_plain b }
 {
-    32 <= b && b <= 126
+    text::in_range(b, 32, 126)
 }

@@ -6,7 +6,7 @@ use Rattle.record.specs.Record.{Record, image}
 use Rattle.image.specs.Places.{record_places, record_from}
 use Rattle.image.specs.declared.RecordAt.{RecordAt}
 use Rattle.image.specs.declared.sections.IdsAt.{IdsAt}
-use Rattle.text.specs.Spans.{part_in}
+use Rattle.text.specs.Spans.{part_in, PartWithin}
 use Rattle.record.specs.Store.{decode_all}
 use Rattle.book.specs.Book.{Book, is_of, first_place}
 
@@ -48,8 +48,7 @@ Stands s (Some (at, r)) = (at ≤ length s) × (record_from at (image.read (drop
 Stands s None = Unit {0}
 
 abbrev pub IdsWithin : List ℕ → IdsAt → Type 0
-IdsWithin s i =
-    (i.id.call_id.start + i.id.call_id.length ≤ length s) × (i.id.local_tag.start + i.id.local_tag.length ≤ length s) × (i.id.remote_tag.start + i.id.remote_tag.length ≤ length s)
+IdsWithin s i = PartWithin s i.id.call_id × PartWithin s i.id.local_tag × PartWithin s i.id.remote_tag
 
 -- the texts at the places of an identifier are the record's
 abbrev pub TextsOf : List ℕ → IdsAt → Record → Type 0

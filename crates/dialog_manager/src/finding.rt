@@ -1,7 +1,7 @@
 // The first record of an identifier, or of a Call-ID, in a store's used bytes.
-ghost use Rattle.std.specs.Prelude.{◌≡◌, Bool, ◌+◌, ◌≤◌, length};
+ghost use Rattle.std.specs.Prelude.{◌≡◌, Bool};
 ghost use Rattle.text.specs.Text.{equal};
-ghost use Rattle.text.specs.Spans.{part_in};
+ghost use Rattle.text.specs.Spans.{part_in, PartWithin};
 ghost use Rattle.record.specs.Record.{Record};
 ghost use Rattle.record.specs.Store.{decode_all};
 ghost use Rattle.dialog_manager.specs.Search.{named, of_call_id, named_at, HeldTo, IdsWithin, found_in, Stands};
@@ -25,6 +25,8 @@ pub trait Wanted {
     ghost test: { Self → Record → Bool };
 
     // Whether it is the one whose identifier lies at these places.
+    // Kept (5): the bytes are those of the store searched, and the places are others at each record: a struct of both, with `IdsWithin` as its
+    // ghost field, would be made and proved anew at each.
     fn is_at(&self, bytes: &[u8], ids: IdsAt) -> bool
         requires { IdsWithin bytes.now ids }
         ensures { HeldTo (test self.now) bytes.now ids result };
@@ -39,7 +41,7 @@ pub struct OfId<'a> {
 impl<'a> Wanted for OfId<'a> {
     ghost test = { λ w. named w.id.call_id.now w.id.local_tag.now w.id.remote_tag.now };
 
-    // Kept (5): the bytes are those of the store searched, and the places are others at each record.
+    // Kept (5): the trait's parameters.
     fn is_at(&self, bytes: &[u8], ids: IdsAt) -> bool {
         is_named(bytes, ids, self.id)
     }
@@ -54,7 +56,7 @@ pub struct OfCallId<'a> {
 impl<'a> Wanted for OfCallId<'a> {
     ghost test = { λ w. of_call_id w.call_id.now };
 
-    // Kept (5): the bytes are those of the store searched, and the places are others at each record.
+    // Kept (5): the trait's parameters.
     fn is_at(&self, bytes: &[u8], ids: IdsAt) -> bool {
         is_part(bytes, ids.id.call_id, self.call_id)
     }
@@ -77,8 +79,8 @@ pub fn search<W: Wanted>(held: Held<'_>, wanted: &W) -> Option<(usize, RecordAt)
 }
 
 // The texts at these places are the identifier's.
-// Kept (4, 5): `ids.id.texts(bytes) == id` makes three slices at each record, where the Call-ID mostly decides, and a request has a bar of 3,700 instructions
-// a record at 10,000. The bytes are those of the store searched, and the places are others at each record.
+// Kept (4, 5): part by part, as `named_at` says it, both tags are cut out only of a record that has the Call-ID; `ids.id.texts(bytes) == id` would
+// cut them out of each record, where the Call-ID mostly decides. The parameters are those of `is_at`.
 fn is_named(bytes: &[u8], ids: IdsAt, id: IdTexts<'_>) -> bool
     requires { IdsWithin bytes.now ids }
     ensures { result ≡ named_at bytes.now ids id.entry.call_id.now id.entry.local_tag.now id.entry.remote_tag.now }
@@ -89,8 +91,9 @@ fn is_named(bytes: &[u8], ids: IdsAt, id: IdTexts<'_>) -> bool
 }
 
 // The bytes that a span names are the text.
+// Kept (5): the fact is the clause of `Span::text`, by which the bytes of the part are had; a `Part` made of both would be taken apart at once.
 pub fn is_part(bytes: &[u8], part: Span, t: &[u8]) -> bool
-    requires { part.start + part.length ≤ length bytes.now }
+    requires { PartWithin bytes.now part }
     ensures { result ≡ equal (part_in bytes.now part) t.now }
 {
     text::equal_text(part.text(bytes), t)

@@ -11,7 +11,7 @@ use dialog_id::{IdTexts, request_id};
 use limits::Refusal;
 
 // DialogManager::get: 1, 3, 15.
-// Kept (5, 6): a C caller lends bytes and says how many are used.
+// Kept (5, 6): C says how many of the lent bytes are used, perhaps too many: 3, in its turn among the causes; so both are taken as given.
 pub fn get(id: IdTexts<'_>, bytes: &[u8], used: usize) -> Result<(usize, usize), Refusal>
     ensures { answer_in result ≡ (run rust_limits (read (length bytes.now) (getting id.entry.call_id.now id.entry.local_tag.now id.entry.remote_tag.now)) bytes.now used).answer }
 {
@@ -21,7 +21,7 @@ pub fn get(id: IdTexts<'_>, bytes: &[u8], used: usize) -> Result<(usize, usize),
 }
 
 // DialogManager::find_by_call_id: 1, 3, 15. The first in the store.
-// Kept (5, 6): a C caller lends bytes and says how many are used.
+// Kept (5, 6): C says how many of the lent bytes are used, perhaps too many: 3, in its turn among the causes; so both are taken as given.
 pub fn find_by_call_id(call_id: &[u8], bytes: &[u8], used: usize) -> Result<(usize, usize), Refusal>
     ensures { answer_in result ≡ (run rust_limits (read (length bytes.now) (find_by_call_id call_id.now)) bytes.now used).answer }
 {
@@ -31,7 +31,7 @@ pub fn find_by_call_id(call_id: &[u8], bytes: &[u8], used: usize) -> Result<(usi
 }
 
 // DialogManager::find_by_request: 1, 2, 3, 15, the last where a part of the identifier can't be read too. A request from the peer has From as remote tag.
-// Kept (5, 6): a C caller lends bytes and says how many are used.
+// Kept (5, 6): C says how many of the lent bytes are used, perhaps too many: 3, in its turn among the causes; so both are taken as given.
 pub fn find_by_request(block: &[u8], bytes: &[u8], used: usize) -> Result<(usize, usize), Refusal>
     ensures { answer_in result ≡ (run rust_limits (read (length bytes.now) (find_by_request block.now)) bytes.now used).answer }
 {

@@ -1,6 +1,6 @@
 // The place of a record in the used bytes of a store that was read.
-ghost use Rattle.std.specs.Prelude.{◌≡◌, ◌+◌, ◌≤◌, length};
-ghost use Rattle.text.specs.Spans.{part_in};
+ghost use Rattle.std.specs.Prelude.{◌≡◌};
+ghost use Rattle.text.specs.Spans.{part_in, PartWithin};
 ghost use Rattle.record.specs.Store.{decode_all};
 ghost use Rattle.dialog_manager.specs.Search.{named};
 ghost use Rattle.dialog_manager.specs.Lookups.{answer_in, place_in};
@@ -24,7 +24,7 @@ pub fn place_of_request(
     i: DialogId,
     held: Held<'_>,
 ) -> Result<(usize, usize), Refusal>
-    requires { (i.call_id.start + i.call_id.length ≤ length block.now) × (i.local_tag.start + i.local_tag.length ≤ length block.now) × (i.remote_tag.start + i.remote_tag.length ≤ length block.now) }
+    requires { PartWithin block.now i.call_id × PartWithin block.now i.local_tag × PartWithin block.now i.remote_tag }
     ensures { answer_in result ≡ place_in (named (part_in block.now i.call_id) (part_in block.now i.remote_tag) (part_in block.now i.local_tag)) (decode_all held.entry.bytes.now) }
 {
     let id = i.swapped().texts(block);

@@ -21,7 +21,7 @@ use record::Method;
 use text::Span;
 
 // On one record, given as its image with room behind it: 1, 2, 3, 4, 9; ACK: 11; others: 10, 11, 12; 18. Answers the image's new length.
-// Kept (5, 6): a C caller lends bytes and says how many are used.
+// Kept (5, 6): C says how many of the lent bytes are used, perhaps too many: 3, in its turn among the causes; so both are taken as given.
 pub fn update_from_request(
     method: &[u8],
     block: &[u8],
@@ -41,7 +41,7 @@ pub fn update_from_request(
 // Answers the new used length.
 // Kept (5): the bytes are `&mut`: a struct of them and the place isn't Copy, so that it would be made anew for each further call, and clauses
 // would say `p.exit.0.now` for `bytes.new`.
-// Kept (5): the clause asks for the length alone; a type of a checked block would need a second `check_block` that hands it out, and `.text` at each reading.
+// Kept (5): the fact is one inequality; a struct with it as its ghost field would be made at each call and its bytes taken out at each reading.
 pub fn request_at(
     bytes: &mut [u8],
     p: RecordPlace,
@@ -62,7 +62,7 @@ pub fn request_at(
 // Kept (5): the bytes are `&mut`: a struct of them and the place isn't Copy, so that it would be made anew for each further call, and clauses
 // would say `p.exit.0.now` for `bytes.new`.
 // Kept (1): document 01 has the reading of a number opened by `let .. else`.
-// Kept (5): the clause asks for the length alone; a type of a checked block would need a second `check_block` that hands it out, and `.text` at each reading.
+// Kept (5): the fact is one inequality; a struct with it as its ghost field would be made at each call and its bytes taken out at each reading.
 pub fn request_by(
     bytes: &mut [u8],
     p: RecordPlace,

@@ -1,42 +1,25 @@
 -- A response on a record by its steps. Assumes nothing.
 use Prim.Native.Nat.{ℕ}
 use native.Mathlib.Omega.{arith}
-use mathlib.Core.Path.{◌≡◌, refl, sym, ap, ◌∙◌}
+use mathlib.Core.Path.{◌≡◌, refl, sym, ◌∙◌}
 use mathlib.Core.Bool.{true, false}
 use mathlib.Core.List.{List, [], ◌∷◌}
 use lib.ListN.{length}
-use Rattle.std.specs.Prelude.{Err, None, Ok, Option, Result, Some}
+use Rattle.std.specs.Prelude.{Err, Ok, Result}
 use Rattle.limits.specs.Limits.{LimitSet}
 use Rattle.limits.specs.Outcome.{check_of}
 use Rattle.limits.specs.declared.Refusal.{Refusal}
-use Rattle.limits.proofs.Laws.{passed, stopped, some_pair, ok_pair}
+use Rattle.limits.proofs.Laws.{passed, stopped, ok_pair}
 use Rattle.text.specs.Text.{Piece}
 use Rattle.msg.specs.Block.{block_cause}
-use Rattle.headers.specs.SessionExpires.{Interval, expires_from}
-use Rattle.headers.specs.declared.session_timer.Refresher.{Refresher}
 use Rattle.route_set.specs.Routes.{routes_of}
 use Rattle.route_section.specs.Section.{section_from}
 use Rattle.routes_edit.specs.Rerouted.{renewed_by}
 use Rattle.record.specs.Changes.{with_numbers, with_routes}
-use Rattle.record.specs.NumbersForm.{side_in}
-use Rattle.record.specs.Record.{Side, Numbers, Record}
-use Rattle.dialog_rules.specs.Updates.{retargeted, confirms, routes_or, interval_from, answered, response_update}
+use Rattle.record.specs.Record.{Numbers, Record}
+use Rattle.dialog_rules.specs.Updates.{retargeted, confirms, routes_or, answered, response_update}
 use Rattle.dialog_changes.specs.ImageUpdates.{used_record, image_after}
 use Rattle.dialog_updates.specs.Messages.{responded}
-
--- ---- the interval
-
-pub no_interval : (o : Option Interval) (x : Numbers) → expires_from o ≡ None → x ≡ interval_from o x
-no_interval None x e = refl
-no_interval (Some i) x e = absurd (let z : ◌≡◌ {A = ℕ} 0 1 = cc in omega arith)
-
-pub an_interval : (o : Option Interval) (x : Numbers) (n : ℕ) (r : Option Refresher) → expires_from o ≡ Some (n, r)
-    → record { state = x.state; local = x.local; remote = x.remote; last_ack = x.last_ack; seconds = Some n; refresher = side_in r } ≡ interval_from o x
-an_interval None x n r e = absurd (let z : ◌≡◌ {A = ℕ} 0 1 = cc in omega arith)
-an_interval (Some i) x n r e =
-    let same : (i.seconds ≡ n) × (i.refresher ≡ r) = some_pair e in
-    ap (λ (k : ℕ). record { state = x.state; local = x.local; remote = x.remote; last_ack = x.last_ack; seconds = Some k; refresher = side_in r }) (sym same.0)
-    ∙ ap (λ (y : Option Side). record { state = x.state; local = x.local; remote = x.remote; last_ack = x.last_ack; seconds = Some i.seconds; refresher = y }) (ap side_in (sym same.1))
 
 -- ---- the routes
 

@@ -19,11 +19,11 @@ use dialog_updates::revise;
 use image_edit::RecordPlace;
 use limits::Refusal;
 use record::{Numbers, State};
-use route_section::{PeerRoutes, measure_routes};
+use route_section::measure_routes;
 use routes_edit::Renewal;
 
 // On one record, given as its image with room behind it: 1, 2, 3, 18. Answers the image's new length.
-// Kept (5, 6): a C caller lends bytes and says how many are used.
+// Kept (5, 6): C says how many of the lent bytes are used, perhaps too many: 3, in its turn among the causes; so the two go on as given.
 pub fn update_from_response(
     status: u16,
     block: &[u8],
@@ -41,7 +41,7 @@ pub fn update_from_response(
 // On the record that was read at a place of a store's used bytes, by a block that was checked: 18. Answers the new used length.
 // Kept (5): the bytes are `&mut`: a struct of them and the place isn't Copy, so that it would be made anew for each further call, and clauses
 // would say `p.exit.0.now` for `bytes.new`.
-// Kept (5): the clause asks for the length alone; a type of a checked block would need a second `check_block` that hands it out, and `.text` at each reading.
+// Kept (5): the fact is one inequality; a struct with it as its ghost field would be made at each call and its bytes taken out at each reading.
 pub fn response_at(
     bytes: &mut [u8],
     p: RecordPlace,
@@ -65,7 +65,7 @@ pub fn response_at(
 // The 2xx that confirms an Early record: the block's routes too, where they can be read and there are some.
 // Kept (5): the bytes are `&mut`: a struct of them and the place isn't Copy, so that it would be made anew for each further call, and clauses
 // would say `p.exit.0.now` for `bytes.new`.
-// Kept (5): the clause asks for the length alone; a type of a checked block would need a second `check_block` that hands it out, and `.text` at each reading.
+// Kept (5): the fact is one inequality; a struct with it as its ghost field would be made at each call and its bytes taken out at each reading.
 fn confirm_at(
     bytes: &mut [u8],
     p: RecordPlace,
@@ -78,10 +78,7 @@ fn confirm_at(
     ensures bytes_after { bytes.new ≡ leaves (fitted (length bytes.old) (changed (λ v. retargeted block.now (with_numbers (meaning numbers) (with_routes (routes_or v.routes (routes_of rust_limits block.now)) v))) p.at (take p.used bytes.old))) bytes.old }
 {
     match measure_routes(block) {
-        Ok((count, size)) if count != 0 => {
-            let peer = PeerRoutes { block, count, size };
-            revise(bytes, p, Renewal { numbers, peer }, block)
-        }
+        Ok(peer) if peer.count != 0 => revise(bytes, p, Renewal { numbers, peer }, block),
         _ => revise(bytes, p, numbers, block),
     }
 }

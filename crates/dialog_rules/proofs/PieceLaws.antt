@@ -6,11 +6,11 @@ use mathlib.Core.Bool.{Bool, true, false, cond, ◌&&◌}
 use mathlib.Core.List.{List, [], ◌∷◌}
 use lib.ListN.{length, get_or, take, drop, length-take, length-drop}
 use lib.Dec.{ltb, eqb}
+use Rattle.std.proofs.lemmas.Bool.{and_parts}
 use Rattle.std.specs.Prelude.{None, Option, Some}
 use Rattle.limits.proofs.Laws.{some_pair}
 use Rattle.text.specs.Text.{is_value, span, all, blanks, text_end, trimmed, Piece}
 use Rattle.msg.specs.Block.{name_length, value_length, line_at, HeaderLine, named, with_line, tail_of, lines_from, lines_of, first_named, all_named, value_of, value_named}
-use Rattle.output.proofs.ClassLaws.{both_left, both_right}
 use Rattle.codec.proofs.CodecLaws.{GoodAll}
 
 -- at most k bytes, each of them allowed in values
@@ -24,14 +24,14 @@ pub all_take : (p : ℕ → Bool) (k : ℕ) (s : List ℕ) → all p s ≡ true 
 unfolding all
 all_take p zero s e = refl
 all_take p (suc k) [] e = refl
-all_take p (suc k) (b ∷ s) e = rw (both_left (p b) (all p s) e) (all_take p k s (both_right (p b) (all p s) e))
+all_take p (suc k) (b ∷ s) e = rw ((and_parts (p b) (all p s) e).0) (all_take p k s (and_parts (p b) (all p s) e).1)
 
 -- the bytes after the first of a text that passes pass
 pub all_drop : (p : ℕ → Bool) (k : ℕ) (s : List ℕ) → all p s ≡ true → all p (drop k s) ≡ true
 unfolding all
 all_drop p zero s e = e
 all_drop p (suc k) [] e = refl
-all_drop p (suc k) (b ∷ s) e = all_drop p k s (both_right (p b) (all p s) e)
+all_drop p (suc k) (b ∷ s) e = all_drop p k s (and_parts (p b) (all p s) e).1
 
 -- a run passes
 span_passes : (p : ℕ → Bool) (s : List ℕ) → all p (take (span p s) s) ≡ true

@@ -1,13 +1,13 @@
 -- The parts of an identifier and the Contact's URI that are read from a block lie in the block; those of a request's identifier at the places that
 -- `request_id` answers. Assumes nothing.
-use Prim.Native.Nat.{ℕ, ◌+◌, ◌-◌, ◌≤◌}
+use Prim.Native.Nat.{ℕ, ◌+◌, ◌-◌}
 use native.Mathlib.Omega.{arith}
 use mathlib.Core.Path.{◌≡◌, refl, sym, ap, subst, ◌∙◌}
 use mathlib.Core.List.{List}
-use lib.ListN.{length, take, drop, length-drop}
+use lib.ListN.{length, take, drop}
 use lib.Seq.{drop-drop, take-take}
 use Rattle.std.specs.Prelude.{None, Option, Some}
-use Rattle.edit.proofs.EditLaws.{drop_take}
+use Rattle.std.proofs.lemmas.List.{drop-take}
 use Rattle.text.specs.Text.{Piece, moved_piece, moved}
 use Rattle.text.specs.Answers.{span_of}
 use Rattle.msg.specs.Block.{HeaderLine, lines_of, first_named, value_of, value_named, found_of}
@@ -38,8 +38,7 @@ moved_placed s v p a b =
     let x : List ℕ = drop v.place s in
     let n : ℕ = length v.text - p.place in
     let k : p.place + n ≡ length v.text = omega (arith, b.fits) in
-    let i : p.place ≤ length x = omega (arith, a.fits, b.fits, length-drop v.place s) in
-    let t : drop p.place v.text ≡ take n (drop p.place x) = ap (drop p.place) (sym a.there) ∙ ap (λ (m : ℕ). drop p.place (take m x)) (sym k) ∙ drop_take p.place n x i in
+    let t : drop p.place v.text ≡ take n (drop p.place x) = ap (drop p.place) (sym a.there) ∙ ap (λ (m : ℕ). drop p.place (take m x)) (sym k) ∙ drop-take p.place n x in
     let w : take (length p.text) (drop p.place x) ≡ p.text = sym (take-take (length p.text) n (drop p.place x) (omega (arith, b.fits))) ∙ ap (take (length p.text)) (sym t) ∙ b.there in
     record {
       fits = omega (arith, a.fits, b.fits);

@@ -13,7 +13,7 @@ use Rattle.ordered_store.proofs.OrderLaws.{order_itself, order_transitive}
 use Rattle.record_walk.specs.Walk.{At}
 use Rattle.distinct.specs.Keys.{key_at}
 use Rattle.distinct.specs.Sorting.{EachAt, Ascending, tally}
-use Rattle.distinct.proofs.Bits.{bit_le}
+use Rattle.record.proofs.MapLaws.{bit_le}
 use Rattle.text.proofs.Sames.{equal_same, equal_is}
 
 module _ (s : List ℕ) where

@@ -4,20 +4,20 @@ use native.Mathlib.Omega.{arith}
 use mathlib.Core.Path.{◌≡◌, refl, sym, ap, ◌∙◌}
 use mathlib.Core.Bool.{Bool, true, false, ◌&&◌}
 use mathlib.Core.List.{List, [], ◌∷◌, ◌++◌}
+use Rattle.std.proofs.lemmas.Bool.{and_parts}
 use Rattle.std.specs.Prelude.{Option, Some}
 use Rattle.text.specs.Text.{is_value, all, equal}
 use Rattle.text.specs.Number.{non_empty}
 use Rattle.codec.specs.Codec.{Reading, Codec, then}
-use Rattle.record.specs.Record.{Record, Ids, WellFormed, is_filled, id_text, ids_map, fields_of}
+use Rattle.record.specs.Record.{Record, Ids, WellFormed, bit_of, is_filled, id_text, ids_map, fields_of}
 use Rattle.record.specs.Store.{same_id}
 use Rattle.codec.proofs.CodecLaws.{Exact, text_exact, then_exact, such_exact, GoodFlag, flagged_exact}
-use Rattle.record.proofs.MapLaws.{stands_0, stands_1, stands_2}
+use Rattle.record.proofs.MapLaws.{bit_le, stands_0, stands_1, stands_2}
 use Rattle.record.proofs.RecordLaws.{GoodId}
 use Rattle.record.proofs.WellFormedLaws.{good}
 use Rattle.record_walk.specs.Walk.{ids_bytes}
 use Rattle.distinct.specs.Keys.{key_of}
-use Rattle.distinct.proofs.Bits.{bit_le, bit_same}
-use Rattle.text.proofs.Sames.{both, equal_same, equal_is}
+use Rattle.text.proofs.Sames.{equal_same, equal_is}
 
 -- ---- the bytes of an identifier under its flags
 
@@ -51,6 +51,12 @@ good_ids r w =
     rw (stands_0 (fields_of r), stands_1 (fields_of r), stands_2 (fields_of r)) at g
 
 -- ---- flags
+
+bit_same : (a b : Bool) → bit_of a ≡ bit_of b → a ≡ b
+bit_same true true e = refl
+bit_same true false e = absurd (omega arith)
+bit_same false true e = absurd (omega arith)
+bit_same false false e = refl
 
 same_flags : (i j : Ids) → ids_map i ≡ ids_map j → (is_filled i.first ≡ is_filled j.first) × (is_filled i.second.first ≡ is_filled j.second.first) × (is_filled i.second.second ≡ is_filled j.second.second)
 same_flags i j e =
@@ -96,8 +102,8 @@ same_key a b v w = equivalent (same_id a b) (equal (key_of a) (key_of b)) there 
   where
     there : same_id a b ≡ true → equal (key_of a) (key_of b) ≡ true
     there e =
-        let x = both (equal a.call_id b.call_id) (equal a.local_tag b.local_tag && equal a.remote_tag b.remote_tag) e in
-        let y = both (equal a.local_tag b.local_tag) (equal a.remote_tag b.remote_tag) x.1 in
+        let x = and_parts (equal a.call_id b.call_id) (equal a.local_tag b.local_tag && equal a.remote_tag b.remote_tag) e in
+        let y = and_parts (equal a.local_tag b.local_tag) (equal a.remote_tag b.remote_tag) x.1 in
         let p : a.call_id ≡ b.call_id = equal_is _ _ x.0 in
         let q : a.local_tag ≡ b.local_tag = equal_is _ _ y.0 in
         let r : a.remote_tag ≡ b.remote_tag = equal_is _ _ y.1 in

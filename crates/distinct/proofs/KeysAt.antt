@@ -10,7 +10,7 @@ use Rattle.record.specs.Record.{Fields, is_filled, ids_map, map_of, fields_of}
 use Rattle.record_walk.specs.Walk.{At, two_at, ids_bytes, ids_end}
 use Rattle.record_walk.proofs.Images.{rec, ids, after, map_at, ids_at}
 use Rattle.distinct.specs.Keys.{key_of, key_at}
-use Rattle.distinct.proofs.Bits.{bit_le}
+use Rattle.record.proofs.MapLaws.{bit_le}
 
 -- bits 0 to 2 of a map
 map_low : (f : Fields) → map_of f % 8 ≡ ids_map f.first

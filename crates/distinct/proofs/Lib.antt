@@ -1,6 +1,5 @@
 pub mod Alones
 pub mod Ascents
-pub mod Bits
 pub mod Compares
 pub mod Counts
 pub mod Halves

@@ -9,8 +9,8 @@ use record_walk::{ids_end, two};
 use std::cmp::Ordering;
 
 // How the key of the record at one place stands to that at another.
-// Kept (4, 5): the places are those of a table. `flags(bytes, p).cmp(..).then_with(..)` takes 72 instructions where these tests take 68 (texts that differ in
-// the fifth byte); 10,000 records are sorted by about 120,000 comparisons, and a request has a bar of 3,700 instructions a record there.
+// Kept (4, 5): the places are those of a table or a walk. By `cmp` and `then_with` two numbers, then two others, take 14 instructions, by tests 10
+// (PERFORMANCE): a request at 1,000 records takes 3,578 a record, and has a bar of 3,600.
 pub fn compare(bytes: &[u8], p: usize, q: usize) -> Ordering
     requires { At bytes.now p × At bytes.now q }
     ensures { result ≡ order (key_at bytes.now p) (key_at bytes.now q) }
@@ -31,7 +31,7 @@ pub fn compare(bytes: &[u8], p: usize, q: usize) -> Ordering
 }
 
 // Which texts of the identifier stand: bits 0 to 2 of the map.
-// Kept (5): a place is a number that clauses name, and that a table of `distinct` holds.
+// Kept (5): a place is a number that clauses name, and that a table or a walk holds.
 fn flags(bytes: &[u8], p: usize) -> usize
     requires { At bytes.now p }
     ensures { result ≡ get_or (key_at bytes.now p) 0 0 }

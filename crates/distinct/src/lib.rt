@@ -11,7 +11,7 @@ mod pairs;
 use record_walk::Records;
 
 // Of bytes that are whole records: `places` are those of their images, and `scratch` is as long. Both are changed.
-// Kept (5): no heap: the caller lends both tables.
+// Kept (5, 6): no heap: the caller lends both tables; a struct of the two would be made for this call, and anew for each half that is sorted.
 pub fn is_distinct(bytes: &[u8], places: &mut [usize], scratch: &mut [usize]) -> bool
     requires places { Places bytes.now places.old }
     requires scratch_len { length scratch.old ≡ length places.old }
@@ -26,6 +26,7 @@ pub fn is_distinct_by_pairs(bytes: &[u8]) -> bool
     ensures { result ≡ is_distinct bytes.now }
 {
     let mut records = Records::new(bytes);
+    // Kept (3): what is left of the walk is lent to each turn, which a `for` would hold.
     while let Some(p) = records.next() {
         if !pairs::is_alone(bytes, p, records) {
             return false;

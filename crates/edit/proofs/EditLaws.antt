@@ -5,12 +5,9 @@ use Prim.Native.Nat.{ℕ, ◌+◌, ◌-◌, ◌≤◌}
 use native.Mathlib.Nat.{add-zero, add_assoc}
 use native.Mathlib.Omega.{arith}
 use lib.ListN.{length, take, drop, length-append, length-drop, take-append-drop}
-use lib.Seq.{length-take-le, take_at, take-add, drop_at, take-take, take-append-le, drop-append-add, drop-drop}
+use lib.Seq.{length-take-le, take_at, drop_at, take-take, take-append-le, drop-append-add, drop-drop}
+use Rattle.std.proofs.lemmas.List.{drop-take}
 use Rattle.edit.specs.Edit.{put_at, over, spliced, tail_moved}
-
--- what is left of a front, past its first f elements
-pub drop_take : (f n : ℕ) (l : List ℕ) → f ≤ length l → drop f (take (f + n) l) ≡ take n (drop f l)
-drop_take f n l h = rw (take-add f n l, drop_at (take f l) (take n (drop f l)) f (length-take-le f l h))
 
 module _ (s piece : List ℕ) (used at old : ℕ) (a : at + old ≤ used) (b : used ≤ length s) (d : used - old + length piece ≤ length s) where
   -- the tail put where it goes, and then the piece put before it, make the spliced list over the front of the store
@@ -20,7 +17,7 @@ module _ (s piece : List ℕ) (used at old : ℕ) (a : at + old ≤ used) (b : u
       let t = take n (drop (at + old) s) in
       let k : length t ≡ n = length-take-le n (drop (at + old) s) (simp length-drop (omega arith)) in
       let u : used ≡ at + old + n = omega arith in
-      let x : drop (at + old) (take used s) ≡ t = ap (λ (m : ℕ). drop (at + old) (take m s)) u ∙ drop_take (at + old) n s (omega arith) in
+      let x : drop (at + old) (take used s) ≡ t = ap (λ (m : ℕ). drop (at + old) (take m s)) u ∙ drop-take (at + old) n s in
       let y : take at (take used s) ≡ take at s = take-take at used s (omega arith) in
       let z : length (take at s) ≡ at = length-take-le at s (omega arith) in
       let w : length (take (at + length piece) s) ≡ at + length piece = length-take-le (at + length piece) s (omega arith) in
@@ -45,6 +42,29 @@ put_put at a b bytes h =
     let k : at + length a + length b ≡ at + length (a ++ b) = omega (arith, length-append a b) in
     let v : drop (length b) d ≡ drop (at + length (a ++ b)) bytes = drop-drop (length b) (at + length a) bytes ∙ ap (λ (n : ℕ). drop n bytes) k in
     rw (w, x, y, v, append_assoc, append_assoc)
+
+-- a piece put just before another
+pub put_before : (at : ℕ) (a b bytes : List ℕ) → at + length a ≤ length bytes → put_at at a (put_at (at + length a) b bytes) ≡ put_at at (a ++ b) bytes
+put_before at a b bytes h =
+    let n : ℕ = at + length a in
+    let d : List ℕ = drop (n + length b) bytes in
+    let z : length (take n bytes) ≡ n = length-take-le n bytes h in
+    let x : take at (take n bytes ++ (b ++ d)) ≡ take at bytes = take-append-le at (take n bytes) (b ++ d) (omega arith) ∙ take-take at n bytes (omega arith) in
+    let y : drop n (take n bytes ++ (b ++ d)) ≡ b ++ d = drop_at (take n bytes) (b ++ d) n z in
+    let k : n + length b ≡ at + length (a ++ b) = omega (arith, length-append a b) in
+    rw (x, y, ← k, append_assoc a b d)
+
+-- what is past the piece is what it was
+pub drop_put : (to m : ℕ) (e s : List ℕ) → to ≤ length s → to + length e ≤ m → drop m (put_at to e s) ≡ drop m s
+drop_put to m e s h l =
+    let z : length (take to s ++ e) ≡ to + length e = length-append (take to s) e ∙ ap (λ (k : ℕ). k + length e) (length-take-le to s h) in
+    let k : m ≡ length (take to s ++ e) + (m - (to + length e)) = omega arith in
+    let j : to + length e + (m - (to + length e)) ≡ m = omega arith in
+    ap (drop m) (sym (append_assoc (take to s) e (drop (to + length e) s)))
+    ∙ ap (λ (i : ℕ). drop i ((take to s ++ e) ++ drop (to + length e) s)) k
+    ∙ drop-append-add (take to s ++ e) (drop (to + length e) s) (m - (to + length e))
+    ∙ drop-drop (m - (to + length e)) (to + length e) s
+    ∙ ap (λ (i : ℕ). drop i s) j
 
 -- a piece was written at a place: the place after it, and the bytes after
 abbrev pub Wrote : ℕ → List ℕ → List ℕ → ℕ → List ℕ → Type 0

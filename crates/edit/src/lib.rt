@@ -5,7 +5,8 @@ ghost use Rattle.std.specs.Prelude.{◌≡◌, ◌+◌, ◌-◌, ◌≤◌, leng
 ghost use Rattle.edit.specs.Edit.{put_at, over, spliced, tail_moved};
 
 // The old_length bytes at a place, of the used ones, replaced by a piece. The new used length.
-// Kept (5, 6): the bytes past the used ones are room for a longer piece, so they are lent whole, with how many are used.
+// Kept (5, 6): the bytes past the used ones are room for a longer piece, so they are lent whole, with how many are used. Where the old bytes stand
+// and how many they are, each caller has of its record or entry; the new length is the piece's own.
 pub fn replace(bytes: &mut [u8], used: usize, at: usize, old_length: usize, piece: &[u8]) -> usize
     requires { (at + old_length ≤ used) × (used ≤ length bytes.old) × (used - old_length + length piece.now ≤ length bytes.old) }
     ensures value { result ≡ used - old_length + length piece.now }
@@ -17,7 +18,8 @@ pub fn replace(bytes: &mut [u8], used: usize, at: usize, old_length: usize, piec
 }
 
 // The used bytes after the old_length ones at a place, moved to where they follow new_length bytes. The new used length.
-// Kept (5, 6): the bytes past the used ones are room for a longer piece, so they are lent whole, with how many are used.
+// Kept (5, 6): the bytes past the used ones are room for a longer piece, so they are lent whole, with how many are used. A struct, as
+// `record_gaps::Gap` is where two places change at once, would be made for each call.
 pub fn move_tail(
     bytes: &mut [u8],
     used: usize,

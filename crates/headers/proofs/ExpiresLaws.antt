@@ -9,10 +9,10 @@ use lib.ListN.{length, take, drop}
 use lib.Seq.{take_all}
 use lib.Dec.{eqb}
 use borrow.Author.Tests.{eqb-true, eqb-false}
+use Rattle.std.proofs.lemmas.List.{take_rest}
 use Rattle.std.specs.Prelude.{None, Ok, Option, Some}
 use Rattle.text.specs.Text.{is, other, same, span, split, trimmed}
 use Rattle.text.specs.Number.{read_digits, number_from}
-use Rattle.text.proofs.Runs.{drop_part}
 use Rattle.text.proofs.Words.{split_at, split_last}
 use Rattle.msg.specs.Block.{HeaderLine, value_of}
 use Rattle.msg.proofs.LookupLaws.{Says, said_bytes}
@@ -49,7 +49,7 @@ module _ (v : List ℕ) (n : ℕ) (d : List ℕ) (hn : n ≡ span (other 59) v) 
 
   pub more_parts : n < length v → session_expires v ≡ with_refresher (read_digits 32 d) (split (is 59) (take (length v - (n + 1)) (drop (n + 1) v)))
   unfolding session_expires
-  more_parts h = rw (split_at (is 59) v (rw (← hn) h), ← hn, hd, drop_part v (n + 1), add-one n)
+  more_parts h = rw (split_at (is 59) v (rw (← hn) h), ← hn, hd, take_rest v (n + 1), add-one n)
 
   by_digits : (ps : List (List ℕ)) → number_from (read_digits 32 d) ≡ None → with_refresher (read_digits 32 d) ps ≡ None
   by_digits ps e = go (read_digits 32 d) e

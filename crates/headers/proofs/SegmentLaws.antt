@@ -5,12 +5,13 @@ use native.Mathlib.Nat.{add-zero, add-suc, suc-add, le_of_suc-le-suc}
 use native.Mathlib.Numerals.{add-one}
 use native.Mathlib.Omega.{arith}
 use mathlib.Core.Path.{◌≡◌, refl, sym, ap, ap₂, ◌∙◌}
-use mathlib.Core.Bool.{Bool, true, false, cond, not, ◌&&◌, ◌||◌, true≢false}
+use mathlib.Core.Bool.{Bool, true, false, cond, not, ◌&&◌, true≢false}
 use mathlib.Core.List.{List, [], ◌∷◌}
 use lib.ListN.{length, get_or, take, drop, drop_of_length-le}
 use lib.Seq.{drop-cons}
 use lib.Dec.{eqb}
 use borrow.Author.Tests.{eqb-true}
+use Rattle.std.proofs.lemmas.Bool.{or_parts}
 use Rattle.text.specs.Text.{is, split}
 use Rattle.text.specs.Segments.{Cuts}
 use Rattle.headers.specs.declared.tag.Mode.{Mode}
@@ -80,14 +81,6 @@ first_cuts s n h = (
 
 -- ---- where no semicolon is held, the segments are the Rust's
 
-or_left : (a b : Bool) → (a || b) ≡ false → a ≡ false
-or_left true b e = e
-or_left false b e = refl
-
-or_right : (a b : Bool) → (a || b) ≡ false → b ≡ false
-or_right true b e = absurd (true≢false e)
-or_right false b e = e
-
 -- a semicolon outside leaves the reading outside
 stays_outside : (m : Mode) (b : ℕ) → eqb b 59 ≡ true → is_outside m ≡ true → mode_after m b ≡ Outside
 stays_outside Outside b e o = rw (eqb-true b 59 e)
@@ -98,11 +91,11 @@ stays_outside Bracketed b e o = absurd (true≢false (sym o))
 cut_alike : (m : Mode) (v : List ℕ) → holds_in m v ≡ false → segments_in m v ≡ split (is 59) v
 unfolding segments_in split holds_in
 cut_alike m [] h = refl
-cut_alike m (b ∷ s) h = by (eqb b 59) refl (is_outside m) refl (cut_alike (mode_after m b) s (or_right (eqb b 59 && not (is_outside m)) (holds_in (mode_after m b) s) h))
+cut_alike m (b ∷ s) h = by (eqb b 59) refl (is_outside m) refl (cut_alike (mode_after m b) s (or_parts (eqb b 59 && not (is_outside m)) (holds_in (mode_after m b) s) h).1)
   where
     by : (u : Bool) → eqb b 59 ≡ u → (w : Bool) → is_outside m ≡ w → segments_in (mode_after m b) s ≡ split (is 59) s → segments_in m (b ∷ s) ≡ split (is 59) (b ∷ s)
     by true e true o more = rw (e, o, ← more, stays_outside m b e o)
-    by true e false o more = absurd (true≢false (sym (ap₂ (λ p q. p && not q) e o) ∙ or_left (eqb b 59 && not (is_outside m)) (holds_in (mode_after m b) s) h))
+    by true e false o more = absurd (true≢false (sym (ap₂ (λ p q. p && not q) e o) ∙ (or_parts (eqb b 59 && not (is_outside m)) (holds_in (mode_after m b) s) h).0))
     by false e w o more = rw (e, more)
 
 -- a value in which no semicolon is held is cut at every semicolon, as the Rust's `extract_tag` cuts it

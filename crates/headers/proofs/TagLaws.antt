@@ -8,11 +8,11 @@ use lib.ListN.{length, take, drop, length-drop}
 use lib.Seq.{drop-drop}
 use lib.Dec.{ltb}
 use borrow.Author.Tests.{ltb-true, ltb-false}
+use Rattle.std.proofs.lemmas.List.{take_rest}
 use Rattle.std.specs.Prelude.{ok_or, None, Option, Some}
 use Rattle.text.specs.Text.{blanks, trimmed, Piece}
 use Rattle.text.specs.Answers.{span_of}
 use Rattle.text.specs.declared.Span.{Span}
-use Rattle.text.proofs.Runs.{drop_part}
 use Rattle.text.proofs.Trimming.{trimmed_fits, trimmed_part, drop_take}
 use Rattle.msg.proofs.LookupLaws.{Placed}
 use Rattle.text.proofs.Alike.{starts_not}
@@ -95,7 +95,7 @@ module _ (v : List ℕ) (at n : ℕ) (h : at ≤ length v) (hn : n ≡ cut_lengt
       let g : List ℕ = take n (take (length v - at) (drop at v)) in
       record {
         fits = omega (arith, segment_within v at n h hn, long (trimmed g) e, length-drop 4 (trimmed g));
-        there = tail_placed v g (at + blanks g) (rw (drop_part v at) (trimmed_part v at n));
+        there = tail_placed v g (at + blanks g) (rw (take_rest v at) (trimmed_part v at n));
       }
 
 by_first : (v : List ℕ) (p : Piece) (at : ℕ) (g : List ℕ) (gs : List (List ℕ)) (u : Bool) → is_tag (trimmed g) ≡ u

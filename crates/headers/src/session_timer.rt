@@ -16,6 +16,7 @@ pub enum Refresher {
 }
 
 // The interval of a value: 1, 2.
+// Kept (2): a check and a reading, each named once; a function over both would be lent two closures and say no more than these lines.
 pub fn parse_session_expires(value: &[u8]) -> Result<Option<(u32, Option<Refresher>)>, Refusal>
     ensures { result ≡ expires_answer (parse_expires rust_limits value.now) }
 {
@@ -24,6 +25,7 @@ pub fn parse_session_expires(value: &[u8]) -> Result<Option<(u32, Option<Refresh
 }
 
 // The interval of a block's first Session-Expires line: 1, 2.
+// Kept (2): a check and a reading, each named once; a function over both would be lent two closures and say no more than these lines.
 pub fn session_expires(block: &[u8]) -> Result<Option<(u32, Option<Refresher>)>, Refusal>
     ensures { result ≡ expires_answer (block_expires rust_limits block.now) }
 {
@@ -40,14 +42,19 @@ pub fn expires_named(block: &[u8]) -> Option<(u32, Option<Refresher>)>
 }
 
 // The digits before the first semicolon, then the first part that names a refresher.
+// Kept (1): document 01 has the reading of a number opened by `let .. else`.
 pub fn read_expires(value: &[u8]) -> Option<(u32, Option<Refresher>)>
     ensures { result ≡ expires_from (session_expires value.now) }
 {
     let Some(n) = text::find(value, b';') else {
-        let seconds = read_seconds(text::trim(value))?;
+        let Some(seconds) = read_seconds(text::trim(value)) else {
+            return None;
+        };
         return Some((seconds, None));
     };
-    let seconds = read_seconds(text::trim(&value[..n]))?;
+    let Some(seconds) = read_seconds(text::trim(&value[..n])) else {
+        return None;
+    };
     Some((seconds, find_refresher(&value[n + 1..])))
 }
 
@@ -81,7 +88,6 @@ struct Semicolon {}
 impl Cut for Semicolon {
     ghost segments = { λ _ s. split (is 59) s };
 
-    // Kept (5): the parameters are the trait's.
     fn first(&self, s: &[u8]) -> usize {
         text::find(s, b';').unwrap_or(s.len())
     }

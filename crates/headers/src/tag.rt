@@ -18,6 +18,7 @@ pub enum Mode {
 }
 
 // The tag of a value, as the value's own bytes: 1, 2, 4.
+// Kept (2): a check and a reading, each named once; a function over both would be lent two closures and say no more than these lines.
 pub fn extract_tag(value: &[u8]) -> Result<Span, Refusal>
     ensures { result ≡ part_answer (extract_tag rust_limits value.now) }
 {
@@ -48,7 +49,6 @@ struct Unheld {}
 impl Cut for Unheld {
     ghost segments = { λ _ s. tag_segments s };
 
-    // Kept (5): the parameters are the trait's.
     fn first(&self, s: &[u8]) -> usize {
         segment_length(s)
     }
@@ -84,7 +84,6 @@ fn is_outside(mode: Mode) -> bool
 }
 
 // How the byte after b is read.
-// Kept (4, 7): the way of reading goes on from byte to byte as a table of document 02 has it; it converts nothing and chooses no step.
 fn mode_after(mode: Mode, b: u8) -> Mode
     ensures { result ≡ mode_after mode b }
 {

@@ -14,6 +14,7 @@ use Rattle.text.specs.Number.{non_empty}
 use Rattle.codec.specs.Codec.{Reading, Codec, Pair, four, text, counted, paired, read_then, then, passing, such, flagged, renamed}
 use Rattle.record.specs.Record.{uac, uas, id_text, uri_text, number, optional, side_of, refresher_field, routes_field, bit_of, stands, is_filled, is_given, Ids, Tail, Fields, ids_field, tail_field, map_of}
 use Rattle.codec.proofs.CodecLaws.{no_reading}
+use Rattle.record.proofs.MapLaws.{bit_le}
 
 -- ---- arithmetic
 
@@ -178,10 +179,6 @@ bit_is x {b} h e = rw e (by (eqb x 1) refl)
     by : (t : Bool) → eqb x 1 ≡ t → bit_of t ≡ x
     by true t = sym (eqb-true x 1 t)
     by false t = let k : x ≡ 1 → ⊥ = eqb-false x 1 t in omega arith
-
-bit_le : (b : Bool) → bit_of b ≤ 1
-bit_le true = omega arith
-bit_le false = omega arith
 
 sums : {a b c g h i j k l a' b' c' g' h' i' j' k' l' : ℕ} → a ≡ a' → b ≡ b' → c ≡ c' → g ≡ g' → h ≡ h' → i ≡ i' → j ≡ j' → k ≡ k' → l ≡ l' → sum a b c g h i j k l ≡ sum a' b' c' g' h' i' j' k' l'
 sums x1 x2 x3 x4 x5 x6 x7 x8 x9 = cc

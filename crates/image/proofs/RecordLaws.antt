@@ -18,7 +18,7 @@ use Rattle.image.specs.declared.sections.UrisAt.{UrisAt}
 use Rattle.image.specs.declared.sections.TailAt.{TailAt}
 use Rattle.image.specs.declared.RecordAt.{RecordAt}
 use Rattle.codec.proofs.ReadLaws.{two_none}
-use Rattle.codec.proofs.AnswerLaws.{both}
+use Rattle.limits.proofs.Laws.{pair_parts}
 use Rattle.image.proofs.AnswerLaws.{IdsGot, StateGot, state_not, UrisGot, uris_not, TailGot, tail_not}
 use Rattle.image.proofs.MapBits.{is_map, map_is, map_not, ids_give, tail_gives}
 
@@ -110,7 +110,7 @@ module _ (s : List ℕ) (at : ℕ) where
         module _ {u : UrisAt} (z : UrisGot s (p.end + 1) u) where
           -- the secure bit, as the code has it and as the definition does
           right_is : beq y.value.secure (is_secure z.value) ≡ beq secure (u.local_secure || u.remote_secure)
-          right_is = cc ((both (both y.placed).1).1, z.placed)
+          right_is = cc ((pair_parts (pair_parts y.placed).1).1, z.placed)
 
           pub wrong_bit : beq secure (u.local_secure || u.remote_secure) ≡ false → None ≡ record_from at (image.read (drop at s))
           wrong_bit e = rw (k, x.got.reads, y.got.reads, z.got.reads) (by ((tail_field m).read (drop u.end s)))
@@ -134,4 +134,4 @@ module _ (s : List ℕ) (at : ℕ) where
             mapped_right = map_is m all f ((ids_give m).holds (drop (at + 2) s) _ x.got.reads) ((tail_gives m).holds (drop u.end s) _ w.got.reads)
 
             pub record_whole : {r : RecordAt} → r ≡ made p state uac u t → Some r ≡ record_from at (image.read (drop at s))
-            record_whole e = rw (k, x.got.reads, y.got.reads, z.got.reads, w.got.reads, mapped_right, right_is, g) (ap Some (e ∙ made_is at all x.placed (both y.placed).0 (both (both y.placed).1).0 z.placed w.placed))
+            record_whole e = rw (k, x.got.reads, y.got.reads, z.got.reads, w.got.reads, mapped_right, right_is, g) (ap Some (e ∙ made_is at all x.placed (pair_parts y.placed).0 (pair_parts (pair_parts y.placed).1).0 z.placed w.placed))

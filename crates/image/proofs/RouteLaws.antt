@@ -14,8 +14,8 @@ use Rattle.codec.specs.Codec.{Reading, in_front, passing, read_all}
 use Rattle.record.specs.Record.{uri_text, routes_field, is_filled, bit_of}
 use Rattle.image.specs.Places.{texts_size, routes_at}
 use Rattle.image.proofs.SizeLaws.{texts_end_lem}
-use Rattle.codec.proofs.ReadLaws.{byte_at, byte_none}
-use Rattle.codec.proofs.AnswerLaws.{both}
+use Rattle.codec.proofs.ReadLaws.{byte_at}
+use Rattle.limits.proofs.Laws.{pair_parts}
 use Rattle.image.proofs.AnswerLaws.{UriGot}
 
 -- gone on with, where i texts were read before and the next would begin at `end`
@@ -36,7 +36,7 @@ module _ (s : List ℕ) (i count end : ℕ) where
   unfolding read_all
   turn h {p} g =
       let k : count - i ≡ suc (count - (i + 1)) = omega arith in
-      let e : end + 2 + length g.value ≡ p.start + p.length = ap (λ (x : Span). x.start + x.length) (sym (both g.placed).0) in
+      let e : end + 2 + length g.value ≡ p.start + p.length = ap (λ (x : Span). x.start + x.length) (sym (pair_parts g.placed).0) in
       rw (k, g.got.reads) (one_more i end g.value (read_all uri_text (count - (i + 1)) (drop (p.start + p.length) s)) ∙ ap (λ (n : ℕ). resume (i + 1) n (read_all uri_text (count - (i + 1)) (drop (p.start + p.length) s))) e)
 
   pub stop : i < count → uri_text.read (drop end s) ≡ None → resume i end (read_all uri_text (count - i) (drop end s)) ≡ None
@@ -56,9 +56,6 @@ filled [] h = absurd (omega arith)
 filled (t ∷ l) h = refl
 
 module _ (s : List ℕ) (at : ℕ) where
-  pub routes_none : length s ≡ at → None ≡ routes_at at ((routes_field true).read (drop at s))
-  routes_none e = rw (byte_none s at e)
-
   module _ (h : at < length s) {count : ℕ} (c : count ≡ get_or s at 0) where
     abbrev test : List (List ℕ) → Bool
     test l = ltb 0 (length l) && leb (length l) 50

@@ -1,19 +1,24 @@
 -- The sections: the fields in their order, each from where the one before it ends. Assumes nothing.
 use Prim.Native.Nat.{ℕ, ◌+◌, ◌≤◌}
 use native.Mathlib.Nat.{add-zero}
-use mathlib.Core.Path.{◌≡◌, refl, sym, ap, subst, ◌∙◌}
+use mathlib.Core.Path.{◌≡◌, refl, sym, ap, ◌∙◌}
 use mathlib.Core.Bool.{Bool, true, false}
 use mathlib.Core.List.{List}
 use lib.ListN.{length, drop}
 use Rattle.std.specs.Prelude.{None, Option, Some}
+use Rattle.limits.proofs.Laws.{pair_parts}
 use Rattle.text.specs.declared.Span.{Span}
 use Rattle.record.specs.Record.{stands, id_text, uri_text, number, optional, refresher_field, routes_field, ids_field, uris_field, tail_field}
 use Rattle.headers.specs.declared.session_timer.Refresher.{Refresher}
 use Rattle.image.specs.Places.{texts_size, id_from, number_at, optional_at, refresher_at, routes_at, ids_from, uris_from, tail_from}
-use Rattle.codec.proofs.AnswerLaws.{both}
 use Rattle.image.proofs.AnswerLaws.{IdGot, id_got, id_not, UriGot, NumberGot, number_got, number_not, OptionalGot, optional_got, optional_not, SideGot, side_got, side_not, RoutesGot, routes_got, routes_not}
 
 -- ---- in a caller's words: r is what the call gave, b the bit that it was handed
+
+-- what is read where the bit stands, and w where it does not
+read_by : {A : Type 0} (h : Bool → Option A) {r w : Option A} {b flag : Bool} → b ≡ flag → (b ≡ true → r ≡ h true) → (b ≡ false → r ≡ w) → w ≡ h false → r ≡ h flag
+read_by h {b = true} f e z k = e refl ∙ ap h f
+read_by h {b = false} f e z k = z refl ∙ k ∙ ap h f
 
 module _ (s : List ℕ) (at : ℕ) {b flag : Bool} (f : b ≡ flag) where
   pub id_told : {r : Option Span} {p : Span} → at ≤ length s → r ≡ id_from at ((id_text b).read (drop at s)) → r ≡ Some p → IdGot flag s at p
@@ -24,11 +29,7 @@ module _ (s : List ℕ) (at : ℕ) {b flag : Bool} (f : b ≡ flag) where
 
   module _ {r : Option (ℕ × ℕ)} (e : b ≡ true → r ≡ number_at at ((number true).read (drop at s))) (z : b ≡ false → r ≡ Some (0, at)) where
     number_by : r ≡ number_at at ((number flag).read (drop at s))
-    number_by = subst (λ (x : Bool). r ≡ number_at at ((number x).read (drop at s))) f (by b e z)
-      where
-        by : (x : Bool) → (x ≡ true → r ≡ number_at at ((number true).read (drop at s))) → (x ≡ false → r ≡ Some (0, at)) → r ≡ number_at at ((number x).read (drop at s))
-        by true g k = g refl
-        by false g k = k refl ∙ rw add-zero
+    number_by = read_by (λ (x : Bool). number_at at ((number x).read (drop at s))) f e z (rw add-zero)
 
     pub number_told : {n : ℕ} {next : ℕ} → at ≤ length s → r ≡ Some (n, next) → NumberGot flag s at n next
     number_told h q = number_got flag s at h (sym number_by ∙ q)
@@ -38,11 +39,7 @@ module _ (s : List ℕ) (at : ℕ) {b flag : Bool} (f : b ≡ flag) where
 
   module _ {r : Option (Option ℕ × ℕ)} (e : b ≡ true → r ≡ optional_at at ((optional true).read (drop at s))) (z : b ≡ false → r ≡ Some (None, at)) where
     optional_by : r ≡ optional_at at ((optional flag).read (drop at s))
-    optional_by = subst (λ (x : Bool). r ≡ optional_at at ((optional x).read (drop at s))) f (by b e z)
-      where
-        by : (x : Bool) → (x ≡ true → r ≡ optional_at at ((optional true).read (drop at s))) → (x ≡ false → r ≡ Some (None, at)) → r ≡ optional_at at ((optional x).read (drop at s))
-        by true g k = g refl
-        by false g k = k refl ∙ rw add-zero
+    optional_by = read_by (λ (x : Bool). optional_at at ((optional x).read (drop at s))) f e z (rw add-zero)
 
     pub optional_told : {n : Option ℕ} {next : ℕ} → at ≤ length s → r ≡ Some (n, next) → OptionalGot flag s at n next
     optional_told h q = optional_got flag s at h (sym optional_by ∙ q)
@@ -52,11 +49,7 @@ module _ (s : List ℕ) (at : ℕ) {b flag : Bool} (f : b ≡ flag) where
 
   module _ {r : Option (Option Refresher × ℕ)} (e : b ≡ true → r ≡ refresher_at at ((refresher_field true).read (drop at s))) (z : b ≡ false → r ≡ Some (None, at)) where
     side_by : r ≡ refresher_at at ((refresher_field flag).read (drop at s))
-    side_by = subst (λ (x : Bool). r ≡ refresher_at at ((refresher_field x).read (drop at s))) f (by b e z)
-      where
-        by : (x : Bool) → (x ≡ true → r ≡ refresher_at at ((refresher_field true).read (drop at s))) → (x ≡ false → r ≡ Some (None, at)) → r ≡ refresher_at at ((refresher_field x).read (drop at s))
-        by true g k = g refl
-        by false g k = k refl ∙ rw add-zero
+    side_by = read_by (λ (x : Bool). refresher_at at ((refresher_field x).read (drop at s))) f e z (rw add-zero)
 
     pub side_told : {n : Option Refresher} {next : ℕ} → at ≤ length s → r ≡ Some (n, next) → SideGot flag s at n next
     side_told h q = side_got flag s at h (sym side_by ∙ q)
@@ -67,11 +60,7 @@ module _ (s : List ℕ) (at : ℕ) {b flag : Bool} (f : b ≡ flag) where
   module _ {r : Option (ℕ × ℕ)} (e : b ≡ true → r ≡ routes_at at ((routes_field true).read (drop at s))) (z : b ≡ false → r ≡ Some (0, at)) where
     routes_by : r ≡ routes_at at ((routes_field flag).read (drop at s))
     unfolding texts_size
-    routes_by = subst (λ (x : Bool). r ≡ routes_at at ((routes_field x).read (drop at s))) f (by b e z)
-      where
-        by : (x : Bool) → (x ≡ true → r ≡ routes_at at ((routes_field true).read (drop at s))) → (x ≡ false → r ≡ Some (0, at)) → r ≡ routes_at at ((routes_field x).read (drop at s))
-        by true g k = g refl
-        by false g k = k refl ∙ rw add-zero
+    routes_by = read_by (λ (x : Bool). routes_at at ((routes_field x).read (drop at s))) f e z (rw add-zero)
 
     pub routes_told : {n : ℕ} {next : ℕ} → at ≤ length s → r ≡ Some (n, next) → RoutesGot flag s at n next
     routes_told h q = routes_got flag s at h (sym routes_by ∙ q)
@@ -109,7 +98,7 @@ module _ (s : List ℕ) (at : ℕ) where
           → Some (record { target = a; local_uri = b; remote_uri = c; local_secure = sb; remote_secure = sc; end = c.start + c.length }) ≡ uris_from at (uris_field.read (drop at s))
       uris_whole z =
           rw (x.got.reads, y.got.reads, z.got.reads)
-          (cc ((both x.placed).0, (both y.placed).0, (both z.placed).0, (both y.placed).1, (both z.placed).1))
+          (cc ((pair_parts x.placed).0, (pair_parts y.placed).0, (pair_parts z.placed).0, (pair_parts y.placed).1, (pair_parts z.placed).1))
 
 -- ---- the numbers and the routes
 
@@ -139,16 +128,16 @@ module _ (m : ℕ) (s : List ℕ) (at : ℕ) where
             tail_whole x6 =
                 rw (x1.got.reads, x2.got.reads, x3.got.reads, x4.got.reads, x5.got.reads, x6.got.reads)
                 (cc (
-                  (both x1.placed).0,
-                  (both x2.placed).0,
-                  (both x3.placed).0,
-                  (both x4.placed).0,
-                  (both x5.placed).0,
-                  (both x6.placed).0,
-                  (both x1.placed).1,
-                  (both x2.placed).1,
-                  (both x3.placed).1,
-                  (both x4.placed).1,
-                  (both x5.placed).1,
-                  (both x6.placed).1,
+                  (pair_parts x1.placed).0,
+                  (pair_parts x2.placed).0,
+                  (pair_parts x3.placed).0,
+                  (pair_parts x4.placed).0,
+                  (pair_parts x5.placed).0,
+                  (pair_parts x6.placed).0,
+                  (pair_parts x1.placed).1,
+                  (pair_parts x2.placed).1,
+                  (pair_parts x3.placed).1,
+                  (pair_parts x4.placed).1,
+                  (pair_parts x5.placed).1,
+                  (pair_parts x6.placed).1,
                 ))

@@ -11,6 +11,7 @@ use record::State;
 use text::Span;
 
 // A field of the map: what `read` answers where its bit stands, else what is absent.
+// Kept (7): the flag is a bit of the image that is read: whether the field is there, and so whether there is anything to read.
 pub fn where_stands<T: Copy, F: FnOnce() -> Option<T>>(
     stands: bool,
     absent: T,
@@ -27,7 +28,8 @@ pub fn where_stands<T: Copy, F: FnOnce() -> Option<T>>(
 }
 
 // An identifier part: not empty, of bytes allowed in block values.
-// Kept (5): a reader lent as `&mut` has clauses for what is read, for its place and for its bytes: three where one stands.
+// Kept (5): a reader by value, with the fact as its ghost field, would be made anew at each place, and clauses would say `r.bytes.now`;
+// one lent as `&mut` has a clause for what is read, one for its place and one for its bytes.
 pub fn read_id(bytes: &[u8], at: usize) -> Option<Span>
     requires { at ≤ length bytes.now }
     ensures { result ≡ id_from at ((id_text true).read (drop at bytes.now)) }
@@ -41,7 +43,8 @@ pub fn read_id(bytes: &[u8], at: usize) -> Option<Span>
 
 // A URI's text: one that can be read; and whether it is `sips`.
 // Kept (1): document 01 names `let .. else` for the reading of a URI.
-// Kept (5): a reader lent as `&mut` has clauses for what is read, for its place and for its bytes: three where one stands.
+// Kept (5): a reader by value, with the fact as its ghost field, would be made anew at each place, and clauses would say `r.bytes.now`;
+// one lent as `&mut` has a clause for what is read, one for its place and one for its bytes.
 pub fn read_uri_text(bytes: &[u8], at: usize) -> Option<(Span, bool)>
     requires { at ≤ length bytes.now }
     ensures { result ≡ uri_from at (uri_text.read (drop at bytes.now)) }
@@ -54,7 +57,8 @@ pub fn read_uri_text(bytes: &[u8], at: usize) -> Option<(Span, bool)>
 }
 
 // A number that isn't 0, and the place after it.
-// Kept (5): a reader lent as `&mut` has clauses for what is read, for its place and for its bytes: three where one stands.
+// Kept (5): a reader by value, with the fact as its ghost field, would be made anew at each place, and clauses would say `r.bytes.now`;
+// one lent as `&mut` has a clause for what is read, one for its place and one for its bytes.
 pub fn read_number(bytes: &[u8], at: usize) -> Option<(u32, usize)>
     requires { at ≤ length bytes.now }
     ensures { result ≡ number_at at ((number true).read (drop at bytes.now)) }
@@ -70,7 +74,8 @@ pub fn read_number(bytes: &[u8], at: usize) -> Option<(u32, usize)>
 }
 
 // A number that may be absent, and may be 0; and the place after it.
-// Kept (5): a reader lent as `&mut` has clauses for what is read, for its place and for its bytes: three where one stands.
+// Kept (5): a reader by value, with the fact as its ghost field, would be made anew at each place, and clauses would say `r.bytes.now`;
+// one lent as `&mut` has a clause for what is read, one for its place and one for its bytes.
 pub fn read_optional(bytes: &[u8], at: usize) -> Option<(Option<u32>, usize)>
     requires { at ≤ length bytes.now }
     ensures { result ≡ optional_at at ((optional true).read (drop at bytes.now)) }
@@ -82,7 +87,8 @@ pub fn read_optional(bytes: &[u8], at: usize) -> Option<(Option<u32>, usize)>
 }
 
 // Who refreshes: 1 uac, 2 uas; and the place after it.
-// Kept (5): a reader lent as `&mut` has clauses for what is read, for its place and for its bytes: three where one stands.
+// Kept (5): a reader by value, with the fact as its ghost field, would be made anew at each place, and clauses would say `r.bytes.now`;
+// one lent as `&mut` has a clause for what is read, one for its place and one for its bytes.
 pub fn read_refresher(bytes: &[u8], at: usize) -> Option<(Option<Refresher>, usize)>
     requires { at ≤ length bytes.now }
     ensures { result ≡ refresher_at at ((refresher_field true).read (drop at bytes.now)) }
@@ -90,6 +96,7 @@ pub fn read_refresher(bytes: &[u8], at: usize) -> Option<(Option<Refresher>, usi
     if bytes.len() - at < 4 {
         return None;
     }
+    // Kept (4): the one place where a number becomes this enum: a `TryFrom` would be this match, with an error that is dropped here.
     match read_four(bytes, at) {
         1 => Some((Some(Refresher::Uac), at + 4)),
         2 => Some((Some(Refresher::Uas), at + 4)),
@@ -98,15 +105,13 @@ pub fn read_refresher(bytes: &[u8], at: usize) -> Option<(Option<Refresher>, usi
 }
 
 // A count byte, 1 to 50, then as many URIs: how many, and the place after them.
-// Kept (5): a reader lent as `&mut` has clauses for what is read, for its place and for its bytes: three where one stands.
+// Kept (5): a reader by value, with the fact as its ghost field, would be made anew at each place, and clauses would say `r.bytes.now`;
+// one lent as `&mut` has a clause for what is read, one for its place and one for its bytes.
 pub fn read_routes(bytes: &[u8], at: usize) -> Option<(usize, usize)>
     requires { at ≤ length bytes.now }
     ensures { result ≡ routes_at at ((routes_field true).read (drop at bytes.now)) }
 {
-    if bytes.len() == at {
-        return None;
-    }
-    let count = wide(bytes[at]);
+    let count = wide(*bytes.get(at)?);
     if count == 0 || Limits::MAX_ROUTE_SET_SIZE < count {
         return None;
     }
@@ -119,18 +124,17 @@ pub fn read_routes(bytes: &[u8], at: usize) -> Option<(usize, usize)>
 }
 
 // The state byte: low two bits the state, bit 2 we are uac, bit 3 secure, the rest 0.
-// Kept (5): a reader lent as `&mut` has clauses for what is read, for its place and for its bytes: three where one stands.
+// Kept (5): a reader by value, with the fact as its ghost field, would be made anew at each place, and clauses would say `r.bytes.now`;
+// one lent as `&mut` has a clause for what is read, one for its place and one for its bytes.
 pub fn read_state(bytes: &[u8], at: usize) -> Option<(State, bool, bool)>
     requires { at ≤ length bytes.now }
     ensures { result ≡ state_field_of (state_byte.read (drop at bytes.now)) }
 {
-    if bytes.len() == at {
-        return None;
-    }
-    let b = bytes[at];
+    let b = *bytes.get(at)?;
     if 16 <= b {
         return None;
     }
+    // Kept (4): the one place where a number becomes this enum: a `TryFrom` would be this match, with an error that is dropped here.
     let state = match b % 4 {
         1 => State::Early,
         2 => State::Confirmed,

@@ -41,7 +41,8 @@ pub struct TailAt {
     pub end: usize,
 }
 
-// Kept (5): a reader lent as `&mut` has clauses for what is read, for its place and for its bytes: three where one stands.
+// Kept (5): a reader by value, with the fact as its ghost field, would be made anew at each place, and clauses would say `r.bytes.now`;
+// one lent as `&mut` has a clause for what is read, one for its place and one for its bytes.
 pub fn read_ids(bytes: &[u8], at: usize, map: usize) -> Option<IdsAt>
     requires { at ≤ length bytes.now }
     ensures { result ≡ ids_from at ((ids_field map).read (drop at bytes.now)) }
@@ -61,7 +62,8 @@ pub fn read_ids(bytes: &[u8], at: usize, map: usize) -> Option<IdsAt>
 
 // An identifier part by its bit.
 // Kept (7): whether the part stands is a bit of the image that is read; `where_stands` is given the step for one that does.
-// Kept (5): a reader lent as `&mut` has clauses for what is read, for its place and for its bytes: three where one stands.
+// Kept (5): a reader by value, with the fact as its ghost field, would be made anew at each place, and clauses would say `r.bytes.now`;
+// one lent as `&mut` has a clause for what is read, one for its place and one for its bytes.
 fn read_part(bytes: &[u8], at: usize, stands: bool) -> Option<Span>
     requires { at ≤ length bytes.now }
     ensures { result ≡ id_from at ((id_text stands).read (drop at bytes.now)) }
@@ -73,7 +75,8 @@ fn read_part(bytes: &[u8], at: usize, stands: bool) -> Option<Span>
     where_stands(stands, absent, || read_id(bytes, at))
 }
 
-// Kept (5): a reader lent as `&mut` has clauses for what is read, for its place and for its bytes: three where one stands.
+// Kept (5): a reader by value, with the fact as its ghost field, would be made anew at each place, and clauses would say `r.bytes.now`;
+// one lent as `&mut` has a clause for what is read, one for its place and one for its bytes.
 pub fn read_uris(bytes: &[u8], at: usize) -> Option<UrisAt>
     requires { at ≤ length bytes.now }
     ensures { result ≡ uris_from at (uris_field.read (drop at bytes.now)) }
@@ -91,7 +94,8 @@ pub fn read_uris(bytes: &[u8], at: usize) -> Option<UrisAt>
     })
 }
 
-// Kept (5): a reader lent as `&mut` has clauses for what is read, for its place and for its bytes: three where one stands.
+// Kept (5): a reader by value, with the fact as its ghost field, would be made anew at each place, and clauses would say `r.bytes.now`;
+// one lent as `&mut` has a clause for what is read, one for its place and one for its bytes.
 pub fn read_tail(bytes: &[u8], at: usize, map: usize) -> Option<TailAt>
     requires { at ≤ length bytes.now }
     ensures { result ≡ tail_from at ((tail_field map).read (drop at bytes.now)) }

@@ -2,9 +2,10 @@
 use mathlib.Core.Path.{◌≡◌, refl, sym, ap, subst, ◌∙◌}
 use mathlib.Core.Bool.{◌||◌}
 use mathlib.Core.List.{List, [], ◌∷◌, ◌++◌}
-use Prim.Native.Nat.{ℕ, ◌+◌, ◌-◌, ◌≤◌}
+use Prim.Native.Nat.{ℕ, ◌+◌, ◌-◌, ◌≤◌, ◌<◌}
 use native.Mathlib.Omega.{arith}
-use lib.ListN.{length, take}
+use lib.ListN.{length, take, get_or}
+use lib.Seq.{length-take-le}
 use Rattle.edit.specs.Edit.{over, put_at, spliced}
 use Rattle.codec.specs.Codec.{two}
 use Rattle.record.specs.Changes.{with_numbers, with_routes}
@@ -16,7 +17,10 @@ use Rattle.image_writer.proofs.ImageLaws.{parts_in}
 use Rattle.image_edit.specs.Changes.{changed}
 use Rattle.image_edit.specs.Maps.{map_from}
 use Rattle.image_edit.proofs.CutLaws.{three_edits}
-use Rattle.image_edit.proofs.ImageCuts.{Held, changed_held}
+use Rattle.image_edit.specs.Stands.{StandsAt}
+use Rattle.image_edit.specs.declared.RecordPlace.{RecordPlace}
+use Rattle.image_edit.specs.declared.tail.Tail.{Ghosts}
+use Rattle.image_edit.proofs.ImageCuts.{Held, changed_held, stands_held}
 use Rattle.image_edit.proofs.NumbersLaws.{filled_bit, routes_bit, image_cut, sized, state_is, end_is}
 use Rattle.route_section.specs.Section.{section_of}
 
@@ -123,3 +127,50 @@ module _ (s : List ℕ) (at : ℕ) (p : RecordAt) (t : Puts s at p) where
       ∙ ap (λ (u : List ℕ). put_at at (two.write (map_of_parts (parts_in w))) (put_at p.state (state_byte_of (parts_in w) ∷ []) (over (spliced p.uris.end (length o) q u) bytes))) cut
       ∙ three_edits (take at s) (two.write (map_of_parts (parts_in v))) (two.write (map_of_parts (parts_in w))) (ids_bytes (ids_of v)) (state_byte_of (parts_in v) ∷ []) (state_byte_of (parts_in w) ∷ []) (uris_bytes (uris_of v)) o q k h.rest bytes at p.state p.uris.end (sym h.front) refl (state_is s at p h x) refl (end_is s at p h x)
       ∙ ap (λ (u : List ℕ). over u bytes) (sym new_cut)
+
+-- the change that a tail makes of the record that stands at a place, by the laws of the tail
+abbrev pub standing_puts : {T : Type 0} (bytes : List ℕ) (p : RecordPlace) → ((i : ℕ) → get_or bytes i 0 < 256) → StandsAt bytes p → (g : Ghosts T) (x : T)
+    → ((v : Record) → g.makes x v ≡ with_numbers (g.values x) (with_routes (g.routes x v) v))
+    → ((v : Record) → numbers_bytes v.numbers ++ section_of v.routes ≡ g.old v ++ g.rest v)
+    → ((v : Record) → numbers_bytes (g.values x) ++ section_of (g.routes x v) ≡ g.section x ++ g.rest v)
+    → ((at : ℕ) (v : Record) → g.ended (record_places at v) ≡ (record_places at v).uris.end + length (g.old v))
+    → ((at : ℕ) (v : Record) → g.counted x (record_places at v) ≡ length (g.routes x v))
+    → Puts (take p.used bytes) p.at p.record
+standing_puts bytes p b s g x made tail_is new_tail end_is count_is =
+    let h = stands_held bytes p b s in
+    record {
+      held = h;
+      makes = g.makes x;
+      values = g.values x;
+      routes = g.routes x h.value;
+      section = g.section x;
+      old = g.old h.value;
+      rest = g.rest h.value;
+      ends = g.ended;
+      counts = g.counted x;
+      made = made h.value;
+      tail_is = tail_is h.value;
+      new_tail = new_tail h.value;
+      end_is = end_is p.at h.value;
+      count_is = count_is p.at h.value;
+    }
+
+-- the places of such a change in their order, and the new used length
+pub record Tailed (bytes : List ℕ) (p : RecordPlace) (f : Record → Record) (q : List ℕ) (end : ℕ) : Type 0 where
+  pub map_before : p.at + 2 ≤ p.record.state
+  pub state_before : p.record.state + 1 ≤ p.record.uris.end
+  pub uris_before : p.record.uris.end ≤ end
+  pub end_within : end ≤ p.used
+  pub size : length (changed f p.at (take p.used bytes)) ≡ p.used - (end - p.record.uris.end) + length q
+
+pub tailed : (bytes : List ℕ) (p : RecordPlace) → p.used ≤ length bytes → (t : Puts (take p.used bytes) p.at p.record) → Tailed bytes p t.makes t.section (t.ends p.record)
+tailed bytes p h t =
+    let n = length-take-le p.used bytes h in
+    let o = in_order (take p.used bytes) p.at p.record t in
+    record {
+      map_before = o.0;
+      state_before = o.1;
+      uris_before = o.2;
+      end_within = omega (arith, o.3, n);
+      size = omega (arith, tail_used (take p.used bytes) p.at p.record t, n);
+    }

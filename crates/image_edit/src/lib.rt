@@ -75,8 +75,8 @@ fn replace_tail<T: Tail>(bytes: &mut [u8], p: RecordPlace, tail: T) -> usize
 }
 
 // The bit map of a record with these identifiers, these numbers and so many routes.
-// Kept (2): `front_map` of image_writer takes the identifiers' texts: to cut them out of the bytes, `write_marks` would have to require that they
-// lie in them, which no caller is asked now.
+// Kept (2): `front_map` of image_writer has the identifiers' texts, which no caller here is asked for. What is the same is the last line, a sum:
+// a function of it would have a clause as long, and a bound of its own.
 pub fn new_map(x: Numbers, ids: IdsAt, routes: usize) -> usize
     ensures value { result ≡ map_from (meaning x) ids routes }
     ensures upper_bound { result < 65536 }

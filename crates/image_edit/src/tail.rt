@@ -50,6 +50,8 @@ pub trait Tail: Copy {
     fn count(self, r: RecordAt) -> usize
         ensures { result ≡ counted self r };
 
+    // Kept (5): a writer of `&mut` bytes and place would need a clause that names the writer's reference in each function that is lent it, beside
+    // those about bytes and place: three where two stand.
     fn write(self, bytes: &mut [u8], at: usize)
         requires { at + length (section self) ≤ length bytes.old }
         ensures { bytes.new ≡ put_at at (section self) bytes.old };
@@ -108,6 +110,7 @@ impl Tail for Numbers {
         r.route_count
     }
 
+    // Kept (5): the parameters of `Tail::write`, which says why.
     fn write(self, bytes: &mut [u8], at: usize) {
         write_numbers(bytes, at, self);
     }

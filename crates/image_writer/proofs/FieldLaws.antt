@@ -68,16 +68,6 @@ numbers_size_lem x =
     let e = (refresher_field (is_given x.refresher)).write x.refresher in
     omega (arith, length-append a (b ++ (c ++ (d ++ e))), length-append b (c ++ (d ++ e)), length-append c (d ++ e), length-append d e, number_size x.local, number_size x.remote, optional_size x.last_ack, optional_size x.seconds, refresher_size x.refresher)
 
-pub numbers_parts : (x : Numbers) → length (numbers_bytes x)
-    ≡ length ((number (ltb 0 x.local)).write x.local) + (length ((number (ltb 0 x.remote)).write x.remote) + (length ((optional (is_given x.last_ack)).write x.last_ack) + (length ((optional (is_given x.seconds)).write x.seconds) + length ((refresher_field (is_given x.refresher)).write x.refresher))))
-numbers_parts x =
-    let a = (number (ltb 0 x.local)).write x.local in
-    let b = (number (ltb 0 x.remote)).write x.remote in
-    let c = (optional (is_given x.last_ack)).write x.last_ack in
-    let d = (optional (is_given x.seconds)).write x.seconds in
-    let e = (refresher_field (is_given x.refresher)).write x.refresher in
-    omega (arith, length-append a (b ++ (c ++ (d ++ e))), length-append b (c ++ (d ++ e)), length-append c (d ++ e), length-append d e)
-
 pub front_size : (f : Front) → length (front_of f) ≡ 2 + length (ids_bytes f.ids) + 1 + length (uris_bytes f.uris) + length (numbers_bytes f.numbers)
 unfolding front_of
 front_size f =

@@ -22,6 +22,7 @@ pub fn ids_size(front: Front<'_>) -> usize
     id_size(id.call_id) + id_size(id.local_tag) + id_size(id.remote_tag)
 }
 
+// Kept (5): one text of a `Front`, whose ghost field `id_short` says this of each; a type of a short text would be put around all three.
 fn id_size(t: &[u8]) -> usize
     requires { length t.now < 65536 }
     ensures value { result ≡ length ((id_text (is_filled t.now)).write t.now) }
@@ -111,7 +112,7 @@ fn optional_bit<T: Copy>(o: Option<T>) -> usize
 
 // Kept (5): a writer of `&mut [u8]` and place would need a clause that names the writer's reference in each function that is lent it,
 // beside those about bytes and place: three where two stand.
-// Kept (2): an empty identifier part has no bytes, while an empty URI is written too, as two length bytes.
+// Kept (2): `write_uris` has these three lines with `write_text`: an empty URI is written too, as two length bytes, an empty part isn't.
 pub fn write_ids(out: &mut [u8], at: usize, front: Front<'_>) -> usize
     requires { at + length (ids_bytes (ids_given front.id)) ≤ length out.old }
     ensures value { result ≡ at + length (ids_bytes (ids_given front.entry.id)) }
@@ -125,9 +126,9 @@ pub fn write_ids(out: &mut [u8], at: usize, front: Front<'_>) -> usize
 
 // Kept (5): a writer of `&mut [u8]` and place would need a clause that names the writer's reference in each function that is lent it,
 // beside those about bytes and place: three where two stand.
-// Kept (2): rseq_manager writes the three texts of an identifier so, in an entry; a function of both would be lent three slices, with a clause for each
-// one's length.
-// Kept (2, 4): an empty URI is written too, as two length bytes, while an empty identifier part has no bytes; nothing is converted.
+// Kept (2): store_ids' `write_id` writes its three texts so, and rseq_manager those of an entry; one function of them would be lent three slices,
+// with a clause for each one's length.
+// Kept (4): three texts are written, each by codec's `write_text`; nothing is converted.
 pub fn write_uris(out: &mut [u8], at: usize, uris: UriTexts<'_>) -> usize
     requires { at + length (uris_bytes (uris_given uris)) ≤ length out.old }
     ensures value { result ≡ at + length (uris_bytes (uris_given uris.entry)) }

@@ -20,6 +20,7 @@ pub struct Contest {
 }
 
 // What the callee can make of an offer: of an interval that is requested with this Min-SE.
+// Kept (5): C gives the two each by itself; a struct of them would be made for this call.
 pub fn interval_contest(requested: u64, min_se: u64) -> Result<Contest, Refusal>
     ensures { Settles rust_limits (record { requested = requested; min_se = min_se }) (outcome_in result) }
 {
@@ -32,6 +33,7 @@ pub fn interval_contest(requested: u64, min_se: u64) -> Result<Contest, Refusal>
 }
 
 // 13 with 90 for a Min-SE below it, 13 with the Min-SE for a request below that, then 14 for a request over 86,400.
+// Kept (5): the two numbers of its one caller; a struct of them would be made there for this call, and each test here would take it apart.
 fn check_offer(requested: u64, min_se: u64) -> Result<(), Refusal>
     ensures { result ≡ check_of (offer_cause rust_limits (record { requested = requested; min_se = min_se })) }
 {

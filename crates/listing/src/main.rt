@@ -5,6 +5,7 @@ use listing_output::{print_listing, read_full, report};
 
 fn main(rt: HostRuntime) {
     // One byte more than a listed store may have, so that a longer input is seen to be longer.
+    // Kept (6): README's rule: no heap. So the input goes into an array, and the reading says how many bytes there are.
     let mut store = [0u8; 65537];
     list_input(&rt, &mut store);
 }

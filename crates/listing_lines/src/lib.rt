@@ -12,6 +12,7 @@ use edit::put;
 use record::{Numbers, State};
 
 // The line of a record at a position, over the front of out. Its length.
+// Kept (5): any lent bytes that have room will do; `&mut [u8; 192]` would ask more of callers, and the fact is said of nothing else.
 pub fn write_line(
     out: &mut [u8],
     position: usize,
@@ -33,6 +34,7 @@ pub fn write_line(
 }
 
 // A word and a number, over the front of out. The line's length.
+// Kept (5): any lent bytes that have room will do; `&mut [u8; 192]` would ask more of callers, and the fact is said of nothing else.
 pub fn write_words(out: &mut [u8], word: &[u8], n: u64) -> usize
     requires { (length word.now ≤ 16) × (192 ≤ length out.old) }
     ensures value { result ≡ length (line_of (word.now ∷ decimal_of n ∷ [])) }
@@ -44,7 +46,8 @@ pub fn write_words(out: &mut [u8], word: &[u8], n: u64) -> usize
 }
 
 // Position, state, side.
-// Kept (5): a writer of bytes and place needs a clause about its reference in each function that is lent it, beside those about bytes and place: three where two stand.
+// Kept (5): a writer of bytes and place needs a clause about its reference in each function that is lent it,
+// beside those about bytes and place: three where two stand.
 fn write_head(out: &mut [u8], at: usize, position: usize, state: State, we_are_uac: bool) -> usize
     requires { at + 27 ≤ length out.old }
     ensures value { (result ≡ at + length (head_part position (state_in state) we_are_uac)) × (result ≤ at + 27) }
@@ -56,7 +59,8 @@ fn write_head(out: &mut [u8], at: usize, position: usize, state: State, we_are_u
 }
 
 // Local, remote, last ACK.
-// Kept (5): a writer of bytes and place needs a clause about its reference in each function that is lent it, beside those about bytes and place: three where two stand.
+// Kept (5): a writer of bytes and place needs a clause about its reference in each function that is lent it,
+// beside those about bytes and place: three where two stand.
 fn write_sequence(
     out: &mut [u8],
     at: usize,
@@ -74,7 +78,8 @@ fn write_sequence(
 }
 
 // Seconds, refresh second, route count.
-// Kept (5): a writer of bytes and place needs a clause about its reference in each function that is lent it, beside those about bytes and place: three where two stand.
+// Kept (5): a writer of bytes and place needs a clause about its reference in each function that is lent it,
+// beside those about bytes and place: three where two stand.
 fn write_interval(out: &mut [u8], at: usize, seconds: Option<u32>, routes: usize) -> usize
     requires { at + 63 ≤ length out.old }
     ensures value { (result ≡ at + length (interval_part (number_in seconds) routes)) × (result ≤ at + 63) }
@@ -87,7 +92,9 @@ fn write_interval(out: &mut [u8], at: usize, seconds: Option<u32>, routes: usize
 }
 
 // E, C, T.
-// Kept (5): a writer of bytes and place needs a clause about its reference in each function that is lent it, beside those about bytes and place: three where two stand.
+// Kept (5): a writer of bytes and place needs a clause about its reference in each function that is lent it,
+// beside those about bytes and place: three where two stand.
+// Kept (4, 7): a `Display` of `State` would be this match, for the listing alone; the state picks a letter of the line, and no step.
 fn write_state(out: &mut [u8], at: usize, state: State) -> usize
     requires { at + 2 ≤ length out.old }
     ensures value { (result ≡ at + length (state_letter (state_in state) ++ (32 ∷ []))) × (result ≤ at + 2) }
@@ -102,7 +109,9 @@ fn write_state(out: &mut [u8], at: usize, state: State) -> usize
 }
 
 // uac, uas.
-// Kept (5): a writer of bytes and place needs a clause about its reference in each function that is lent it, beside those about bytes and place: three where two stand.
+// Kept (5): a writer of bytes and place needs a clause about its reference in each function that is lent it,
+// beside those about bytes and place: three where two stand.
+// Kept (7): which side we are is a bit of the record; it picks a word of the line, and no step.
 fn write_side(out: &mut [u8], at: usize, we_are_uac: bool) -> usize
     requires { at + 4 ≤ length out.old }
     ensures value { (result ≡ at + length (side_text we_are_uac ++ (32 ∷ []))) × (result ≤ at + 4) }
@@ -133,19 +142,23 @@ fn refresh_second(seconds: Option<u32>) -> Option<u32>
 }
 
 // A number in decimal, and the byte after it.
-// Kept (5): a writer of bytes and place needs a clause about its reference in each function that is lent it, beside those about bytes and place: three where two stand.
+// Kept (5): a writer of bytes and place needs a clause about its reference in each function that is lent it,
+// beside those about bytes and place: three where two stand.
 pub fn write_number(out: &mut [u8], at: usize, n: u64, after: u8) -> usize
     requires { at + 21 ≤ length out.old }
     ensures value { (result ≡ at + length (decimal_of n ++ (after ∷ []))) × (result ≤ at + 21) }
     ensures out_after { out.new ≡ put_at at (decimal_of n ++ (after ∷ [])) out.old }
 {
+    // Kept (4): of `write!` into lent bytes no clause says what they get (`&mut [u8]` has no `contents`); `io::decimal` says each digit.
+    // Kept (6): no heap: a number's digits go into an array, and `io::decimal` says how many they are.
     let mut digits = [0u8; 20];
     let k = io::decimal(n, &mut digits);
     write_text(out, at, &digits[..k], after)
 }
 
 // A text, and the byte after it. The place after both.
-// Kept (5): a writer of bytes and place needs a clause about its reference in each function that is lent it, beside those about bytes and place: three where two stand.
+// Kept (5): a writer of bytes and place needs a clause about its reference in each function that is lent it,
+// beside those about bytes and place: three where two stand.
 pub fn write_text(out: &mut [u8], at: usize, piece: &[u8], after: u8) -> usize
     requires { at + length piece.now + 1 ≤ length out.old }
     ensures value { result ≡ at + length piece.now + 1 }

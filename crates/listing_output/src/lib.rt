@@ -13,6 +13,7 @@ use std::io::{Read, Write};
 
 // A line for each record of a store and their number, or `refused` and its number.
 pub fn print_listing(rt: &(impl Print + Eprint), store: &[u8]) {
+    // Kept (6): README's rule: no heap. The text goes into an array, and what fills it says how long it is.
     let mut text = [0u8; 131072];
     match list_any(store, &mut text) {
         Ok(n) => print(rt, &text[..n]),
@@ -33,6 +34,7 @@ fn list_any(store: &[u8], out: &mut [u8]) -> Result<usize, Refusal>
 fn print_refused(rt: &(impl Print + Eprint), cause: Refusal)
     requires { cause ≢ NoRoom }
 {
+    // Kept (6): README's rule: no heap. The text goes into an array, and what fills it says how long it is.
     let mut text = [0u8; 192];
     let n = listing_text::write_refused(&mut text, cause);
     print(rt, &text[..n]);
@@ -57,6 +59,7 @@ pub fn print(rt: &(impl Print + Eprint), text: &[u8]) {
 
 // A line on standard error: what failed, and why, as the system words it.
 pub fn report(rt: &impl Eprint, what: &str, error: io::Error) {
+    // Kept (6): README's rule: no heap. The text goes into an array, and what is left of its room says how long it is.
     let mut text = [0u8; 320];
     let mut rest: &mut [u8] = &mut text;
     let _ = write!(rest, "{error}");
@@ -69,8 +72,6 @@ pub fn report(rt: &impl Eprint, what: &str, error: io::Error) {
 // What the system says, without the error's number.
 fn words(text: &[u8]) -> &str {
     let text = str::from_utf8(text).unwrap_or("");
-    match text.split_once(" (os error ") {
-        Some((words, _number)) => words,
-        None => text,
-    }
+    text.split_once(" (os error ")
+        .map_or(text, |(words, _number)| words)
 }

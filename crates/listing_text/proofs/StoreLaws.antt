@@ -53,8 +53,17 @@ decoded s count e = by (records_in (length s) s) refl e
             record { records = rs; all = rw (q, t); whole = q; counted = (let v : length rs ≡ count = cc in sym v) }
         is false t = absurd (let u : None ≡ Some count = (rw t at e) in let z : ◌≡◌ {A = ℕ} 0 1 = cc in omega arith)
 
-pub whole_given : (s : List ℕ) (count : ℕ) → Decoded s count → is_given (records_in (length s) s) ≡ true
-whole_given s count d = rw d.whole
+pub whole_given : (s : List ℕ) (count : ℕ) → Decoded s count → is_given (decode_all s) ≡ true
+whole_given s count d = rw d.all
+
+-- the records of a store that was read
+pub records_stored : (s : List ℕ) → is_given (decode_all s) ≡ true → is_given (records_in (length s) s) ≡ true
+unfolding decode_all
+records_stored s e = by (records_in (length s) s) refl e
+  where
+    by : (o : Option (List Record)) → records_in (length s) s ≡ o → is_given (only_distinct o) ≡ true → is_given o ≡ true
+    by None q e = e
+    by (Some rs) q e = refl
 
 -- the lines of the records and the total are the listing
 pub listing_parts : (s : List ℕ) (count : ℕ) (d : Decoded s count) → listed_lines s ++ total_line count ≡ listing_of d.records

@@ -14,7 +14,6 @@ pub struct Walk<'a> {
 
 impl<'a> Walk<'a> {
     // From the front.
-    // Kept (2): `new` of `ordered_store`'s entries makes a walk of another type; the two have no trait in common.
     pub fn new(bytes: &'a [u8]) -> Walk<'a>
         ensures bytes { result.bytes.now ≡ bytes.now }
         ensures at { result.at ≡ 0 }
@@ -42,7 +41,7 @@ impl<'a> Iterator for Walk<'a> {
 }
 
 // The record at a place, if one is read there.
-// Kept (5): the fields of `Walk` apart: a slice in a struct does not say that its elements are bytes.
+// Kept (5): the fields of `Walk`, whose ghost field `within` is this fact; `next` asks once.
 fn read_at(bytes: &[u8], at: usize) -> Option<RecordAt>
     requires { at ≤ length bytes.now }
     ensures { ReadAt bytes.now at result }

@@ -28,6 +28,7 @@ fn list_file(rt: &(impl Files + Print + Eprint), path: &str) {
 
 fn list_opened(rt: &(impl Print + Eprint), path: &str, mut file: impl Read + Drop) {
     // One byte more than a listed store may have, as in `listing`.
+    // Kept (6): README's rule: no heap. So the file goes into an array, and the reading says how many bytes there are.
     let mut store = [0u8; 65537];
     match read_full(&mut file, &mut store) {
         Ok(n) => print_listing(rt, &store[..n]),

@@ -7,6 +7,7 @@ use mathlib.Core.List.{List, [], ◌∷◌}
 use lib.ListN.{length, get_or}
 use lib.Dec.{leb}
 use borrow.Author.Tests.{leb-true, le-leb, lt-ltb, le-ltb}
+use Rattle.std.proofs.lemmas.Bool.{and_parts}
 use Rattle.std.specs.Prelude.{Err, None, Ok, Option, Some}
 use Rattle.limits.specs.Outcome.{refuse_by}
 use Rattle.limits.specs.declared.Refusal.TheVariants.{NoRoom}
@@ -14,7 +15,7 @@ use Rattle.text.specs.Text.{is_blank, is_value, all, same}
 use Rattle.text.specs.Number.{non_empty}
 use Rattle.methods.specs.Methods.{method_names, position_from, method_of, is_method, name_of, method_from, method_cause}
 use Rattle.output.specs.Output.{fitted}
-use Rattle.output.proofs.ClassLaws.{both_left, both_right, within_range}
+use Rattle.output.proofs.ClassLaws.{within_range}
 
 pub fourteen : length method_names ≡ 14
 unfolding method_names
@@ -71,8 +72,8 @@ each p (name ∷ names) = p name && each p names
 each_at : (p : List ℕ → Bool) (names : List (List ℕ)) (k : ℕ) → each p names ≡ true → k < length names → p (get_or names k []) ≡ true
 unfolding each
 each_at p [] k e h = absurd (omega arith)
-each_at p (name ∷ names) zero e h = both_left (p name) (each p names) e
-each_at p (name ∷ names) (suc k) e h = each_at p names k (both_right (p name) (each p names) e) (omega arith)
+each_at p (name ∷ names) zero e h = (and_parts (p name) (each p names) e).0
+each_at p (name ∷ names) (suc k) e h = each_at p names k (and_parts (p name) (each p names) e).1 (omega arith)
 
 -- one word of at most nine bytes that a value may have
 abbrev is_short : List ℕ → Bool
@@ -93,13 +94,13 @@ name_short number l h = go (name_of number) (each_at is_short method_names (numb
   where
     go : (name : List ℕ) → is_short name ≡ true → Short name
     go name e =
-        let p = both_right (non_empty name) _ e in
-        let q = both_right (all (λ b. not (is_blank b)) name) _ p in
+        let p = (and_parts (non_empty name) _ e).1 in
+        let q = (and_parts (all (λ b. not (is_blank b)) name) _ p).1 in
         record {
-          filled = both_left (non_empty name) _ e;
-          unbroken = both_left (all (λ b. not (is_blank b)) name) _ p;
-          printable = both_left (all is_value name) _ q;
-          short = leb-true (length name) 9 (both_right (all is_value name) _ q);
+          filled = (and_parts (non_empty name) _ e).0;
+          unbroken = (and_parts (all (λ b. not (is_blank b)) name) _ p).0;
+          printable = (and_parts (all is_value name) _ q).0;
+          short = leb-true (length name) 9 (and_parts (all is_value name) _ q).1;
         }
 
 -- what the answer of a reading says of the number

@@ -8,8 +8,6 @@ ghost use Rattle.methods.specs.Methods.{method_of, is_method, name_of, method_nu
 
 use limits::Refusal;
 
-const COUNT: u8 = 14;
-
 // The names in the order of their numbers.
 // Kept (1): a method goes by its number, as C has it; an enum would list the fourteen as variants, in `TryFrom` and in `name`, this table once.
 const NAMES: [&[u8]; 14] = [
@@ -30,6 +28,7 @@ const NAMES: [&[u8]; 14] = [
 ];
 
 // The number of a method's text, letter case ignored, or nothing: 1.
+// Kept (2): a check and a reading, each named once; a function over both would be lent two closures and say no more than these lines.
 pub fn method_number(s: &[u8]) -> Result<Option<u8>, Refusal>
     ensures { result ≡ method_lookup (method_number rust_limits s.now) }
 {
@@ -61,15 +60,15 @@ pub fn method_of(s: &[u8]) -> Option<u8>
 }
 
 // Whether a number is a method's.
-// Kept (1): a C caller gives a method by its number, and 28 answers any that is none.
+// Kept (1): the test of any byte, as C or an entry has it; its callers go on with the number, so an enum or a struct made here would be undone.
 pub fn is_method(number: u8) -> bool
     ensures { result ≡ is_method number }
 {
-    1 <= number && number <= COUNT
+    1 <= number && (number as usize) <= NAMES.len()
 }
 
 // The name of a method's number.
-// Kept (1): no code asks which method it is: it is read, compared and handed on as its number, and an enum would be turned back into it at each.
+// Kept (1): its two callers are given a number, ask `is_method` and then this; a struct of the number with that fact would be made for this call.
 pub fn name_of(number: u8) -> &'static [u8]
     requires { (1 ≤ number) × (number ≤ 14) }
     ensures { result.now ≡ name_of number }

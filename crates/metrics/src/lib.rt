@@ -23,22 +23,24 @@ impl DialogMetrics {
     }
 
     // One more created.
+    // Kept (2): these two differ in the field alone, which no parameter can name.
     pub fn record_created(self) -> DialogMetrics
         ensures { result ≡ created_counted self }
     {
         DialogMetrics {
             created: count_one(self.created),
-            terminated: self.terminated,
+            ..self
         }
     }
 
     // One more terminated.
+    // Kept (2): these two differ in the field alone, which no parameter can name.
     pub fn record_terminated(self) -> DialogMetrics
         ensures { result ≡ terminated_counted self }
     {
         DialogMetrics {
-            created: self.created,
             terminated: count_one(self.terminated),
+            ..self
         }
     }
 }

@@ -9,10 +9,10 @@ use lib.ListN.{length, get_or, take, drop, get_or-eq_default, length-drop}
 use lib.Seq.{get_or-drop}
 use lib.Dec.{eqb, ltb}
 use borrow.Author.Tests.{eq-eqb, ne_eqb, lt-ltb, eqb-true}
+use Rattle.std.proofs.lemmas.List.{take_rest}
 use Rattle.std.specs.Prelude.{None, Option, Some}
 use Rattle.limits.proofs.Laws.{some_pair}
 use Rattle.text.specs.Text.{span, is_value}
-use Rattle.text.proofs.Runs.{drop_part}
 use Rattle.msg.specs.Block.{name_length, value_length, line_at}
 
 -- the line that stands first in s, where its name is n bytes and its value, if it has one, m
@@ -40,10 +40,10 @@ module _ (s : List ℕ) (n : ℕ) (hn : n ≡ name_length s) where
   -- m is what `value_length` answers of the part after the colon
   module _ (m : ℕ) (hm : m ≡ span is_value (take (length s - (n + 1)) (drop (n + 1) s))) where
     by_value : line_at s ≡ line_by s n m
-    by_value = by_name ∙ rw (← drop_part s (n + 1), ← hm)
+    by_value = by_name ∙ rw (← take_rest s (n + 1), ← hm)
 
     part_at : (i : ℕ) → get_or (take (length s - (n + 1)) (drop (n + 1) s)) i 0 ≡ get_or s (n + 1 + i) 0
-    part_at i = rw (drop_part s (n + 1), get_or-drop)
+    part_at i = rw (take_rest s (n + 1), get_or-drop)
 
     pub no_cr : (get_or (take (length s - (n + 1)) (drop (n + 1) s)) m 0 ≡ 13 → ⊥) → line_at s ≡ None
     no_cr h = by_value ∙ simp (ne_eqb _ _ (rw part_at at h), and-false)
@@ -90,4 +90,4 @@ line_length t n m e =
     omega (arith, get_or_within t (name_length t + 1 + value_length t + 1) 9 (eqb-true _ _ (fourth t₁ t₂ t₃ t₄ p.0)), p.1, p.2)
 
 pub line_fits : (s : List ℕ) (at n m : ℕ) → at ≤ length s → line_at (take (length s - at) (drop at s)) ≡ Some (n, m) → at + (n + m + 3) ≤ length s
-line_fits s at n m h e = omega (arith, line_length (drop at s) n m (rw drop_part at e), length-drop at s)
+line_fits s at n m h e = omega (arith, line_length (drop at s) n m (rw take_rest at e), length-drop at s)

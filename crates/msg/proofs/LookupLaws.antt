@@ -10,6 +10,7 @@ use lib.ListN.{length, take, drop, drop_of_length-le, length-drop}
 use lib.Seq.{drop-cons, drop-drop, length-take-le}
 use lib.Dec.{eqb, ltb}
 use borrow.Author.Tests.{eq-eqb, ne_eqb, lt-ltb, le-ltb, ltb-true, ltb-false}
+use Rattle.std.proofs.lemmas.List.{take_rest}
 use Rattle.std.specs.Option.{MatchOption, IsSomeAnd}
 use Rattle.std.specs.Prelude.{None, Ok, Option, Some}
 use Rattle.text.specs.Text.{same, Piece}
@@ -19,7 +20,6 @@ use Rattle.limits.specs.declared.Refusal.TheVariants.{TextTooLong}
 use Rattle.text.specs.Answers.{too_long, span_of, lookup_of, next_of}
 use Rattle.text.specs.Spans.{part_in}
 use Rattle.text.specs.declared.Span.{Span}
-use Rattle.text.proofs.Runs.{drop_part}
 use Rattle.text.proofs.Trimming.{trimmed_at, trimmed_part}
 use Rattle.msg.specs.Block.{line_at, lines_after, HeaderLine, line_of, with_line, tail_of, lines_from, lines_since, first_named, named, value_of, text_of, stop_of, found_of, block_cause, lookup_cause}
 use Rattle.msg.specs.Lines.{line_read}
@@ -46,12 +46,12 @@ module _ (s : List ℕ) (at : ℕ) where
 
   pub block_stop : at < length s → line_at (take (length s - at) (drop at s)) ≡ None → lines_after 0 (drop at s) ≡ false
   unfolding lines_after
-  block_stop h e = rw (drop-cons s at 0 h, rw (drop_part s at, drop-cons s at 0 h) at e)
+  block_stop h e = rw (drop-cons s at 0 h, rw (take_rest s at, drop-cons s at 0 h) at e)
 
   pub block_next : (n m : ℕ) → line_at (take (length s - at) (drop at s)) ≡ Some (n, m) → lines_after 0 (drop at s) ≡ lines_after 0 (drop (at + (n + m + 3)) s)
   block_next n m e =
       let q : at + suc (n + m + 2) ≡ at + (n + m + 3) = omega arith in
-      after_line (drop at s) n m (rw drop_part at e) ∙ rw (drop-drop, q)
+      after_line (drop at s) n m (rw take_rest at e) ∙ rw (drop-drop, q)
 
 -- ---- the lines
 
@@ -81,29 +81,29 @@ module _ (s : List ℕ) (at : ℕ) where
 
   pub left_stop : at < length s → line_at (take (length s - at) (drop at s)) ≡ None → lines_left s at ≡ []
   unfolding lines_from
-  left_stop h e = rw (drop-cons s at 0 h, rw (drop_part s at, drop-cons s at 0 h) at e)
+  left_stop h e = rw (drop-cons s at 0 h, rw (take_rest s at, drop-cons s at 0 h) at e)
 
   pub left_line : (n m : ℕ) → line_at (take (length s - at) (drop at s)) ≡ Some (n, m) → lines_left s at ≡ line_of at (drop at s) n m ∷ lines_left s (at + (n + m + 3))
   left_line n m e =
       let q : at + suc (n + m + 2) ≡ at + (n + m + 3) = omega arith in
-      from_line at (drop at s) n m (rw drop_part at e) ∙ rw (drop-drop (suc (n + m + 2)) at s, q)
+      from_line at (drop at s) n m (rw take_rest at e) ∙ rw (drop-drop (suc (n + m + 2)) at s, q)
 
 -- the same as the code reads it, of the part from `at` on
 module _ (s : List ℕ) (at n m : ℕ) (e : line_at (take (length s - at) (drop at s)) ≡ Some (n, m)) where
   name_fits : n ≤ length (drop at s)
-  name_fits = omega (arith, line_length (drop at s) n m (rw drop_part at e))
+  name_fits = omega (arith, line_length (drop at s) n m (rw take_rest at e))
 
   value_fits : m ≤ length (drop (n + 1) (drop at s))
-  value_fits = omega (arith, line_length (drop at s) n m (rw drop_part at e), length-drop (n + 1) (drop at s))
+  value_fits = omega (arith, line_length (drop at s) n m (rw take_rest at e), length-drop (n + 1) (drop at s))
 
   pub read_name : length (take n (take (length s - at) (drop at s))) ≡ n
-  read_name = rw drop_part (length-take-le n (drop at s) name_fits)
+  read_name = rw take_rest (length-take-le n (drop at s) name_fits)
 
   pub read_value : length (take (n + 1 + m - (n + 1)) (drop (n + 1) (take (length s - at) (drop at s)))) ≡ m
-  read_value = rw (drop_part, add-sub_cancel_left) (length-take-le m (drop (n + 1) (drop at s)) value_fits)
+  read_value = rw (take_rest, add-sub_cancel_left) (length-take-le m (drop (n + 1) (drop at s)) value_fits)
 
   pub left_read : lines_left s at ≡ line_read at (take n (take (length s - at) (drop at s))) (take (n + 1 + m - (n + 1)) (drop (n + 1) (take (length s - at) (drop at s)))) ∷ lines_left s (at + (n + m + 3))
-  left_read = left_line s at n m e ∙ rw (read_name, read_value, drop_part, add-sub_cancel_left)
+  left_read = left_line s at n m e ∙ rw (read_name, read_value, take_rest, add-sub_cancel_left)
 
 -- bytes that are no line, or none
 pub left_none : (s : List ℕ) (at : ℕ) → line_at (take (length s - at) (drop at s)) ≡ None → lines_left s at ≡ []

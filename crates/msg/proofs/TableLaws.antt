@@ -11,7 +11,6 @@ use borrow.Author.Tests.{eq-eqb, ne_eqb, eqb-true, eqb-false}
 use Rattle.std.proofs.lemmas.Bool.{and_parts}
 use Rattle.std.proofs.lemmas.Grind.{get_or-set_at}
 use Rattle.std.proofs.lemmas.List.{get_or-set_other}
-use Rattle.std.specs.Bool.{then_some}
 use Rattle.std.specs.Prelude.{Err, None, Ok, Option, Some}
 use Rattle.std.specs.Option.{option_or}
 use Rattle.limits.specs.Outcome.{check_of}
@@ -19,9 +18,8 @@ use Rattle.limits.specs.declared.Refusal.{Refusal}
 use Rattle.text.specs.Text.{alike, lower, same}
 use Rattle.text.specs.Answers.{span_of}
 use Rattle.text.specs.declared.Span.{Span}
-use Rattle.text.proofs.Alike.{alike_length}
 use Rattle.msg.specs.Block.{HeaderLine, named, first_named, found_of, lines_of, value_of, text_of, value_named}
-use Rattle.msg.specs.Table.{names, name_in, name_at, slot_in, slot_of, SlotIs, tabled, table_of, headers_of, looked_up, or_found, kept, noted, text_at, value_at, end_of}
+use Rattle.msg.specs.Table.{names, name_in, name_at, slot_in, slot_of, tabled, headers_of, looked_up, or_found, kept, noted, text_at, value_at, end_of}
 use Rattle.msg.specs.declared.table.HeaderTable.{HeaderTable}
 use Rattle.msg.proofs.LookupLaws.{Says, found_at}
 
@@ -86,27 +84,6 @@ slot_in_lem (a ∷ ns) d name (suc k) l =
 pub slot_is : (name : List ℕ) (k : ℕ) → k < 8 → eqb (slot_of name) k ≡ named (name_at k) name
 slot_is name k l = slot_in_lem names names_apart name k l
 
--- ---- the test of a name
-
-pub slot_hit : (name : List ℕ) (k : ℕ) → k < 8 → named (name_at k) name ≡ true → k ≡ slot_of name
-slot_hit name k l e = sym (eqb-true _ _ (slot_is name k l ∙ e))
-
-pub slot_none : (name : List ℕ) → named (name_at 0) name ≡ false → named (name_at 1) name ≡ false → named (name_at 2) name ≡ false → named (name_at 3) name ≡ false
-    → named (name_at 4) name ≡ false → named (name_at 5) name ≡ false → named (name_at 6) name ≡ false → named (name_at 7) name ≡ false → 8 ≡ slot_of name
-unfolding slot_in
-slot_none name e0 e1 e2 e3 e4 e5 e6 e7 = rw (e0, e1, e2, e3, e4, e5, e6, e7)
-
--- a name of another length is another
-pub off : (name : List ℕ) (k : ℕ) → (length name ≡ length (name_at k) → ⊥) → named (name_at k) name ≡ false
-off name k h = alike_length lower name (name_at k) h
-
-pub slot_only : (name : List ℕ) (k : ℕ) (o : Option ℕ) → o ≡ then_some (named (name_at k) name) k → k < 8 → (named (name_at k) name ≡ false → 8 ≡ slot_of name) → SlotIs name o
-slot_only name k o q l h = rw q (by (named (name_at k) name) refl)
-  where
-    by : (u : Bool) → named (name_at k) name ≡ u → SlotIs name (then_some u k)
-    by true e = (slot_hit name k l e, l)
-    by false e = h e
-
 -- ---- the table
 
 -- two tables with the same look-up of each name
@@ -158,10 +135,6 @@ turn : (asked : List ℕ) (l : HeaderLine) (ls : List HeaderLine) (have : Option
     → or_found have (found_of (first_named asked (l ∷ ls))) ≡ or_found (kept (named asked l.name) have (found_of (Some l))) (found_of (first_named asked ls))
 unfolding first_named
 turn asked l ls have = by_turn asked l ls have (named asked l.name)
-
--- none of the names so far
-pub table_start : (ls : List HeaderLine) → table_after (table_in (None ∷ None ∷ None ∷ None ∷ None ∷ None ∷ None ∷ None ∷ [])) ls ≡ table_of ls
-table_start ls = refl
 
 module _ (t : HeaderTable) where
   nothing_more : (f : Option (Span × ℕ)) → or_found f None ≡ f

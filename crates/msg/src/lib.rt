@@ -79,6 +79,7 @@ pub fn find(block: &[u8], name: &[u8]) -> Option<(Span, usize)>
 }
 
 // The same from a place on where a line starts.
+// Kept (5): a look-up asks once; `Lines` and `Values`, which go on from the place, have this fact as their ghost field `within`.
 pub fn find_from(block: &[u8], from: usize, name: &[u8]) -> Option<(Span, usize)>
     requires { from ≤ length block.now }
     ensures { result ≡ found_of (first_named name.now (lines_from 0 from (drop from block.now))) }

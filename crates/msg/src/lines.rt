@@ -77,6 +77,7 @@ impl<'a, 'b> Values<'a, 'b> {
     ghost use Rattle.msg.specs.Lines.{values_ahead, values_of};
 
     // Of all lines of a name.
+    // Kept (5): `Values` is what holds both; here they are given.
     pub fn of(block: &'a [u8], name: &'b [u8]) -> Values<'a, 'b>
         ensures { values_ahead result ≡ values_of (all_named name.now (lines_of block.now)) }
     {

@@ -28,6 +28,18 @@ pub struct HeaderTable {
     pub record_route: Option<(Span, usize)>,
 }
 
+// The names, in the order of the table.
+const ASKED: [&[u8]; NAMES] = [
+    b"Call-ID",
+    b"From",
+    b"To",
+    b"CSeq",
+    b"Contact",
+    b"Session-Expires",
+    b"RSeq",
+    b"Record-Route",
+];
+
 // The check of a header block, 1, 2, and the first line of each name of the table, in one pass.
 pub fn read_headers(block: &[u8]) -> Result<HeaderTable, Refusal>
     ensures { result ≡ headers_of (block_cause rust_limits block.now) (table_of (lines_of block.now)) }
@@ -57,64 +69,8 @@ pub fn read_headers(block: &[u8]) -> Result<HeaderTable, Refusal>
 }
 
 // The place of a name in the table.
-// Kept (1, 3): by a search in a table of the eight names each line of a block costs eight comparisons, where this asks its length and then at most
-// three; a request at 1 record takes 13,311 instructions, and its bar is 14,500 (issue 19).
 fn slot_of(name: &[u8]) -> Option<usize>
     ensures { SlotIs name.now result }
 {
-    let n = name.len();
-    if n == 4 {
-        return slot_of_four(name);
-    }
-    if n == 7 {
-        return slot_of_seven(name);
-    }
-    if n == 2 {
-        return slot_if(name, b"To", 2);
-    }
-    if n == 12 {
-        return slot_if(name, b"Record-Route", 7);
-    }
-    if n == 15 {
-        return slot_if(name, b"Session-Expires", 5);
-    }
-    None
-}
-
-// Of a name of four bytes.
-fn slot_of_four(name: &[u8]) -> Option<usize>
-    requires { length name.now ≡ 4 }
-    ensures { SlotIs name.now result }
-{
-    if is_named(name, b"From") {
-        return Some(1);
-    }
-    if is_named(name, b"CSeq") {
-        return Some(3);
-    }
-    if is_named(name, b"RSeq") {
-        return Some(6);
-    }
-    None
-}
-
-// Of a name of seven bytes.
-fn slot_of_seven(name: &[u8]) -> Option<usize>
-    requires { length name.now ≡ 7 }
-    ensures { SlotIs name.now result }
-{
-    if is_named(name, b"Call-ID") {
-        return Some(0);
-    }
-    if is_named(name, b"Contact") {
-        return Some(4);
-    }
-    None
-}
-
-// A place of the table, where a line's name is the one asked for.
-fn slot_if(name: &[u8], asked: &[u8], k: usize) -> Option<usize>
-    ensures { result ≡ then_some (named asked.now name.now) k }
-{
-    is_named(name, asked).then_some(k)
+    ASKED.iter().position(|asked| is_named(name, asked))
 }

@@ -2,14 +2,15 @@
 use Prim.Native.Nat.{ℕ, ◌+◌, ◌≤◌, ◌<◌, min}
 use native.Mathlib.Omega.{arith}
 use native.Mathlib.Numerals.{add-one}
-use mathlib.Core.Path.{◌≡◌, refl}
+use mathlib.Core.Path.{◌≡◌, refl, ap, ◌∙◌}
 use mathlib.Core.Bool.{Bool, true, false, cond}
-use mathlib.Core.List.{List}
+use mathlib.Core.List.{List, [], ◌∷◌}
 use lib.ListN.{length, drop, get_or, drop_of_length-le}
 use lib.Seq.{drop-cons}
 use lib.Dec.{ltb, eqb}
 use borrow.Author.Tests.{le-ltb, eqb-true, eqb-false, ltb-true, ltb-false}
-use Rattle.std.specs.Ordering.{nat_cmp}
+use Rattle.std.specs.Cmp.Lexicographic.{slice_cmp}
+use Rattle.std.specs.Ordering.{nat_cmp, ordering_then}
 use Rattle.std.specs.declared.cmp.Ordering.{Ordering}
 use Rattle.std.specs.declared.cmp.Ordering.TheVariants.{Less, Equal, Greater}
 use Rattle.ordered_store.specs.Order.{order, byte_order, or_next}
@@ -70,3 +71,17 @@ module _ (a b : List ℕ) (i : ℕ) where
           let k : i < length a = omega (arith, e) in
           let l : length b ≤ i = omega (arith, e) in
           rw (drop-cons a i 0 k, drop_of_length-le b l)
+
+-- ---- std's order of two texts is the same
+
+then_next : (o p : Ordering) → ordering_then o p ≡ or_next o p
+then_next Less p = refl
+then_next Equal p = refl
+then_next Greater p = refl
+
+pub cmp_order : (a b : List ℕ) → slice_cmp nat_cmp a b ≡ order a b
+unfolding order
+cmp_order [] [] = refl
+cmp_order [] (y ∷ t) = refl
+cmp_order (x ∷ s) [] = refl
+cmp_order (x ∷ s) (y ∷ t) = then_next (nat_cmp x y) (slice_cmp nat_cmp s t) ∙ (ap (λ o. or_next o (slice_cmp nat_cmp s t)) (byte_cmp x y) ∙ ap (or_next (byte_order x y)) (cmp_order s t))

@@ -7,7 +7,7 @@ use mathlib.Core.List.{List, [], ◌∷◌, ◌++◌, append_assoc}
 use lib.ListN.{length, length-append}
 use lib.Seq.{take-append_seam, drop-append_seam, drop-append-add}
 use Rattle.std.specs.Prelude.{None, Some}
-use Rattle.std.proofs.lemmas.Bool.{and_parts}
+use Rattle.std.proofs.lemmas.Bool.{and_from, and_parts}
 use Rattle.edit.specs.Edit.{spliced}
 use Rattle.codec.specs.Codec.{Codec, write_all}
 use Rattle.codec.proofs.CodecLaws.{GoodAll}
@@ -18,11 +18,7 @@ use Rattle.std.specs.declared.cmp.Ordering.{Ordering}
 use Rattle.std.specs.declared.cmp.Ordering.TheVariants.{Less, Equal, Greater}
 use Rattle.ordered_store.proofs.OrderLaws.{flip, key_itself, key_equal, key_mirror, key_transitive}
 
--- ---- two tests
-
-both : (a b : Bool) → a ≡ true → b ≡ true → (a && b) ≡ true
-both true b d e = e
-both false b d e = absurd (let z : ◌≡◌ {A = ℕ} 0 1 = cc in omega arith)
+-- ---- the test of an order
 
 is_before_lem : (o : Ordering) → is_before o ≡ true → o ≡ Less
 is_before_lem Less e = refl
@@ -71,7 +67,7 @@ module _ {A : Type 0} (key_of : A → Key) where
   module _ (e f : A) (es : List A) where
     pub ascends : key_order (key_of e) (key_of f) ≡ Less → ascending_from key_of f es ≡ true → ascending_from key_of e (f ∷ es) ≡ true
     unfolding ascending_from
-    ascends h k = both (is_before (key_order (key_of e) (key_of f))) (ascending_from key_of f es) (ap is_before h) k
+    ascends h k = and_from (is_before (key_order (key_of e) (key_of f))) (ascending_from key_of f es) (ap is_before h) k
 
     pub next_later : ascending_from key_of e (f ∷ es) ≡ true → key_order (key_of e) (key_of f) ≡ Less
     unfolding ascending_from
@@ -95,7 +91,7 @@ module _ {A : Type 0} (key_of : A → Key) where
 
   set_alone : (a e : A) → key_order (key_of e) (key_of a) ≡ Less → ascending_from key_of e (set_entry key_of a []) ≡ true
   unfolding set_entry ascending_from
-  set_alone a e h = both (is_before (key_order (key_of e) (key_of a))) true (ap is_before h) refl
+  set_alone a e h = and_from (is_before (key_order (key_of e) (key_of a))) true (ap is_before h) refl
 
   set_from : (a e : A) (es : List A) → key_order (key_of e) (key_of a) ≡ Less → ascending_from key_of e es ≡ true → ascending_from key_of e (set_entry key_of a es) ≡ true
   set_from a e [] h k = set_alone a e h

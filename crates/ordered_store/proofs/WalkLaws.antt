@@ -48,10 +48,6 @@ module _ {A P : Type 0} (F : Layout A P) (s : List ℕ) where
   SoFar at None n = (at ≡ 0) × (n ≡ 0)
   SoFar at (Some p) n = Counting F s p n × (at ≡ F.end_of p)
 
-  pub few : (at : ℕ) (last : Option P) (n : ℕ) → SoFar at last n → n ≤ at
-  few at None n g = omega (arith, g.0, g.1)
-  few at (Some p) n g = omega (arith, g.0.many, g.1)
-
   -- nothing is read at the place
   pub broken : (at : ℕ) (last : Option P) (n : ℕ) → SoFar at last n → at < length s → places_read F at (F.form.read (drop at s)) ≡ None → None ≡ asked F s
   broken at None n g h e = first_broken F s (subst (λ (k : ℕ). k < length s) g.0 h) (subst (λ (k : ℕ). places_read F k (F.form.read (drop k s)) ≡ None) g.0 e)

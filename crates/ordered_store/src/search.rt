@@ -17,6 +17,7 @@ pub trait Entry: Copy {
     ghost layout: { Layout Value Self };
 
     // The entry that begins at a place.
+    // Kept (5): a reader of bytes and place, with the fact as its ghost field, would be made anew at each place, as for `codec`'s readers.
     fn read(bytes: &[u8], at: usize) -> Option<Self>
         requires { at ≤ length bytes.now }
         ensures { result ≡ places_read layout at (layout.form.read (drop at bytes.now)) };
@@ -40,6 +41,7 @@ pub trait KeyedBy<K>: Entry {
     ghost texts: { K → Key };
 
     // Its key against one that is asked for.
+    // Kept (5): an entry is places alone, so that its store can be changed while it is held; the texts of its key lie in the bytes.
     fn compare(self, bytes: &[u8], key: K) -> Ordering
         requires { Self.layout.Within bytes.now self }
         ensures { result ≡ key_order (Self.layout.key_at bytes.now self) (texts key) };
@@ -79,6 +81,7 @@ pub fn count_entries<E: Entry>(bytes: &[u8]) -> Option<usize>
 }
 
 // The first entry whose key isn't before the one asked for. The bytes are those of a store that was read.
+// Kept (6): entries have no fixed size, so no place in the middle is known to begin one: it is searched from the front.
 fn search<K: Copy, E: KeyedBy<K>>(key: K, bytes: &[u8]) -> Result<Result<E, usize>, Refusal>
     requires { Stored E.layout.form E.layout.key_of bytes.now }
     ensures { result ≡ found_of E.layout (slot_read E.layout.form E.layout.key_of (E.texts key) (decode_entries E.layout.form E.layout.key_of bytes.now)) }

@@ -9,13 +9,14 @@ use mathlib.Core.List.{List, [], ◌∷◌, ◌++◌}
 use lib.ListN.{length, take, length-append}
 use lib.Dec.{ltb, lit<}
 use borrow.Author.Tests.{lt-ltb, ltb-true, ltb-false, le-leb, ne_eqb}
+use Rattle.std.proofs.lemmas.Bool.{and_parts}
 use Rattle.std.specs.Prelude.{Some}
 use Rattle.io.specs.Counts.{IsPrefixLen}
 use Rattle.io.specs.Digits.{hex_digit_ascii, last_digits, IsDigitCount}
 use Rattle.text.specs.Text.{is_digit, all}
 use Rattle.text.specs.Number.{value, non_empty, without_plus, digits_below, read_number}
 use Rattle.output.specs.Decimal.{decimal_in, decimal_of}
-use Rattle.output.proofs.ClassLaws.{both_left, within_range, all_append}
+use Rattle.output.proofs.ClassLaws.{within_range, all_append}
 
 -- what holds of one digit, and of a digit after digits of which it holds, holds of the decimal text
 module _ (P : ℕ → List ℕ → Type 0) (one : (n : ℕ) → n < 10 → P n ((48 + n) ∷ [])) (more : (n : ℕ) (s : List ℕ) → 10 ≤ n → P (n / 10) s → P n (s ++ ((48 + n % 10) ∷ []))) where
@@ -102,7 +103,7 @@ no_sign : (s : List ℕ) → all is_digit s ≡ true → without_plus s ≡ s
 unfolding all
 no_sign [] e = refl
 no_sign (b ∷ s) e =
-    let r = within_range 48 57 b (both_left (is_digit b) (all is_digit s) e) in
+    let r = within_range 48 57 b (and_parts (is_digit b) (all is_digit s) e).0 in
     rw (ne_eqb b 43 (λ z. omega arith))
 
 -- the decimal text of a number of a width reads as it

@@ -1,10 +1,9 @@
 -- Bytes that a piece was put over, and the bytes of one entry more. Assumes nothing.
-use Prim.Native.Nat.{ℕ, ◌+◌, ◌-◌, ◌≤◌}
-use native.Mathlib.Omega.{arith}
+use Prim.Native.Nat.{ℕ, ◌+◌, ◌≤◌}
 use mathlib.Core.Path.{◌≡◌, sym, ap, ◌∙◌}
 use mathlib.Core.List.{List, [], ◌∷◌, ◌++◌, append_assoc, append-nil}
 use lib.ListN.{length, take, drop, length-append}
-use lib.Seq.{length-take-le, drop-drop, take_at, drop-append-add}
+use lib.Seq.{length-take-le, take_at}
 use Rattle.edit.specs.Edit.{put_at}
 use Rattle.codec.specs.Codec.{write_all}
 use Rattle.prack_body.specs.Lists.{Pending}
@@ -15,18 +14,6 @@ pub take_put : (to : ℕ) (e s : List ℕ) → to ≤ length s → take (to + le
 take_put to e s h =
     let z : length (take to s ++ e) ≡ to + length e = length-append (take to s) e ∙ ap (λ (k : ℕ). k + length e) (length-take-le to s h) in
     ap (take (to + length e)) (sym (append_assoc (take to s) e (drop (to + length e) s))) ∙ take_at (take to s ++ e) (drop (to + length e) s) (to + length e) z
-
--- what is past the piece is what it was
-pub drop_put : (to m : ℕ) (e s : List ℕ) → to ≤ length s → to + length e ≤ m → drop m (put_at to e s) ≡ drop m s
-drop_put to m e s h l =
-    let z : length (take to s ++ e) ≡ to + length e = length-append (take to s) e ∙ ap (λ (k : ℕ). k + length e) (length-take-le to s h) in
-    let k : m ≡ length (take to s ++ e) + (m - (to + length e)) = omega arith in
-    let j : to + length e + (m - (to + length e)) ≡ m = omega arith in
-    ap (drop m) (sym (append_assoc (take to s) e (drop (to + length e) s)))
-    ∙ ap (λ (i : ℕ). drop i ((take to s ++ e) ++ drop (to + length e) s)) k
-    ∙ drop-append-add (take to s ++ e) (drop (to + length e) s) (m - (to + length e))
-    ∙ drop-drop (m - (to + length e)) (to + length e) s
-    ∙ ap (λ (i : ℕ). drop i s) j
 
 -- one entry more
 pub more_bytes : (ps : List Pending) (p : Pending) → write_all pending_form (ps ++ (p ∷ [])) ≡ write_all pending_form ps ++ pending_form.write p

@@ -1,7 +1,7 @@
 // What is held for one identifier text in a PRACK store: read at a place, and taken into a small array.
 #![tactic(auto)]
 
-ghost use Rattle.std.specs.Prelude.{◌≡◌, ◌+◌, ◌*◌, ◌≤◌, length, drop};
+ghost use Rattle.std.specs.Prelude.{◌≡◌, List, ℕ, ◌+◌, ◌*◌, ◌≤◌, length, take, drop};
 ghost use Rattle.limits.specs.Limits.{rust_limits};
 ghost use Rattle.codec.specs.Codec.{read_all};
 ghost use Rattle.prack_body.specs.Layout.{pending_form, list_form, tracked_form};
@@ -64,7 +64,8 @@ pub struct TrackedAt {
 }
 
 // What is held, whose text begins with its length bytes at a place.
-// Kept (5): a reader lent as `&mut` has clauses for what is read, for its place and for its bytes: three where one stands.
+// Kept (5): a reader by value, with the fact as its ghost field, would be made anew at each place, and clauses would say `r.bytes.now`;
+// one lent as `&mut` has a clause for what is read, one for its place and one for its bytes.
 pub fn read_tracked(bytes: &[u8], at: usize) -> Option<TrackedAt>
     requires { at ≤ length bytes.now }
     ensures { result ≡ tracked_from at ((tracked_form rust_limits).read (drop at bytes.now)) }
@@ -85,7 +86,8 @@ pub fn read_tracked(bytes: &[u8], at: usize) -> Option<TrackedAt>
 }
 
 // A byte that says whether a list stands, then its count byte and its entries.
-// Kept (5): a reader lent as `&mut` has clauses for what is read, for its place and for its bytes: three where one stands.
+// Kept (5): a reader by value, with the fact as its ghost field, would be made anew at each place, and clauses would say `r.bytes.now`;
+// one lent as `&mut` has a clause for what is read, one for its place and one for its bytes.
 fn read_list(bytes: &[u8], at: usize) -> Option<ListAt>
     requires { at ≤ length bytes.now }
     ensures { result ≡ list_from at ((list_form rust_limits).read (drop at bytes.now)) }
@@ -114,21 +116,20 @@ fn read_list(bytes: &[u8], at: usize) -> Option<ListAt>
         return None;
     }
     let first = at + LIST_HEAD;
-    if !are_entries(bytes, first, count) {
+    let end = first + count * ENTRY_SIZE;
+    if !are_entries(&bytes[first..end]) {
         return None;
     }
     Some(ListAt {
         entries: Some(EntriesAt { count, first }),
-        end: first + count * ENTRY_SIZE,
+        end,
     })
 }
 
-// Whether so many entries have a method's number and a flag where these lie.
-fn are_entries(bytes: &[u8], first: usize, count: usize) -> bool
-    requires { (count ≤ rust_limits.pending) × (first + count * 20 ≤ length bytes.now) }
-    ensures { result ≡ is_read (read_all pending_form count (drop first bytes.now)) }
+// Whether entries have a method's number and a flag where these lie.
+fn are_entries(entries: &[u8]) -> bool
+    ensures { (bytes : List ℕ) (first count : ℕ) → first + count * 20 ≤ length bytes → entries.now ≡ take (count * 20) (drop first bytes) → result ≡ is_read (read_all pending_form count (drop first bytes)) }
 {
-    let entries = &bytes[first..first + count * ENTRY_SIZE];
     for entry in entries.chunks_exact(ENTRY_SIZE) {
         if !methods::is_method(entry[METHOD_AT]) || 1 < entry[ACKNOWLEDGED_AT] {
             return false;

@@ -11,37 +11,38 @@ use Rattle.std.specs.Prelude.{None, Option, Some}
 use Rattle.limits.specs.Limits.{rust_limits}
 use Rattle.edit.specs.Edit.{put_at}
 use Rattle.codec.specs.Codec.{write_all, eight}
-use Rattle.prack_body.specs.Lists.{Pending, Tracked, stays, staying, cleaned, cleaned_list, is_other, without_pracked, with_list}
+use Rattle.prack_body.specs.Lists.{Pending, Tracked, stays, staying, cleaned, cleaned_list, with_list}
 use Rattle.prack_body.specs.Layout.{pending_form, PendingFormed, AllFormed, TrackedFormed}
 use Rattle.prack_body.specs.Body.{body_of, Holds, Kept}
 use Rattle.prack_cleaning.specs.KeptList.{kept_list}
 use Rattle.prack_body.proofs.LayoutLaws.{entries_size}
-use Rattle.prack_body.proofs.BytesLaws.{take_put, drop_put, more_bytes}
+use Rattle.edit.proofs.EditLaws.{drop_put}
+use Rattle.prack_body.proofs.BytesLaws.{take_put, more_bytes}
 use Rattle.prack_body.proofs.BodyLaws.{whole, count_is, none_size, list_few, list_good, entries_lie, hold, staying_formed, staying_short}
 
 -- ---- the loop
 
--- so far: i entries looked at, those that stayed lie together, and those left lie where they did
-pub record Keeping (test : Pending → Bool) (s₀ rest : List ℕ) (ps : List Pending) (i kept : ℕ) (s : List ℕ) : Type 0 where
+-- so far: the entries before a place looked at, those that stayed lie together, and those left lie where they did
+pub record Keeping (test : Pending → Bool) (s₀ rest : List ℕ) (ps : List Pending) (at kept : ℕ) (s : List ℕ) : Type 0 where
   pub left : List Pending
   pub stayed : List Pending
   pub all : stayed ++ staying test left ≡ staying test ps
-  pub so_many : i + length left ≡ length ps
+  pub so_many : at + length left * 20 ≡ 10 + length ps * 20
   pub formed : AllFormed left
-  pub ahead : drop (10 + i * 20) s ≡ write_all pending_form left ++ rest
+  pub ahead : drop at s ≡ write_all pending_form left ++ rest
   pub counts : kept ≡ length stayed
   pub are : take (10 + kept * 20) s ≡ take 10 s₀ ++ write_all pending_form stayed
 
 module _ (test : Pending → Bool) (s₀ rest : List ℕ) (ps : List Pending) where
   -- before the first turn
-  pub start : AllFormed ps → drop 10 s₀ ≡ write_all pending_form ps ++ rest → Keeping test s₀ rest ps 0 0 s₀
+  pub start : AllFormed ps → drop 10 s₀ ≡ write_all pending_form ps ++ rest → Keeping test s₀ rest ps 10 0 s₀
   unfolding write_all
-  start g e = record { left = ps; stayed = []; all = refl; so_many = omega arith; formed = g; ahead = e; counts = refl; are = sym (append-nil (take 10 s₀)) }
+  start g e = record { left = ps; stayed = []; all = refl; so_many = refl; formed = g; ahead = e; counts = refl; are = sym (append-nil (take 10 s₀)) }
 
   -- after the last
-  pub done : {i kept : ℕ} {s : List ℕ} → Keeping test s₀ rest ps i kept s → i ≡ length ps → Kept s₀ (staying test ps) s kept
+  pub done : {at kept : ℕ} {s : List ℕ} → Keeping test s₀ rest ps at kept s → at ≡ 10 + length ps * 20 → Kept s₀ (staying test ps) s kept
   unfolding staying
-  done {i} {kept} {s} g e = by g.left refl
+  done {at} {kept} {s} g e = by g.left refl
     where
       by : (l : List Pending) → g.left ≡ l → Kept s₀ (staying test ps) s kept
       by [] q =
@@ -51,21 +52,24 @@ module _ (test : Pending → Bool) (s₀ rest : List ℕ) (ps : List Pending) wh
 
   -- what the answer of the test is told for
   abbrev Told : ℕ → List ℕ → Bool → Type 0
-  Told i s b = (p : Pending) (more : List ℕ) → PendingFormed p → drop (10 + i * 20) s ≡ pending_form.write p ++ more → b ≡ test p
+  Told at s b = (p : Pending) (more : List ℕ) → PendingFormed p → take (at + 20 - at) (drop at s) ≡ pending_form.write p ++ more → b ≡ test p
 
-  module _ {i kept : ℕ} {s : List ℕ} (g : Keeping test s₀ rest ps i kept s) (h : i < length ps) {b : Bool} (told : Told i s b) where
+  -- the bytes of an entry that lies at a place
+  cut : (at : ℕ) (s : List ℕ) (p : Pending) {more : List ℕ} → drop at s ≡ pending_form.write p ++ more → take (at + 20 - at) (drop at s) ≡ pending_form.write p ++ []
+  cut at s p e = let n : at + 20 - at ≡ 20 = omega arith in ap (λ m. take m (drop at s)) n ∙ ap (take 20) e ∙ sym (append-nil (pending_form.write p))
+
+  module _ {at kept : ℕ} {s : List ℕ} (g : Keeping test s₀ rest ps at kept s) (h : at < 10 + length ps * 20) {b : Bool} (told : Told at s b) where
     -- one entry that doesn't stay
-    pub passed : b ≡ false → Keeping test s₀ rest ps (i + 1) kept s
+    pub passed : b ≡ false → Keeping test s₀ rest ps (at + 20) kept s
     unfolding staying write_all
     passed f = by g.left refl
       where
-        by : (l : List Pending) → g.left ≡ l → Keeping test s₀ rest ps (i + 1) kept s
+        by : (l : List Pending) → g.left ≡ l → Keeping test s₀ rest ps (at + 20) kept s
         by [] q = absurd (omega (arith, g.so_many, ap length q))
         by (p ∷ l) q =
             let good : AllFormed (p ∷ l) = subst AllFormed q g.formed in
-            let a : drop (10 + i * 20) s ≡ pending_form.write p ++ (write_all pending_form l ++ rest) = g.ahead ∙ ap (λ (x : List Pending). write_all pending_form x ++ rest) q in
-            let t : test p ≡ false = sym (told p (write_all pending_form l ++ rest) good.0 a) ∙ f in
-            let k : 10 + i * 20 + 20 ≡ 10 + (i + 1) * 20 = omega arith in
+            let a : drop at s ≡ pending_form.write p ++ (write_all pending_form l ++ rest) = g.ahead ∙ ap (λ (x : List Pending). write_all pending_form x ++ rest) q in
+            let t : test p ≡ false = sym (told p [] good.0 (cut at s p a)) ∙ f in
             let w : g.stayed ++ cond (test p) (p ∷ staying test l) (staying test l) ≡ staying test ps = ap (λ (x : List Pending). g.stayed ++ staying test x) (sym q) ∙ g.all in
             record {
               left = l;
@@ -73,23 +77,22 @@ module _ (test : Pending → Bool) (s₀ rest : List ℕ) (ps : List Pending) wh
               all = ap (λ (x : Bool). g.stayed ++ cond x (p ∷ staying test l) (staying test l)) (sym t) ∙ w;
               so_many = omega (arith, g.so_many, ap length q);
               formed = good.1;
-              ahead = ap (λ (n : ℕ). drop n s) (sym k) ∙ sym (drop-drop 20 (10 + i * 20) s) ∙ ap (drop 20) a;
+              ahead = sym (drop-drop 20 at s) ∙ ap (drop 20) a;
               counts = g.counts;
               are = g.are;
             }
 
     -- one that stays, moved to where it follows the others
-    pub moved : b ≡ true → kept ≤ i → 10 + length ps * 20 ≤ length s → {s' : List ℕ} → s' ≡ put_at (10 + kept * 20) (take 20 (drop (10 + i * 20) s)) s → Keeping test s₀ rest ps (i + 1) (kept + 1) s'
+    pub moved : b ≡ true → 10 + kept * 20 ≤ at → 10 + length ps * 20 ≤ length s → {s' : List ℕ} → s' ≡ put_at (10 + kept * 20) (take 20 (drop at s)) s → Keeping test s₀ rest ps (at + 20) (kept + 1) s'
     unfolding staying write_all
     moved f few room {s'} put = by g.left refl
       where
-        by : (l : List Pending) → g.left ≡ l → Keeping test s₀ rest ps (i + 1) (kept + 1) s'
+        by : (l : List Pending) → g.left ≡ l → Keeping test s₀ rest ps (at + 20) (kept + 1) s'
         by [] q = absurd (omega (arith, g.so_many, ap length q))
         by (p ∷ l) q =
             let good : AllFormed (p ∷ l) = subst AllFormed q g.formed in
-            let a : drop (10 + i * 20) s ≡ pending_form.write p ++ (write_all pending_form l ++ rest) = g.ahead ∙ ap (λ (x : List Pending). write_all pending_form x ++ rest) q in
-            let t : test p ≡ true = sym (told p (write_all pending_form l ++ rest) good.0 a) ∙ f in
-            let k : 10 + i * 20 + 20 ≡ 10 + (i + 1) * 20 = omega arith in
+            let a : drop at s ≡ pending_form.write p ++ (write_all pending_form l ++ rest) = g.ahead ∙ ap (λ (x : List Pending). write_all pending_form x ++ rest) q in
+            let t : test p ≡ true = sym (told p [] good.0 (cut at s p a)) ∙ f in
             let j : 10 + (kept + 1) * 20 ≡ 10 + kept * 20 + 20 = omega arith in
             let w : g.stayed ++ cond (test p) (p ∷ staying test l) (staying test l) ≡ staying test ps = ap (λ (x : List Pending). g.stayed ++ staying test x) (sym q) ∙ g.all in
             let u : s' ≡ put_at (10 + kept * 20) (pending_form.write p) s = put ∙ ap (λ (x : List ℕ). put_at (10 + kept * 20) (take 20 x) s) a in
@@ -99,9 +102,9 @@ module _ (test : Pending → Bool) (s₀ rest : List ℕ) (ps : List Pending) wh
               all = append_assoc g.stayed (p ∷ []) (staying test l) ∙ ap (λ (x : Bool). g.stayed ++ cond x (p ∷ staying test l) (staying test l)) (sym t) ∙ w;
               so_many = omega (arith, g.so_many, ap length q);
               formed = good.1;
-              ahead = ap (drop (10 + (i + 1) * 20)) u ∙ drop_put (10 + kept * 20) (10 + (i + 1) * 20) (pending_form.write p) s (omega arith) (omega arith) ∙ ap (λ (n : ℕ). drop n s) (sym k) ∙ sym (drop-drop 20 (10 + i * 20) s) ∙ ap (drop 20) a;
+              ahead = ap (drop (at + 20)) u ∙ drop_put (10 + kept * 20) (at + 20) (pending_form.write p) s (omega arith) (omega (arith, g.so_many, ap length q)) ∙ sym (drop-drop 20 at s) ∙ ap (drop 20) a;
               counts = omega (arith, g.counts, length-append g.stayed (p ∷ []));
-              are = ap₂ take j u ∙ take_put (10 + kept * 20) (pending_form.write p) s (omega arith) ∙ ap (λ (x : List ℕ). x ++ pending_form.write p) g.are ∙ append_assoc (take 10 s₀) (write_all pending_form g.stayed) (pending_form.write p) ∙ ap (λ (x : List ℕ). take 10 s₀ ++ x) (sym (more_bytes g.stayed p));
+              are = ap₂ take j u ∙ take_put (10 + kept * 20) (pending_form.write p) s (omega (arith, g.so_many, ap length q)) ∙ ap (λ (x : List ℕ). x ++ pending_form.write p) g.are ∙ append_assoc (take 10 s₀) (write_all pending_form g.stayed) (pending_form.write p) ∙ ap (λ (x : List ℕ). take 10 s₀ ++ x) (sym (more_bytes g.stayed p));
             }
 
 -- ---- what is held, with fewer entries
@@ -136,11 +139,6 @@ module _ {s : List ℕ} {n : ℕ} {t : Tracked} (h : Holds s n t) (test : Pendin
 young_list : (time : ℕ) (o : Option (List Pending)) → kept_list (stays rust_limits time) o ≡ cleaned_list rust_limits time o
 young_list time None = refl
 young_list time (Some ps) = refl
-
--- the test of `remove_pracked`
-pub other_list : (r : ℕ) (o : Option (List Pending)) → kept_list (is_other r) o ≡ without_pracked r o
-other_list r None = refl
-other_list r (Some ps) = refl
 
 module _ (time : ℕ) (t : Tracked) where
   -- too soon

@@ -16,7 +16,8 @@ use prack_body::{COUNT_AT, ENTRIES_AT, ENTRY_SIZE};
 use prack_staying::{NANOS_PER_SECOND, Other, Staying, Young, elapsed};
 
 // The cleanup of a call at a time, where it is due: the time stored, and the entries that stay. The new length.
-// Kept (5, 6): any lent bytes that have room will do; a struct with an array of that size would ask more of callers.
+// Kept (5, 6): the bytes are `&mut`: a struct of them and `n` isn't Copy, so that it would be made anew for each further call, and clauses
+// would say `b.exit.bytes.now` for `body.new`.
 pub fn clean(body: &mut [u8], n: usize, time: u64) -> usize
     requires { (9 ≤ n) × ((n ≤ body_room) × (body_room ≤ length body.old)) }
     ensures { (t : Tracked) → Holds body.old n t → Holds body.new result (cleaned rust_limits time t.id (Some t)) }
@@ -30,7 +31,8 @@ pub fn clean(body: &mut [u8], n: usize, time: u64) -> usize
 }
 
 // All but the acknowledged entries of an RSeq. The new length.
-// Kept (5, 6): any lent bytes that have room will do; a struct with an array of that size would ask more of callers.
+// Kept (5, 6): the bytes are `&mut`: a struct of them and `n` isn't Copy, so that it would be made anew for each further call, and clauses
+// would say `b.exit.bytes.now` for `body.new`.
 pub fn prune(body: &mut [u8], n: usize, rseq: u32) -> usize
     requires { (9 ≤ n) × ((n ≤ body_room) × (body_room ≤ length body.old)) }
     ensures { (t : Tracked) → Holds body.old n t → Holds body.new result (with_list (without_pracked rseq t.list) t) }
@@ -39,7 +41,8 @@ pub fn prune(body: &mut [u8], n: usize, rseq: u32) -> usize
 }
 
 // The entries that stay. The new length.
-// Kept (5, 6): any lent bytes that have room will do; a struct with an array of that size would ask more of callers.
+// Kept (5, 6): the bytes are `&mut`: a struct of them and `n` isn't Copy, so that it would be made anew for each further call, and clauses
+// would say `b.exit.bytes.now` for `body.new`.
 fn keep_list<S: Staying>(body: &mut [u8], n: usize, which: S) -> usize
     requires { (9 ≤ n) × ((n ≤ body_room) × (body_room ≤ length body.old)) }
     ensures { (t : Tracked) → Holds body.old n t → Holds body.new result (with_list (kept_list (S.test which) t.list) t) }
@@ -59,10 +62,8 @@ fn keep<S: Staying>(body: &mut [u8], count: usize, which: S) -> usize
     ensures kept { (ps : List Pending) (rest : List ℕ) → AllFormed ps → count ≡ length ps → drop 10 body.old ≡ write_all pending_form ps ++ rest → Kept body.old (staying (S.test which) ps) body.new result }
 {
     let mut kept = 0;
-    // Kept (3): by `step_by` the check asks for a measure of the range of places (CONTRACTS.md), and `chunks_exact` would lend the body that `shift` changes.
-    for i in 0..count {
-        let at = ENTRIES_AT + i * ENTRY_SIZE;
-        if which.stays(body, at) {
+    for at in (ENTRIES_AT..ENTRIES_AT + count * ENTRY_SIZE).step_by(ENTRY_SIZE) {
+        if which.stays(&body[at..at + ENTRY_SIZE]) {
             shift(body, at, ENTRIES_AT + kept * ENTRY_SIZE, ENTRY_SIZE);
             kept += 1;
         }

@@ -1,12 +1,12 @@
 -- Used bytes with a piece in place of some of them: whether there is room, and what is answered. Assumes nothing.
-use Prim.Native.Nat.{ℕ, ◌+◌, ◌-◌, ◌≤◌, ◌<◌}
+use Prim.Native.Nat.{ℕ, ◌+◌, ◌-◌, ◌≤◌}
 use native.Mathlib.Omega.{arith}
 use mathlib.Core.Path.{◌≡◌, refl, sym, ap, ◌∙◌}
 use mathlib.Core.List.{List, ◌++◌}
 use lib.ListN.{length, take, drop, length-append, length-drop}
 use lib.Seq.{length-take-le}
-use borrow.Author.Tests.{lt-ltb, le-ltb}
-use Rattle.std.specs.Prelude.{Err, Ok, Result}
+use borrow.Author.Tests.{le-ltb}
+use Rattle.std.specs.Prelude.{Ok, Result}
 use Rattle.limits.specs.Outcome.{cause_if, refuse_by}
 use Rattle.limits.specs.declared.Refusal.{Refusal}
 use Rattle.limits.specs.declared.Refusal.TheVariants.{NoRoom}
@@ -27,12 +27,6 @@ module _ (bytes piece : List ℕ) (used at old : ℕ) (a : at + old ≤ used) (h
   changed_length : length changed ≡ used - old + length piece
   changed_length =
       omega (arith, length-append (take at (take used bytes)) (piece ++ drop (at + old) (take used bytes)), length-append piece (drop (at + old) (take used bytes)), length-take-le used bytes h, length-take-le at (take used bytes) (omega (arith, a, length-take-le used bytes h)), length-drop (at + old) (take used bytes), a)
-
-  -- 18
-  pub no_room : length bytes - (used - old) < length piece → Answered bytes changed (Err NoRoom) bytes
-  no_room q =
-      let f : fitted (length bytes) changed ≡ Err NoRoom = ap (λ t. refuse_by (cause_if t NoRoom) (Ok changed)) (lt-ltb (length bytes) (length changed) (omega (arith, changed_length, a, h, q))) in
-      (sym (ap written_from f), sym (ap (λ o. leaves o bytes) f))
 
   -- written
   pub replaced : length piece ≤ length bytes - (used - old) → {n : ℕ} {after : List ℕ} → n ≡ used - old + length piece → after ≡ over changed bytes → Answered bytes changed (Ok n) after

@@ -21,7 +21,7 @@ impl Entry for StoreEntry {
 
     ghost layout = { layout };
 
-    // Kept (5): as the trait has it.
+    // Kept (5): the parameters of `Entry::read`, which says why.
     fn read(bytes: &[u8], at: usize) -> Option<StoreEntry> {
         let places = read_tracked(bytes, at)?;
         Some(StoreEntry { places })
@@ -41,7 +41,7 @@ impl Entry for StoreEntry {
 impl<'a> KeyedBy<&'a [u8]> for StoreEntry {
     ghost texts = { λ id. key_of_text id.now };
 
-    // Kept (4, 5): as the trait has it; an entry and a key are of different types.
+    // Kept (4, 5): an entry and a key are of different types, which `Ord` can't compare; the parameters are those of `KeyedBy`, which says why.
     fn compare(self, bytes: &[u8], key: &'a [u8]) -> Ordering {
         compare(self.places.id.text(bytes), key)
     }

@@ -48,9 +48,12 @@ module _ {A : Type 0} (L : LimitSet) (block : List ℕ) (o : Option A) {r : Resu
   clear_read e = rw (passed (block_cause L block) (sym h ∙ e))
 
 -- what is answered of a number that was read, or that nothing was
-pub number_required : (o : Option ℕ) → ok_or (number_from o) MissingHeader ≡ number_answer (or_refuse MissingHeader o)
-number_required None = refl
-number_required (Some n) = refl
+number_required : (o r : Option ℕ) → number_from o ≡ r → ok_or r MissingHeader ≡ number_answer (or_refuse MissingHeader o)
+number_required None r e = rw (← e) refl
+number_required (Some n) r e = rw (← e) refl
+
+pub number_extracted : (L : LimitSet) (block : List ℕ) (o : Option ℕ) {r : Result (Unit {0}) Refusal} {p q : Option ℕ} → r ≡ check_of (block_cause L block) → r ≡ Ok tt → p ≡ number_from o → p ≡ q → ok_or q MissingHeader ≡ number_answer (read_in L block o)
+number_extracted L block o {q = q} h k e f = number_required o q (sym e ∙ f) ∙ ap number_answer (sym (clear_read L block o h k))
 
 pub method_required : (o : Option ℕ) → ok_or (method_from o) MissingHeader ≡ method_answer (or_refuse MissingHeader o)
 method_required None = refl

@@ -13,22 +13,33 @@ use limits::Refusal;
 use text::Span;
 
 // The number of a block's RSeq: 1, 2, 4.
+// Kept (1): document 01 has the reading of a number opened by `let .. else`.
+// Kept (2): one function lent the reading would take these lines from three bodies and be as long itself, with its clauses about a closure.
 pub fn extract_rseq(block: &[u8]) -> Result<u32, Refusal>
     ensures { result ≡ number_answer (extract_rseq rust_limits block.now) }
 {
     msg::check_block(block)?;
-    rseq(block).ok_or(Refusal::MissingHeader)
+    let Some(n) = rseq(block) else {
+        return Err(Refusal::MissingHeader);
+    };
+    Ok(n)
 }
 
 // The number of a block's CSeq: 1, 2, 4. It is lib.rs's `parse_cseq_number` too.
+// Kept (1): document 01 has the reading of a number opened by `let .. else`.
+// Kept (2): one function lent the reading would take these lines from three bodies and be as long itself, with its clauses about a closure.
 pub fn extract_cseq_number(block: &[u8]) -> Result<u32, Refusal>
     ensures { result ≡ number_answer (extract_cseq_number rust_limits block.now) }
 {
     msg::check_block(block)?;
-    cseq_number(block).ok_or(Refusal::MissingHeader)
+    let Some(n) = cseq_number(block) else {
+        return Err(Refusal::MissingHeader);
+    };
+    Ok(n)
 }
 
 // The method of a block's CSeq, whatever its number: 1, 2, 4.
+// Kept (2): one function lent the reading would take these lines from three bodies and be as long itself, with its clauses about a closure.
 pub fn extract_cseq_method(block: &[u8]) -> Result<u8, Refusal>
     ensures { result ≡ method_answer (extract_cseq_method rust_limits block.now) }
 {
@@ -56,6 +67,7 @@ pub fn rseq(block: &[u8]) -> Option<u32>
 }
 
 // The first word of CSeq as a number.
+// Kept (2): a look-up and a reading, each named once; a function over both would be lent a name and a closure for two lines.
 pub fn cseq_number(block: &[u8]) -> Option<u32>
     ensures { result ≡ number_from (cseq_number block.now) }
 {
@@ -64,8 +76,8 @@ pub fn cseq_number(block: &[u8]) -> Option<u32>
 }
 
 // The first word of a CSeq line that was looked up, as a number.
-// Kept (5): a line is a value that definitions give (`found_of`, `table_of`); with its text in it, which is lent, it is none, and the table of the
-// definitions would be a second type beside `HeaderTable`.
+// Kept (5): a line that was looked up is its place and the next line's, kept without a lifetime (`HeaderTable` has eight); a `text::Part` would
+// carry the text beside the place, and each table the block's lifetime.
 pub fn cseq_at(block: &[u8], line: Option<(Span, usize)>) -> Option<u32>
     requires { end_of line ≤ length block.now }
     ensures { result ≡ number_from (read_number 32 (word_at 0 (text_at line block.now))) }

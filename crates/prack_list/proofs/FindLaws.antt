@@ -86,18 +86,21 @@ flag_is true = refl
 flag_is false = refl
 
 -- the fields that are read of the entry that is found
-module _ (r : ℕ) {s : List ℕ} {ps : List Pending} {i : ℕ} (x : Next s ps i) {v : ℕ} {more : List ℕ} (e : four.read (drop (10 + i * 20) s) ≡ Some (record { value = v; rest = more })) where
+module _ (r : ℕ) {s : List ℕ} {ps : List Pending} {i : ℕ} (x : Next s ps i) {at : ℕ} (k : at ≡ 10 + i * 20) {v : ℕ} {more : List ℕ} (e : four.read (drop at s) ≡ Some (record { value = v; rest = more })) where
+  there : drop at s ≡ pending_form.write x.entry ++ x.more
+  there = ap (λ (n : ℕ). drop n s) k ∙ x.lies
+
   same_rseq : v ≡ x.entry.rseq
-  same_rseq = rseq_at s (10 + i * 20) x.entry x.more x.lies x.formed e
+  same_rseq = rseq_at s at x.entry x.more there x.formed e
 
   -- found, by what is read
-  pub find_found : v ≡ r → {w : ℕ} {others : List ℕ} → four.read (drop (10 + i * 20 + 4) s) ≡ Some (record { value = w; rest = others })
-      → Ok (record { place = 10 + i * 20; cseq = w; method = get_or s (10 + i * 20 + 8) 0; acknowledged = eqb (get_or s (10 + i * 20 + 11) 0) 1 }) ≡ From r i ps
+  pub find_found : v ≡ r → {w : ℕ} {others : List ℕ} → four.read (drop (at + 4) s) ≡ Some (record { value = w; rest = others })
+      → Ok (record { place = at; cseq = w; method = get_or s (at + 8) 0; acknowledged = eqb (get_or s (at + 11) 0) 1 }) ≡ From r i ps
   find_found q {w} f =
-      let c : w ≡ x.entry.cseq = cseq_at s (10 + i * 20) x.entry x.more x.lies x.formed f in
-      let m : get_or s (10 + i * 20 + 8) 0 ≡ x.entry.method = method_at s (10 + i * 20) x.entry x.more x.lies in
-      let b : eqb (get_or s (10 + i * 20 + 11) 0) 1 ≡ x.entry.acknowledged = ap (λ (k : ℕ). eqb k 1) (flag_at s (10 + i * 20) x.entry x.more x.lies) ∙ flag_is x.entry.acknowledged in
-      rw (c, m, b) (sym (found r x (sym same_rseq ∙ q)))
+      let c : w ≡ x.entry.cseq = cseq_at s at x.entry x.more there x.formed f in
+      let m : get_or s (at + 8) 0 ≡ x.entry.method = method_at s at x.entry x.more there in
+      let b : eqb (get_or s (at + 11) 0) 1 ≡ x.entry.acknowledged = ap (λ (k : ℕ). eqb k 1) (flag_at s at x.entry x.more there) ∙ flag_is x.entry.acknowledged in
+      rw (c, m, b, k) (sym (found r x (sym same_rseq ∙ q)))
 
   -- not yet
   pub find_further : (v ≡ r → ⊥) → From r i ps ≡ From r (i + 1) ps

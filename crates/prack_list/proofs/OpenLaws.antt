@@ -3,9 +3,9 @@ use Prim.Native.Nat.{ℕ, ◌+◌, ◌-◌, ◌*◌, ◌/◌, ◌≤◌, ◌<◌
 use native.Mathlib.Omega.{arith}
 use mathlib.Core.Path.{◌≡◌, refl, sym, ap, subst, ◌∙◌}
 use mathlib.Core.Bool.{Bool, true, false}
-use mathlib.Core.List.{List, [], ◌∷◌, ◌++◌, append_assoc, append-nil}
+use mathlib.Core.List.{List, [], ◌++◌, append_assoc, append-nil}
 use lib.ListN.{length, take, drop, get_or, length-append, length-drop}
-use lib.Seq.{drop-drop, get_or-drop, drop-length, drop_at, take_at}
+use lib.Seq.{drop-drop, drop-length, drop_at, take_at}
 use Rattle.std.specs.Prelude.{None, Option, Some}
 use Rattle.edit.specs.Edit.{put_at, over}
 use Rattle.edit.proofs.EditLaws.{Wrote, wrote_then}
@@ -188,9 +188,6 @@ pub record Counted (s left : List ℕ) (size : ℕ) : Type 0 where
   pub short : size ≤ turns * 6
   pub sums : (t : Tracked) → Holds s (length s) t → size + length (opened turns (entries_of t.list)) ≡ length (open_bytes (open_in t.list))
 
-pub counting : (s : List ℕ) {left : List ℕ} → left ≡ drop 10 s → Counted s left 0
-counting s e = record { turns = 0; are = e; few = omega arith; short = omega arith; sums = λ t h. let k : 0 + length (opened 0 (entries_of t.list)) ≡ length (opened 0 (entries_of t.list)) = omega arith in k }
-
 module _ {s left : List ℕ} {size : ℕ} (g : Counted s left size) (a b : List ℕ) (e : left ≡ a ++ b) (k : length a ≡ 20) where
   turn_more : g.turns < (length s - 10) / 20
   turn_more = omega (arith, ap length g.are, ap length e, length-append a b, length-drop (10 + g.turns * 20) s)
@@ -199,10 +196,6 @@ module _ {s left : List ℕ} {size : ℕ} (g : Counted s left size) (a b : List 
   left_are =
       let p : 10 + g.turns * 20 + 20 ≡ 10 + (g.turns + 1) * 20 = omega arith in
       sym (drop_at a b 20 k) ∙ ap (drop 20) (sym e ∙ g.are) ∙ drop-drop 20 (10 + g.turns * 20) s ∙ ap (λ (z : ℕ). drop z s) p
-
-  -- so far they are fewer than the body's own
-  pub count_fits : size ≤ length s
-  count_fits = omega (arith, turn_more, g.short)
 
   -- an open entry counted
   pub counted_one : get_or a 11 0 ≡ 0 → Counted s b (size + 6)

@@ -9,7 +9,8 @@ use limits::Refusal;
 use prack_body::{ACKNOWLEDGED_AT, CSEQ_AT, ENTRIES_AT, ENTRY_SIZE, METHOD_AT};
 
 // An entry: its place in the body, its CSeq, its method and whether it is acknowledged.
-// Kept (1): no code asks which method it is; it is read, compared and handed on as its number, so an enum would be turned back at each.
+// Kept (1): no code asks which method it is: it is read, compared and handed on as its number, to which an enum would be turned back each time;
+// as a ghost field, that it is one would be proved for no caller, since none asks it.
 #[derive(Clone, Copy)]
 pub struct PendingAt {
     pub place: usize,
@@ -26,9 +27,7 @@ pub fn first_of(body: &[u8], rseq: u32) -> Result<PendingAt, Refusal>
         return Err(Refusal::NoPendingList);
     }
     let count = (body.len() - ENTRIES_AT) / ENTRY_SIZE;
-    // Kept (3): tried by `position` over `chunks_exact`: the closure's bound closes, but not that a call of it that answers false has read another number.
-    for i in 0..count {
-        let at = ENTRIES_AT + i * ENTRY_SIZE;
+    for at in (ENTRIES_AT..ENTRIES_AT + count * ENTRY_SIZE).step_by(ENTRY_SIZE) {
         if read_four(body, at) == rseq {
             return Ok(PendingAt {
                 place: at,

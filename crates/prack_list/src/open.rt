@@ -13,6 +13,8 @@ use prack_body::{ACKNOWLEDGED_AT, CODE_AT, CSEQ_AT, ENTRIES_AT, ENTRY_SIZE};
 const OPEN_SIZE: usize = 6;
 
 // How many bytes they take.
+// Kept (2): the walk of `open_bytes`, which writes only where they fit and the store has taken its bytes: 18 leaves the output as it was.
+// Kept (5): the bytes are a body's alone, as `load` and `push` count them; a type of a short body would be made at each call from an array.
 pub fn open_size(body: &[u8]) -> usize
     requires { length body.now ≤ body_room }
     ensures { (t : Tracked) → Holds body.now (length body.now) t → result ≡ length (open_bytes (open_in t.list)) }
@@ -47,8 +49,8 @@ pub fn open_bytes(body: &[u8], out: &mut [u8]) -> usize
 }
 
 // The RSeq and the code of an entry, at a place. The place after them.
-// Kept (5): a writer of `&mut [u8]` and place would need a clause that names the writer's reference in each function that is lent it, beside those about bytes
-// and place: three where two stand.
+// Kept (5): a writer of `&mut [u8]` and place would need a clause that names the writer's reference in each function that is lent it,
+// beside those about bytes and place: three where two stand.
 fn put_open(entry: &[u8], out: &mut [u8], to: usize) -> usize
     requires { (20 ≤ length entry.now) × (to + 6 ≤ length out.old) }
     ensures value { result ≡ to + 6 }

@@ -11,7 +11,9 @@ use limits::Refusal;
 use prack_entries::{find, set};
 
 // PrackValidator::remove_dialog: 1, 3. Nothing held: nothing changes. The new used length.
-// Kept (5, 6): a C caller lends bytes and says how many are used.
+// Kept (2): `rseq_manager::remove` does so with its entry. A function of both would ask `Entry` for the place where one begins: one more
+// member, with a law of the layout and its proof in each crate.
+// Kept (5, 6): C says how many of the lent bytes are used, perhaps too many: 3, in its turn among the causes; so both are taken as given.
 pub fn remove_dialog(id: &[u8], bytes: &mut [u8], used: usize) -> Result<usize, Refusal>
     ensures value { result ≡ written_in (ran rust_limits (remove_dialog id.now) bytes.old used) }
     ensures bytes_after { bytes.new ≡ (ran rust_limits (remove_dialog id.now) bytes.old used).bytes }
@@ -28,7 +30,7 @@ pub fn remove_dialog(id: &[u8], bytes: &mut [u8], used: usize) -> Result<usize, 
 }
 
 // PrackValidator::remove_pracked: 1, 3. The acknowledged entries of an RSeq go; an emptied list stands. The new used length.
-// Kept (5, 6): a C caller lends bytes and says how many are used.
+// Kept (5, 6): C says how many of the lent bytes are used, perhaps too many: 3, in its turn among the causes; so both are taken as given.
 pub fn remove_pracked(id: &[u8], rseq: u32, bytes: &mut [u8], used: usize) -> Result<usize, Refusal>
     ensures value { result ≡ written_in (ran rust_limits (remove_pracked id.now rseq) bytes.old used) }
     ensures bytes_after { bytes.new ≡ (ran rust_limits (remove_pracked id.now rseq) bytes.old used).bytes }
@@ -38,6 +40,7 @@ pub fn remove_pracked(id: &[u8], rseq: u32, bytes: &mut [u8], used: usize) -> Re
     let slot = find(id, bytes, used)?;
     match slot {
         Ok(t) => {
+            // Kept (6): no heap: room for the largest body, of which so many bytes are used.
             let mut body = [0u8; prack_body::BODY_ROOM];
             let n = prack_body::load(&bytes[..used], t, &mut body);
             let m = prack_cleaning::prune(&mut body, n, rseq);

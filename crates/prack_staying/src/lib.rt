@@ -1,7 +1,7 @@
 // Which entries of a body stay (prack_body/specs/Body.antt): the test of a cleanup, and that of `remove_pracked`.
 #![tactic(auto)]
 
-ghost use Rattle.std.specs.Prelude.{◌≡◌, Bool, List, ◌++◌, ℕ, ◌+◌, ◌-◌, ◌≤◌, length, drop};
+ghost use Rattle.std.specs.Prelude.{◌≡◌, Bool, List, ℕ, ◌++◌, ◌-◌, ◌≤◌, length};
 ghost use Rattle.limits.specs.Limits.{rust_limits};
 ghost use Rattle.prack_body.specs.Lists.{Pending, stays, is_other};
 ghost use Rattle.prack_body.specs.Layout.{pending_form, PendingFormed};
@@ -17,10 +17,10 @@ pub const NANOS_PER_SECOND: u64 = 1000000000;
 pub trait Staying: Copy {
     ghost test: { Self → Pending → Bool };
 
-    // Whether the entry at a place stays.
-    fn stays(self, body: &[u8], at: usize) -> bool
-        requires { at + 20 ≤ length body.now }
-        ensures { (p : Pending) (rest : List ℕ) → PendingFormed p → drop at body.now ≡ pending_form.write p ++ rest → result ≡ test self p };
+    // Whether the entry stays that stands first.
+    fn stays(self, entry: &[u8]) -> bool
+        requires { 20 ≤ length entry.now }
+        ensures { (p : Pending) (rest : List ℕ) → PendingFormed p → entry.now ≡ pending_form.write p ++ rest → result ≡ test self p };
 }
 
 // Those stay that are not acknowledged, and not older than the timeout at a time.
@@ -32,10 +32,9 @@ pub struct Young {
 impl Staying for Young {
     ghost test = { λ young. stays rust_limits young.time };
 
-    // Kept (5): the trait's parameters; an entry is read at a place of bytes, as each number of it is by codec.
-    fn stays(self, body: &[u8], at: usize) -> bool {
-        let waits = body[at + ACKNOWLEDGED_AT] != 1;
-        let since = read_eight(body, at + REGISTERED_AT);
+    fn stays(self, entry: &[u8]) -> bool {
+        let waits = entry[ACKNOWLEDGED_AT] != 1;
+        let since = read_eight(entry, REGISTERED_AT);
         waits && elapsed(self.time, since) <= Limits::PENDING_PRACK_TIMEOUT_SECS * NANOS_PER_SECOND
     }
 }
@@ -49,9 +48,8 @@ pub struct Other {
 impl Staying for Other {
     ghost test = { λ other. is_other other.rseq };
 
-    // Kept (5): the trait's parameters; an entry is read at a place of bytes, as each number of it is by codec.
-    fn stays(self, body: &[u8], at: usize) -> bool {
-        read_four(body, at) != self.rseq || body[at + ACKNOWLEDGED_AT] == 0
+    fn stays(self, entry: &[u8]) -> bool {
+        read_four(entry, 0) != self.rseq || entry[ACKNOWLEDGED_AT] == 0
     }
 }
 

@@ -22,7 +22,7 @@ pub struct Validated {
 }
 
 // PrackValidator::register_reliable_provisional: 1, 28, 3, 18. Cleaned first; the eleventh drops the first. The new used length.
-// Kept (5, 6): a C caller lends bytes and says how many are used.
+// Kept (5, 6): C says how many of the lent bytes are used, perhaps too many: 3, in its turn among the causes; so both are taken as given.
 pub fn register(
     id: &[u8],
     response: Provisional,
@@ -38,6 +38,7 @@ pub fn register(
         return Err(Refusal::InvalidMethod);
     }
     let slot = find(id, bytes, used)?;
+    // Kept (6): no heap: room for the largest body, of which so many bytes are used.
     let mut body = [0u8; prack_body::BODY_ROOM];
     let n = clean_copy(slot, &bytes[..used], response.time, &mut body);
     let m = prack_list::push(&mut body, n, response);
@@ -45,7 +46,7 @@ pub fn register(
 }
 
 // PrackValidator::validate_prack: 1, 2, 3, 18, 19 to 24. Cleaned first; the response that is acknowledged is marked.
-// Kept (5, 6): a C caller lends bytes and says how many are used.
+// Kept (5, 6): C says how many of the lent bytes are used, perhaps too many: 3, in its turn among the causes; so both are taken as given.
 pub fn validate(id: &[u8], block: &[u8], time: u64, bytes: &mut [u8], used: usize) -> Validated
     ensures value { result ≡ validated_in (ran rust_limits (validate id.now block.now time) bytes.old used) }
     ensures bytes_after { bytes.new ≡ (ran rust_limits (validate id.now block.now time) bytes.old used).bytes }
@@ -71,6 +72,7 @@ fn judged(
     text::check_length(id)?;
     msg::check_block(block)?;
     let slot = find(id, bytes, used)?;
+    // Kept (6): no heap: room for the largest body, of which so many bytes are used.
     let mut body = [0u8; prack_body::BODY_ROOM];
     let n = clean_copy(slot, &bytes[..used], time, &mut body);
     let verdict = hold_against(block, &mut body[..n]);
@@ -82,7 +84,7 @@ fn judged(
 }
 
 // PrackValidator::is_pracked: 1, 3. False where nothing is held for the text.
-// Kept (5, 6): a C caller lends bytes and says how many are used.
+// Kept (5, 6): C says how many of the lent bytes are used, perhaps too many: 3, in its turn among the causes; so both are taken as given.
 pub fn is_pracked(id: &[u8], rseq: u32, bytes: &[u8], used: usize) -> Result<bool, Refusal>
     ensures value { result ≡ pracked_of (ran rust_limits (is_pracked id.now rseq) bytes.now used).answer }
     ensures bytes_value { bytes.now ≡ (ran rust_limits (is_pracked id.now rseq) bytes.now used).bytes }
@@ -98,7 +100,7 @@ pub fn is_pracked(id: &[u8], rseq: u32, bytes: &[u8], used: usize) -> Result<boo
 
 // PrackValidator::get_pending: 1, 3, 18. Cleaned first; RSeq in four bytes and code in two, in list order, at the front of the output.
 // How many bytes of it were written, and the new used length.
-// Kept (5, 6): a C caller lends bytes and says how many are used.
+// Kept (5, 6): C says how many of the lent bytes are used, perhaps too many: 3, in its turn among the causes; so both are taken as given.
 pub fn get_pending(
     id: &[u8],
     time: u64,
@@ -113,6 +115,7 @@ pub fn get_pending(
 {
     text::check_length(id)?;
     let slot = find(id, bytes, used)?;
+    // Kept (6): no heap: room for the largest body, of which so many bytes are used.
     let mut room = [0u8; prack_body::BODY_ROOM];
     let n = clean_copy(slot, &bytes[..used], time, &mut room);
     let body = &room[..n];

@@ -8,6 +8,7 @@ use mathlib.Core.List.{List, [], ◌∷◌, ◌++◌}
 use lib.ListN.{length, get_or}
 use lib.Dec.{ltb}
 use borrow.Author.Tests.{le-leb, ne_eqb, le-ltb, not-true}
+use Rattle.std.proofs.lemmas.Bool.{and_parts}
 use Rattle.std.specs.Prelude.{Ok, Some}
 use Rattle.limits.specs.Limits.{LimitSet}
 use Rattle.limits.specs.Outcome.{cause_if, refuse_by}
@@ -18,7 +19,7 @@ use Rattle.text.specs.Answers.{value_cause}
 use Rattle.output.specs.Decimal.{decimal_of}
 use Rattle.methods.specs.Methods.{method_names, position_from, method_of, is_method, name_of}
 use Rattle.rack.specs.RAck.{spaced, read_rack, rack_text, parse_rack, format_rack}
-use Rattle.output.proofs.ClassLaws.{both_left, both_right, within_range, all_append, all_by}
+use Rattle.output.proofs.ClassLaws.{within_range, all_append, all_by}
 use Rattle.output.proofs.DecimalLaws.{decimal, reads, ten_digits}
 use Rattle.methods.proofs.MethodLaws.{fourteen, method_range, Short, name_short}
 use Rattle.rack.proofs.RAckLaws.{spaced_length}
@@ -31,12 +32,12 @@ unbroken w = all (λ b. not (is_blank b)) w
 word_end : (w rest : List ℕ) → unbroken w ≡ true → split is_blank (w ++ (32 ∷ rest)) ≡ w ∷ split is_blank rest
 unfolding split all
 word_end [] rest e = refl
-word_end (b ∷ w) rest e = rw (not-true (is_blank b) (both_left (not (is_blank b)) (unbroken w) e), word_end w rest (both_right (not (is_blank b)) (unbroken w) e))
+word_end (b ∷ w) rest e = rw (not-true (is_blank b) (and_parts (not (is_blank b)) (unbroken w) e).0, word_end w rest (and_parts (not (is_blank b)) (unbroken w) e).1)
 
 text_end_lem : (w : List ℕ) → unbroken w ≡ true → split is_blank w ≡ w ∷ []
 unfolding split all
 text_end_lem [] e = refl
-text_end_lem (b ∷ w) e = rw (not-true (is_blank b) (both_left (not (is_blank b)) (unbroken w) e), text_end_lem w (both_right (not (is_blank b)) (unbroken w) e))
+text_end_lem (b ∷ w) e = rw (not-true (is_blank b) (and_parts (not (is_blank b)) (unbroken w) e).0, text_end_lem w (and_parts (not (is_blank b)) (unbroken w) e).1)
 
 first_filled : (w : List ℕ) (gs : List (List ℕ)) → non_empty w ≡ true → filled (w ∷ gs) ≡ w ∷ filled gs
 unfolding filled

@@ -12,7 +12,7 @@ use limits::Refusal;
 use methods::{is_method, method_of, name_of};
 use words::{after_word, word};
 
-// Kept (1): no code asks which method it is: it is read, compared and handed on as its number, and an enum would be turned back into it at each.
+// Kept (1): no code asks which method it is: it is read, compared and handed on; an enum or a struct around the number would be undone at each.
 #[derive(Clone, Copy)]
 pub struct RAck {
     pub rseq: u32,
@@ -22,6 +22,7 @@ pub struct RAck {
 
 // RAck::parse: 1, 2, 19.
 // Kept (1): document 01 opens the reading of a RAck by `let .. else`.
+// Kept (2): two readings that document 01 opens by `let .. else`, each with its check, type and refusal; a generic one would be lent all three.
 pub fn parse_rack(value: &[u8]) -> Result<RAck, Refusal>
     ensures { result ≡ rack_answer (parse_rack rust_limits value.now) }
 {
@@ -33,7 +34,7 @@ pub fn parse_rack(value: &[u8]) -> Result<RAck, Refusal>
 }
 
 // RAck::format, at the front of out: 28, 18.
-// Kept (1): a C caller gives a method by its number, and 28 answers any that is none.
+// Kept (1, 5): a `RAck` that was read has a method's number, while this is given any and answers 28 for one that is none; C gives each by itself.
 pub fn format_rack(rseq: u32, cseq: u32, method: u8, out: &mut [u8]) -> Result<usize, Refusal>
     ensures value { result ≡ written_from (format_rack rseq cseq method (length out.old)) }
     ensures out_after { out.new ≡ leaves (format_rack rseq cseq method (length out.old)) out.old }
@@ -42,8 +43,11 @@ pub fn format_rack(rseq: u32, cseq: u32, method: u8, out: &mut [u8]) -> Result<u
         return Err(Refusal::InvalidMethod);
     }
     let name = name_of(method);
+    // Kept (4): of `write!` into lent bytes no clause says what they get (`&mut [u8]` has no `contents`); `io::decimal` says each digit.
+    // Kept (6): no heap: a number's digits go into an array, and `io::decimal` says how many they are.
     let mut first = [0u8; 20];
     let k = io::decimal(rseq as u64, &mut first);
+    // Kept (6): no heap: a number's digits go into an array, and `io::decimal` says how many they are.
     let mut second = [0u8; 20];
     let m = io::decimal(cseq as u64, &mut second);
     let length = k + m + name.len() + 2;

@@ -6,7 +6,7 @@ use mathlib.Core.Bool.{Bool, true, false}
 use lib.Dec.{eqb, ltb}
 use Rattle.record.specs.Record.{bit_of, stands, Fields, is_filled, is_given, map_of}
 
-bit_le : (b : Bool) → bit_of b ≤ 1
+pub bit_le : (b : Bool) → bit_of b ≤ 1
 bit_le true = omega arith
 bit_le false = omega arith
 

@@ -2,12 +2,13 @@
 use Prim.Native.Nat.{ℕ, suc, ◌^◌, ◌≤◌, ◌<◌}
 use native.Mathlib.Omega.{arith}
 use mathlib.Core.Path.{◌≡◌, refl, sym, subst, ◌∙◌}
-use mathlib.Core.Bool.{Bool, true, false, ◌&&◌, false≢true}
+use mathlib.Core.Bool.{Bool, true, false}
 use mathlib.Core.List.{List, [], ◌∷◌, ◌++◌}
 use lib.ListN.{length}
 use lib.Dec.{leb, ltb}
 use borrow.Author.Tests.{lt-ltb, ltb-false, le-leb, leb-true}
 use Rattle.std.specs.Prelude.{None, Option, Some}
+use Rattle.std.proofs.lemmas.Bool.{and_parts}
 use Rattle.text.specs.Text.{all}
 use Rattle.codec.specs.Codec.{Reading}
 use Rattle.record.specs.Record.{Record, Side, IdPart, OptionalPart, EachUri, WellFormed, is_filled, is_given, fields_of, image}
@@ -71,11 +72,7 @@ module _ (flag : Bool) where
   routes_back [] e g = (tt, omega arith)
   routes_back (t ∷ l) e g =
       let k : GoodRoutes (t ∷ l) = subst (λ (f : Bool). GoodFlag f [] GoodRoutes (t ∷ l)) e g in
-      (each_back (t ∷ l) k.0.0, leb-true (suc (length l)) 50 (second (ltb 0 (suc (length l))) (leb (suc (length l)) 50) k.1))
-    where
-      second : (a b : Bool) → (a && b) ≡ true → b ≡ true
-      second true b e = e
-      second false b e = absurd (false≢true e)
+      (each_back (t ∷ l) k.0.0, leb-true (suc (length l)) 50 (and_parts (ltb 0 (suc (length l))) (leb (suc (length l)) 50) k.1).1)
 
 -- ---- the whole record
 

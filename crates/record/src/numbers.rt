@@ -24,6 +24,8 @@ pub enum Method {
     Other,
 }
 
+// Kept (1): by document 01, "CSeq", a remote number of 0 is none yet; an image leaves out a local or a remote one of 0, and the listing
+// shows that 0 (docs/LAYOUTS.md).
 #[derive(Clone, Copy)]
 pub struct Numbers {
     pub state: State,
@@ -36,7 +38,7 @@ pub struct Numbers {
 
 impl Numbers {
     // update_from_request: 9; ACK 11; others 10, 11, 12.
-    // Kept (7): a request is one of the two kinds of the rules; closures for the two steps would be no plainer.
+    // Kept (7): the two steps are the rules' two cases (`Kind`), a call each; a closure would be picked by this match at the one caller.
     pub fn request(self, method: Method, cseq: u32) -> Result<Numbers, Refusal>
         ensures { outcome_in result ≡ request_step rust_limits (kind_in method) cseq (meaning self) }
     {
@@ -50,7 +52,6 @@ impl Numbers {
     }
 
     // An ACK equals a remote number that isn't 0, and is remembered.
-    // Kept (1): document 01, "CSeq", has 0 for no remote number yet, and the listing shows it.
     fn acknowledge(self, cseq: u32) -> Result<Numbers, Refusal>
         ensures { outcome_in result ≡ ack_step cseq (meaning self) }
     {
@@ -64,7 +65,6 @@ impl Numbers {
     }
 
     // Any other request becomes the remote number, within its limits.
-    // Kept (1): document 01, "CSeq", has 0 for no remote number yet, and the listing shows it.
     fn advance(self, cseq: u32) -> Result<Numbers, Refusal>
         ensures { outcome_in result ≡ other_step rust_limits cseq (meaning self) }
     {

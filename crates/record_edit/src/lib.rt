@@ -32,6 +32,7 @@ pub fn revise_numbers<T: Tail>(bytes: &mut [u8], p: RecordPlace, tail: T) -> Res
 }
 
 // The same and another target, a text of at most 65,535 bytes: 18.
+// Kept (5): a type of a short text would be put around the target here and taken off before codec's `write_text`, which takes bytes.
 // Kept (5): the bytes are `&mut`: a struct of them and the place isn't Copy, so that it would be made anew for each further call, and clauses
 // would say `p.exit.0.now` for `bytes.new`.
 pub fn revise_numbers_and_target<T: Tail>(
@@ -57,6 +58,7 @@ pub fn revise_numbers_and_target<T: Tail>(
 }
 
 // The same where it fits. The new used length.
+// Kept (5): a type of a short text would be put around the target and taken off before codec's `write_text`, which takes bytes.
 // Kept (5): the bytes are `&mut`: a struct of them and the place isn't Copy, so that it would be made anew for each further call, and clauses
 // would say `p.exit.0.now` for `bytes.new`.
 fn change_numbers_and_target<T: Tail>(

@@ -4,26 +4,16 @@ use mathlib.Core.List.{List, ◌++◌, append_assoc}
 use Prim.Native.Nat.{ℕ, ◌+◌, ◌-◌, ◌≤◌}
 use native.Mathlib.Omega.{arith}
 use lib.ListN.{length, take, drop, length-append, length-drop}
-use lib.Seq.{length-take-le, take-take, drop_at, take-append-le, drop-append-le, take-append-add, drop-append-add, drop-drop}
+use lib.Seq.{length-take-le, take-take, take-append-le, drop-append-le, take-append-add}
 use Rattle.edit.specs.Edit.{put_at}
-use Rattle.edit.proofs.EditLaws.{drop_take}
+use Rattle.std.proofs.lemmas.List.{drop-take}
+use Rattle.edit.proofs.EditLaws.{drop_put}
 
 -- the front of the list up to the end of the piece
 front_length : (i : ℕ) (a s : List ℕ) → i ≤ length s → length (take i s ++ a) ≡ i + length a
 front_length i a s h = length-append (take i s) a ∙ ap (λ (n : ℕ). n + length a) (length-take-le i s h)
 
--- what stands past the piece, and before it
-pub drop_put : (i j : ℕ) (a s : List ℕ) → i ≤ length s → i + length a ≤ j → drop j (put_at i a s) ≡ drop j s
-drop_put i j a s h k =
-    let d = drop (i + length a) s in
-    let n : j ≡ length (take i s ++ a) + (j - (i + length a)) = omega (arith, k, front_length i a s h) in
-    let m : i + length a + (j - (i + length a)) ≡ j = omega (arith, k) in
-    ap (drop j) (sym (append_assoc (take i s) a d))
-    ∙ ap (λ (x : ℕ). drop x ((take i s ++ a) ++ d)) n
-    ∙ drop-append-add (take i s ++ a) d (j - (i + length a))
-    ∙ drop-drop (j - (i + length a)) (i + length a) s
-    ∙ ap (λ (x : ℕ). drop x s) m
-
+-- what stands before the piece
 pub take_put : (i j : ℕ) (a s : List ℕ) → i ≤ length s → j ≤ i → take j (put_at i a s) ≡ take j s
 take_put i j a s h k =
     let n : j ≤ length (take i s) = omega (arith, k, length-take-le i s h) in
@@ -32,19 +22,7 @@ take_put i j a s h k =
 -- a part before the piece
 pub part_put : (i j n : ℕ) (a s : List ℕ) → i ≤ length s → j + n ≤ i → take n (drop j (put_at i a s)) ≡ take n (drop j s)
 part_put i j n a s h k =
-    let m : length (take i s) ≡ i = length-take-le i s h in
-    let e : length (put_at i a s) ≡ length (take i s) + length (a ++ drop (i + length a) s) = length-append (take i s) (a ++ drop (i + length a) s) in
-    sym (drop_take j n (put_at i a s) (omega (arith, k, m, e))) ∙ ap (drop j) (take_put i (j + n) a s h k) ∙ drop_take j n s (omega (arith, h, k))
-
--- a piece just before another
-pub put_before : (i : ℕ) (a b s : List ℕ) → i + length a ≤ length s → put_at i a (put_at (i + length a) b s) ≡ put_at i (a ++ b) s
-put_before i a b s h =
-    let n = i + length a in
-    let d = drop (n + length b) s in
-    let t : take i (put_at n b s) ≡ take i s = take_put n i b s h (omega arith) in
-    let u : drop n (put_at n b s) ≡ b ++ d = drop_at (take n s) (b ++ d) n (length-take-le n s h) in
-    let k : n + length b ≡ i + length (a ++ b) = omega (arith, length-append a b) in
-    rw (t, u, append_assoc, sym k)
+    sym (drop-take j n (put_at i a s)) ∙ ap (drop j) (take_put i (j + n) a s h k) ∙ drop-take j n s
 
 -- pieces apart from each other may come in either order
 pub put_swap : (i j : ℕ) (a b s : List ℕ) → i + length a ≤ j → j ≤ length s → put_at j b (put_at i a s) ≡ put_at i a (put_at j b s)
@@ -62,7 +40,7 @@ put_swap i j a b s h k =
     ∙ ap (λ (e : ℕ). take e ((take i s ++ a) ++ drop n s)) m
     ∙ take-append-add (take i s ++ a) (drop n s) (j - n)
     ∙ append_assoc (take i s) a (take (j - n) (drop n s))
-    ∙ ap (λ (e : List ℕ). take i s ++ (a ++ e)) (sym (drop_take n (j - n) s (omega (arith, h, k))) ∙ ap (λ (e : ℕ). drop n (take e s)) q) in
+    ∙ ap (λ (e : List ℕ). take i s ++ (a ++ e)) (sym (drop-take n (j - n) s) ∙ ap (λ (e : ℕ). drop n (take e s)) q) in
     rw (x, y, z, w, append_assoc, append_assoc)
 
 -- ---- two parts moved to their places

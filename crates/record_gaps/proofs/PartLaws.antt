@@ -8,7 +8,7 @@ use lib.Seq.{length-take-le, take_at, drop_at}
 use Rattle.edit.specs.Edit.{put_at, over}
 use Rattle.edit.proofs.EditLaws.{put_put}
 use Rattle.image_edit.proofs.CutLaws.{splice_cut}
-use Rattle.record_gaps.proofs.MoveLaws.{put_before}
+use Rattle.edit.proofs.EditLaws.{put_before}
 
 -- a section of a list, by its place and its length
 pub part_at : (f m b : List ℕ) (i n : ℕ) {l : List ℕ} → l ≡ f ++ (m ++ b) → length f ≡ i → length m ≡ n → take n (drop i l) ≡ m

@@ -140,6 +140,15 @@ module _ (bytes : List ℕ) (used at : ℕ) (p : RecordAt) (fits : used ≤ leng
 
 -- ---- a change of numbers or of numbers and routes, and another target w
 
+-- its places in their order, and the new used length: f is the change but for the target, q the section that comes, end where the old one ends
+pub record Both (bytes : List ℕ) (used at : ℕ) (p : RecordAt) (w : List ℕ) (f : Record → Record) (q : List ℕ) (end : ℕ) : Type 0 where
+  pub map_before : at + 2 ≤ p.state
+  pub target_at : p.uris.target.start ≡ p.state + 3
+  pub target_within : p.uris.target.start + p.uris.target.length ≤ p.uris.end
+  pub uris_before : p.uris.end ≤ end
+  pub end_within : end ≤ used
+  pub size : length (changed (λ v. with_target w (f v)) at (take used bytes)) ≡ used - p.uris.target.length - (end - p.uris.end) + length w + length q
+
 module _ (bytes : List ℕ) (used at : ℕ) (p : RecordAt) (fits : used ≤ length bytes) (t : Puts (take used bytes) at p) (w : List ℕ) where
   abbrev f : Record → Record
   f v = with_target w (t.makes v)
@@ -162,17 +171,21 @@ module _ (bytes : List ℕ) (used at : ℕ) (p : RecordAt) (fits : used ≤ leng
       ∙ ap (λ (u : List ℕ). two.write (map_of_parts (parts_in v)) ++ (ids_bytes (ids_of t.held.value) ++ ((state_byte_of (parts_in v) ∷ []) ++ ((text.write w ++ others t.held.value) ++ u)))) t.new_tail
       ∙ rw (counted (take used bytes) at p t, tail_map (take used bytes) at p t, state_byte_is (take used bytes) at p t)
 
-  pub both_within : (at + 2 ≤ p.state) × (p.uris.target.start ≡ p.state + 3) × (p.uris.target.start + p.uris.target.length ≤ p.uris.end) × (p.uris.end ≤ t.ends p) × (t.ends p ≤ used)
-  both_within =
+  pub both_places : Both bytes used at p w t.makes t.section (t.ends p)
+  both_places =
       let s = sections bytes used at p fits t.held t.old t.rest t.tail_is in
       let r = ended (take used bytes) at p t in
-      (s.0, s.1, s.2, omega (arith, r), omega (arith, r, s.3))
-
-  pub both_size : length (changed f at (take used bytes)) ≡ used - p.uris.target.length - (t.ends p - p.uris.end) + length w + length t.section
-  both_size =
-      ap length (changed_held f (take used bytes) at t.held)
-      ∙ revised_size bytes used at p fits t.held t.old t.rest t.tail_is new_map w t.section (image.write (f t.held.value)) new_state refl image_is
-      ∙ ap (λ (n : ℕ). used - p.uris.target.length - n + length w + length t.section) (sym old_is)
+      record {
+        map_before = s.0;
+        target_at = s.1;
+        target_within = s.2;
+        uris_before = omega (arith, r);
+        end_within = omega (arith, r, s.3);
+        size =
+            ap length (changed_held f (take used bytes) at t.held)
+            ∙ revised_size bytes used at p fits t.held t.old t.rest t.tail_is new_map w t.section (image.write (f t.held.value)) new_state refl image_is
+            ∙ ap (λ (n : ℕ). used - p.uris.target.length - n + length w + length t.section) (sym old_is);
+      }
 
   pub both_edit : used - p.uris.target.length - (t.ends p - p.uris.end) + length w + length t.section ≤ length bytes
       → put_at at new_map (put_at p.state ((new_state ∷ []) ++ text.write w) (put_at (p.uris.target.start + length w + (p.uris.end - (p.uris.target.start + p.uris.target.length))) t.section (put_at (p.uris.target.start + length w) (take (p.uris.end - (p.uris.target.start + p.uris.target.length)) (drop (p.uris.target.start + p.uris.target.length) bytes)) (put_at (p.uris.target.start + length w + (p.uris.end - (p.uris.target.start + p.uris.target.length)) + length t.section) (take (used - (p.uris.end + (t.ends p - p.uris.end))) (drop (p.uris.end + (t.ends p - p.uris.end)) bytes)) bytes))))

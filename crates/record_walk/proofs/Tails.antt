@@ -156,9 +156,6 @@ module _ (s : List ℕ) (p : ℕ) (b : Bytes s) (x : At s p) where
     routes_at_lem : Lies s (d + 4 * number_count m) (route_bytes m tail ++ rest)
     routes_at_lem = rw (e, q, map_at s p b x) (past_numbers s (map_of (fields_of r)) tail numbers rest numbers_at_lem)
 
-    pub routes_here : d + 4 * number_count m ≤ length s
-    routes_here = routes_at_lem.here
-
     pub without_routes : m / 4096 % 2 ≡ 0 → d + 4 * number_count m ≡ end_at s p
     without_routes h = ends_where (d + 4 * number_count m) (subst (λ (w : List ℕ). Lies s (d + 4 * number_count m) (w ++ rest)) (no_routes m tail h) routes_at_lem)
 

@@ -20,7 +20,8 @@ pub struct IdEnds {
 }
 
 // The place past the record at a place.
-// Kept (5): bytes and a place apart: a slice in a struct does not say that its elements are bytes, which the laws of records ask.
+// Kept (5): the places are those of a walk or a table; a struct of bytes and place with `At` as its ghost field (as `Held` has `fit`)
+// would be made and proved anew at each of them.
 pub fn record_end(bytes: &[u8], p: usize) -> usize
     requires { At bytes.now p }
     ensures { result ≡ end_at bytes.now p }
@@ -39,7 +40,8 @@ pub fn record_end(bytes: &[u8], p: usize) -> usize
 }
 
 // The place past the identifier of the record at a place.
-// Kept (5): bytes and a place apart: a slice in a struct does not say that its elements are bytes, which the laws of records ask.
+// Kept (5): the places are those of a walk or a table; a struct of bytes and place with `At` as its ghost field (as `Held` has `fit`)
+// would be made and proved anew at each of them.
 pub fn ids_end(bytes: &[u8], p: usize) -> usize
     requires { At bytes.now p }
     ensures { (result ≡ ids_end bytes.now p) × (result ≤ length bytes.now) }
@@ -48,7 +50,8 @@ pub fn ids_end(bytes: &[u8], p: usize) -> usize
 }
 
 // Where the texts of the identifier of the record at a place end. A text that doesn't stand ends where it would begin.
-// Kept (5): bytes and a place apart: a slice in a struct does not say that its elements are bytes, which the laws of records ask.
+// Kept (5): the places are those of a walk or a table; a struct of bytes and place with `At` as its ghost field (as `Held` has `fit`)
+// would be made and proved anew at each of them.
 pub fn id_ends(bytes: &[u8], p: usize) -> IdEnds
     requires { At bytes.now p }
     ensures ends { EndsRead bytes.now p result }
@@ -84,8 +87,8 @@ pub fn past(bytes: &[u8], at: usize) -> usize
 }
 
 // The number in two bytes.
-// Kept (4, 5): a place is a number that the code adds up, and each reading goes on at the one before's end. By `codec::read_two` the ends of the records of
-// a store take 36.6 instructions each where they take 31.6, and a request at 10,000 records has a bar of 3,700 a record.
+// Kept (4, 5): a place is a number that the code adds up, and each reading goes on at the one before's end. By `u16::from_be_bytes` a request at
+// 1,000 records takes 3,637 instructions a record, by these products 3,578; issue 19 gives 3,600. By `codec::read_two` it is 5 more (PERFORMANCE).
 pub fn two(bytes: &[u8], at: usize) -> usize
     requires { at + 1 < length bytes.now }
     ensures { (result ≡ two_at bytes.now at) × (result < 65536) }

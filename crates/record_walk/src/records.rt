@@ -16,6 +16,7 @@ pub struct Records<'a> {
 
 impl<'a> Records<'a> {
     // All of them.
+    // Kept (5): the one place where the fact is asked for; the walk has it from then on as its ghost field `whole`.
     pub fn new(bytes: &'a [u8]) -> Records<'a>
         requires { is_given (records_in (length bytes.now) bytes.now) ≡ true }
         ensures bytes { result.bytes.now ≡ bytes.now }
@@ -44,7 +45,7 @@ impl<'a> Iterator for Records<'a> {
 }
 
 // The end of the first of the whole records from a place on, if there are any.
-// Kept (5): the fields of `Records` apart: a slice in a struct does not say that its elements are bytes.
+// Kept (5): the fields of `Records`, whose ghost field `whole` is this fact; `next` asks once.
 fn first_end(bytes: &[u8], at: usize) -> Option<usize>
     requires { is_given (records_in (length bytes.now) (drop at bytes.now)) ≡ true }
     ensures { EndsFirst bytes.now at result }

@@ -5,7 +5,9 @@ use replay_readings::{numbers, readings};
 
 // Calls the row's function: `i` has the line's items, `store` and `out` are the lent bytes, `o` the out numbers as they are before and then after the call.
 // Answers what the function returns.
-// Kept (7): the rows of the list go by number. One match over all 84 is no function of 40 lines: here is the family's, and in the family's own each call stands once.
+// Kept (7): a row goes by its number, under which its calls are counted; by name, each name would stand here and in its family's match.
+// One match over all 84 would be no function of 40 lines.
+// Kept (1): `row` is that number; an enum of the 84 would be made from it by one more match.
 pub fn call(row: usize, i: Items<'_>, store: &mut [u8], out: &mut [u8], o: &mut [u64; 8]) -> u64 {
     let r = match row {
         0..=2 | 13..=17 => readings::block(row, i, o),

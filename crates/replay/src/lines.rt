@@ -1,21 +1,22 @@
 // What one line of the list asks for: the memory of a store is set, or a call is made and its answer compared.
 use crate::calls::call;
-use replay_answers::{Memory, Outcome, as_recorded, fill_outs, lent_length};
+use replay_answers::{Call, Memory, as_recorded, fill_outs, lent_length};
 use replay_lines::{Item, Items, copy_at, part, place_of, read_items, row_of, shape_fits};
 
-// What becomes of the line, given the list, at whose head the rows are, and the memory; none where it can't be read. `old` and `bytes` are room to work in.
+// The call that the line asks for, if it asks for one; none where it can't be read. The list has the rows at its head; `old` and `bytes` are room to work in.
 pub fn one_line<const N: usize>(
     line: &[u8],
     list: &[u8],
     memory: &mut Memory<N>,
     old: &mut [u8],
     bytes: &mut [u8],
-) -> Option<Outcome> {
+) -> Option<Option<Call>> {
     if let [] | [b'#', ..] = line {
-        return Some(Outcome::Passed);
+        return Some(None);
     }
     let n = line.iter().position(|&b| b == b' ').unwrap_or(line.len());
     let name = part(line, 0, n);
+    // Kept (6): README's rule: no heap. So the items go into an array, and what reads them says how many there are.
     let mut room = [Item::NONE; 24];
     let count = read_items(part(line, n, line.len()), bytes, &mut room)?;
     let items = Items {
@@ -24,13 +25,13 @@ pub fn one_line<const N: usize>(
     };
     let Some((number, row)) = row_of(list, name) else {
         memory.set(name, items)?;
-        return Some(Outcome::Passed);
+        return Some(None);
     };
     if !shape_fits(row.shape, items) {
         return None;
     }
     let same = replay_call(number, row.shape, items, memory, old)?;
-    Some(Outcome::Called { row: number, same })
+    Some(Some(Call { row: number, same }))
 }
 
 // Makes the call: whether all that it answers is as recorded.
@@ -44,6 +45,7 @@ fn replay_call<const N: usize>(
     let equals = place_of(shape, b'=')?;
     let mut o = [0u64; 8];
     fill_outs(shape, equals, items, &mut o);
+    // Kept (6): README's rule: no heap. So a call is lent a part of an array, as long as the line says.
     let mut room = [0u8; 65536];
     let out = room.get_mut(..lent_length(shape, items, b'o'))?;
     if let Some(k) = place_of(shape, b'o') {

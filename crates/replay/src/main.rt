@@ -8,7 +8,7 @@ mod lines;
 ghost use Rattle.std.specs.Prelude.{◌≡◌, ◌≤◌, IfOk, length};
 
 use lines::one_line;
-use replay_answers::{Memory, Tallies, report, show, take};
+use replay_answers::{Memory, Tallies, report, take};
 use std::io;
 use std::io::Read;
 
@@ -19,7 +19,7 @@ fn main(rt: HostRuntime) -> io::Result<()> {
 }
 
 // Room for a list, for a memory as it was, or for a line's texts.
-// Kept (6): no heap, so the room is an array.
+// Kept (6): README's rule: no heap. So the room is an array.
 fn zeros() -> [u8; 786432]
     ensures { 786432 ≡ length result }
 {
@@ -27,7 +27,7 @@ fn zeros() -> [u8; 786432]
 }
 
 // Reads to the end, or until the bytes are full: how many there are.
-// Kept (2): listing_output has it for the listings; this program would stand on the listing's crate for these lines alone.
+// Kept (2): `read_full` of listing_output has the same five lines; a crate below both programs for them alone would be longer.
 fn read_full(input: &mut impl Read, bytes: &mut [u8]) -> io::Result<usize>
     ensures { IfOk result (λ n. n ≤ length bytes.new) }
 {
@@ -40,14 +40,14 @@ fn read_full(input: &mut impl Read, bytes: &mut [u8]) -> io::Result<usize>
 // The head of the list has a row for each of the 84 operations, and ends before the first empty line.
 fn replay(rt: &impl Print, list: &[u8]) -> io::Result<()> {
     if list.len() == 786432 {
-        return show(rt, b"the list is too long\n");
+        return rt.write_all(b"the list is too long\n");
     }
     let rows = list
         .split(|b| *b == b'\n')
         .take_while(|row| !row.is_empty())
         .count();
     if rows != 84 {
-        return show(rt, b"the list doesn't begin with 84 rows\n");
+        return rt.write_all(b"the list doesn't begin with 84 rows\n");
     }
     let mut tallies = Tallies::new();
     each_line(rt, list, &mut tallies)?;
@@ -60,8 +60,8 @@ fn each_line(rt: &impl Print, list: &[u8], tallies: &mut Tallies) -> io::Result<
     let mut old = zeros();
     let mut bytes = zeros();
     for (before, line) in list.split(|b| *b == b'\n').enumerate().skip(84) {
-        let outcome = one_line(line, list, &mut memory, &mut old, &mut bytes);
-        take(rt, outcome, before + 1, tallies)?;
+        let call = one_line(line, list, &mut memory, &mut old, &mut bytes);
+        take(rt, call, before + 1, tallies)?;
     }
     Ok(())
 }

@@ -1,4 +1,6 @@
 // What the program `replay` makes of a line but for the call: the memory, what is lent, the comparison of the answer, and the counts.
+// Kept (1): a row goes by its number, its place in the counts, and a kind of item by the letter that a shape has for it.
+// Kept (5): a row's shape and a line's items: a struct of the two would be taken apart again in each function, which looks in both.
 #![tactic(auto)]
 
 mod answers;
@@ -7,11 +9,11 @@ mod tallies;
 
 pub use answers::{as_recorded, fill_outs, lent_length};
 pub use memory::Memory;
-pub use tallies::{Tallies, report, show, take};
+pub use tallies::{Tallies, report, take};
 
-// What became of a line that can be read: no call was asked for; or that of a row was made, and all that it answered is the same as recorded, or not.
+// A call that a line asks for: the number of its row, and whether all that it answered is as recorded.
 #[derive(Clone, Copy)]
-pub enum Outcome {
-    Passed,
-    Called { row: usize, same: bool },
+pub struct Call {
+    pub row: usize,
+    pub same: bool,
 }

@@ -4,7 +4,8 @@ ghost use Rattle.std.specs.Prelude.{◌≡◌, IfSome, IfNone, length, take};
 use replay_lines::{Items, kinds_are, write_digits};
 
 // Room, and how many of its bytes the memory has.
-// Kept (6): no heap, so the room is an array, of which all can be written.
+// Kept (6): README's rule: no heap. So the room is an array, of which all can be written.
+// Kept (2): `Held` of sheet_lines has such a `new` and `used_bytes`, two short bodies; a crate below both for them alone would be longer.
 #[derive(Drop)]
 pub struct Memory<const N: usize> {
     room: [u8; N],

@@ -1,16 +1,16 @@
 // The counts, and what is printed of them.
 ghost use Rattle.std.specs.Prelude.{◌≡◌};
 
-use crate::Outcome;
+use crate::Call;
 use replay_lines::row_at;
 use std::io;
 
-// Of a row: how many calls, how many of them differ, and the line of the first that does.
+// Of a row: how many calls, how many of them differ, and the line of the first that does, if one does.
 #[derive(Clone, Copy)]
 struct Tally {
     calls: u64,
     differ: u64,
-    first: usize,
+    first: Option<usize>,
 }
 
 // Those of the 84 rows, and how many lines can't be read.
@@ -27,7 +27,7 @@ impl Tallies {
         let none = Tally {
             calls: 0,
             differ: 0,
-            first: 0,
+            first: None,
         };
         Tallies {
             rows: [none; 84],
@@ -36,16 +36,16 @@ impl Tallies {
     }
 }
 
-// Counts what became of a line, none where it can't be read.
+// Counts the call of a line, if it asks for one; none is given where the line can't be read.
 pub fn take(
     rt: &impl Print,
-    outcome: Option<Outcome>,
+    asked: Option<Option<Call>>,
     line: usize,
     tallies: &mut Tallies,
 ) -> io::Result<()> {
-    match outcome {
-        Some(Outcome::Passed) => {}
-        Some(Outcome::Called { row, same }) => add(tallies, row, same, line),
+    match asked {
+        Some(Some(call)) => add(tallies, call, line),
+        Some(None) => {}
         None => {
             println!(rt; "line {line} can't be read")?;
             tallies.unreadable = tallies.unreadable.saturating_add(1);
@@ -54,17 +54,15 @@ pub fn take(
     Ok(())
 }
 
-fn add(tallies: &mut Tallies, row: usize, same: bool, line: usize) {
-    let Some(tally) = tallies.rows.get_mut(row) else {
+fn add(tallies: &mut Tallies, call: Call, line: usize) {
+    let Some(tally) = tallies.rows.get_mut(call.row) else {
         return;
     };
     tally.calls = tally.calls.saturating_add(1);
-    if same {
+    if call.same {
         return;
     }
-    if tally.differ == 0 {
-        tally.first = line;
-    }
+    tally.first = tally.first.or(Some(line));
     tally.differ = tally.differ.saturating_add(1);
 }
 
@@ -74,7 +72,7 @@ pub fn report(rt: &impl Print, head: &[u8], tallies: &Tallies) -> io::Result<()>
     let mut differ = 0u64;
     for (number, tally) in tallies.rows.iter().enumerate() {
         if let Some(row) = row_at(head, number) {
-            show(rt, row.name)?;
+            rt.write_all(row.name)?;
         }
         print!(rt; ": {} calls", tally.calls)?;
         show_differing(rt, *tally)?;
@@ -83,25 +81,18 @@ pub fn report(rt: &impl Print, head: &[u8], tallies: &Tallies) -> io::Result<()>
     }
     print!(rt; "{calls} calls")?;
     if differ == 0 && tallies.unreadable == 0 {
-        return show(rt, b", all as recorded\n");
+        return rt.write_all(b", all as recorded\n");
     }
     print!(rt; ", {differ} differ")?;
     if tallies.unreadable != 0 {
         print!(rt; ", {} lines can't be read", tallies.unreadable)?;
     }
-    show(rt, b"\n")
+    rt.write_all(b"\n")
 }
 
 fn show_differing(rt: &impl Print, tally: Tally) -> io::Result<()> {
-    if tally.differ != 0 {
-        print!(rt;
-            ", {} differ, the first in line {}",
-            tally.differ, tally.first
-        )?;
+    if let Some(first) = tally.first {
+        print!(rt; ", {} differ, the first in line {first}", tally.differ)?;
     }
-    show(rt, b"\n")
-}
-
-pub fn show(rt: &impl Print, s: &[u8]) -> io::Result<()> {
-    rt.write_all(s)
+    rt.write_all(b"\n")
 }

@@ -1,4 +1,6 @@
 // The calls on the three kinds of stores, and on a run of verdicts. `store` is the part of the memory that they are lent; the used length is the first of the out numbers.
+ghost use Rattle.std.specs.Prelude.{◌≡◌, drop};
+
 use replay_lines::{Items, four, low8, low16, low32, one, three, two};
 use sip_dialog::prack_lists::{
     sip_dialog_prack_get_pending, sip_dialog_prack_is_pracked, sip_dialog_prack_register,
@@ -19,7 +21,9 @@ use sip_dialog::stores::{
 use sip_dialog::verdicts::{sip_dialog_add_verdict, sip_dialog_worst_minute};
 
 // A dialog store: what asks for a change of it.
-pub fn change(row: usize, i: Items<'_>, store: &mut [u8], o: &mut [u64; 8]) -> u8 {
+pub fn change(row: usize, i: Items<'_>, store: &mut [u8], o: &mut [u64; 8]) -> u8
+    ensures rest { drop 2 o.new ≡ drop 2 o.old }
+{
     let s = i.text(0);
     let t = i.text(1);
     let u = i.text(2);
@@ -43,7 +47,9 @@ pub fn change(row: usize, i: Items<'_>, store: &mut [u8], o: &mut [u64; 8]) -> u
 }
 
 // A dialog store that is read: the used length stays.
-pub fn read(row: usize, i: Items<'_>, store: &[u8], out: &mut [u8], o: &mut [u64; 8]) -> u8 {
+pub fn read(row: usize, i: Items<'_>, store: &[u8], out: &mut [u8], o: &mut [u64; 8]) -> u8
+    ensures rest { drop 3 o.new ≡ drop 3 o.old }
+{
     let s = i.text(0);
     match row {
         62 => three(o, |used, place, length| {
@@ -61,7 +67,9 @@ pub fn read(row: usize, i: Items<'_>, store: &[u8], out: &mut [u8], o: &mut [u64
 }
 
 // An RSeq store.
-pub fn rseq(row: usize, i: Items<'_>, store: &mut [u8], o: &mut [u64; 8]) -> u8 {
+pub fn rseq(row: usize, i: Items<'_>, store: &mut [u8], o: &mut [u64; 8]) -> u8
+    ensures rest { drop 2 o.new ≡ drop 2 o.old }
+{
     let s = i.text(0);
     let t = i.text(1);
     let u = i.text(2);
@@ -80,7 +88,9 @@ pub fn rseq(row: usize, i: Items<'_>, store: &mut [u8], o: &mut [u64; 8]) -> u8 
 }
 
 // A PRACK store.
-pub fn prack(row: usize, i: Items<'_>, store: &mut [u8], out: &mut [u8], o: &mut [u64; 8]) -> u8 {
+pub fn prack(row: usize, i: Items<'_>, store: &mut [u8], out: &mut [u8], o: &mut [u64; 8]) -> u8
+    ensures rest { drop 4 o.new ≡ drop 4 o.old }
+{
     let s = i.text(0);
     match row {
         73 => one(o, |used| register(i, store, used)),
@@ -109,7 +119,9 @@ fn register(i: Items<'_>, store: &mut [u8], used: &mut usize) -> u8 {
 }
 
 // A run of verdicts.
-pub fn verdicts(row: usize, i: Items<'_>, store: &mut [u8], o: &mut [u64; 8]) -> u8 {
+pub fn verdicts(row: usize, i: Items<'_>, store: &mut [u8], o: &mut [u64; 8]) -> u8
+    ensures rest { drop 4 o.new ≡ drop 4 o.old }
+{
     match row {
         82 => one(o, |used| {
             sip_dialog_add_verdict(i.value(0), low8(i.value(1)), store, used)

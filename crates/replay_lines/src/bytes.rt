@@ -19,6 +19,7 @@ pub fn copy_at(s: &[u8], out: &mut [u8], at: usize) {
 // Writes the last digits of n in decimal over the places from `at` to before `end`.
 pub fn write_digits(n: u64, out: &mut [u8], at: usize, end: usize) {
     let mut left = n;
+    // Kept (3): places outside are passed over one by one while the digits go on; a slice would be none where one is outside.
     for i in (at..end).rev() {
         if let Some(place) = out.get_mut(i) {
             *place = b'0' + (left % 10) as u8;

@@ -8,6 +8,7 @@ use crate::texts::{joined, read_number};
 // An item: the letter of its kind, as a row's shape has it; its number, or a text's length; and where a text's bytes begin.
 #[derive(Clone, Copy)]
 pub struct Item {
+    // Kept (1): the letter and the value, a text's length, are asked of items of every kind; an enum would need a match for each of the two.
     pub letter: u8,
     pub value: u64,
     pub start: usize,
@@ -34,10 +35,10 @@ impl<'a> Items<'a> {
     pub fn text(self, k: usize) -> &'a [u8]
         ensures { IfNone (slice_get self.entry.list.now k) (result.now ≡ []) }
     {
-        match self.list.get(k) {
-            Some(item) => part(self.bytes, item.start, item.value as usize),
-            None => &[],
-        }
+        self.list.get(k).map_or(
+            &[],
+            |item| part(self.bytes, item.start, item.value as usize),
+        )
     }
 
     // The number k; 0 where there is none.
@@ -57,7 +58,7 @@ struct Read<'a> {
 }
 
 // Reads the items of which a line's rest consists: how many; none where one of them can't be read.
-// Kept (6): no heap, so the caller lends the room for a line's items and for their bytes.
+// Kept (6): README's rule: no heap. So the caller lends the room for a line's items and for their bytes.
 pub fn read_items(line: &[u8], bytes: &mut [u8], room: &mut [Item; 24]) -> Option<usize> {
     let mut rest = line;
     let mut end = 0;

@@ -1,4 +1,5 @@
 // How the recorded list is read: parts of texts, the items of a line, and the rows at the list's head. Nothing here knows an operation.
+// Kept (1): a kind of item goes by the letter that the list's rows have for it, and a row by its place among them: both are read, not chosen.
 #![tactic(auto)]
 
 mod bytes;
@@ -9,5 +10,5 @@ mod texts;
 
 pub use bytes::{copy_at, low8, low16, low32, part, write_digits};
 pub use items::{Item, Items, read_items};
-pub use outs::{Number, four, one, six, three, two};
+pub use outs::{Number, four, one, seven, six, three, two};
 pub use rows::{Row, kinds_are, numbers_behind, place_of, row_at, row_of, shape_fits};

@@ -4,6 +4,7 @@ ghost use Rattle.std.specs.Prelude.{◌≡◌, ℕ, ◌≤◌, drop};
 use crate::bytes::{low8, low16, low32};
 
 // A type of number that a call is lent.
+// Kept (4): `u64` has no `From<usize>`, and a `TryFrom` would refuse the numbers that `cut` cuts.
 pub trait Number: Copy {
     // What it is as a number of 64 bits.
     ghost value: { Self → ℕ };
@@ -77,6 +78,7 @@ impl Number for usize {
 }
 
 // A call that is lent one number.
+// Kept (2): `one` to `seven` differ in how many numbers are lent, each of its own type: no type parameter stands for so many types.
 pub fn one<A: Number, F: FnOnce(&mut A) -> u8>(o: &mut [u64; 8], call: F) -> u8
     requires { F.IsAlwaysCallable call }
     ensures rest { drop 1 o.new ≡ drop 1 o.old }
@@ -161,5 +163,37 @@ where
     o[3] = d.wide();
     o[4] = e.wide();
     o[5] = f.wide();
+    r
+}
+
+// Seven.
+pub fn seven<A, B, C, D, E, G, H, F>(o: &mut [u64; 8], call: F) -> u8
+where
+    A: Number,
+    B: Number,
+    C: Number,
+    D: Number,
+    E: Number,
+    G: Number,
+    H: Number,
+    F: FnOnce(&mut A, &mut B, &mut C, &mut D, &mut E, &mut G, &mut H) -> u8,
+    requires { F.IsAlwaysCallable call }
+    ensures rest { drop 7 o.new ≡ drop 7 o.old }
+{
+    let mut a = A::cut(o[0]);
+    let mut b = B::cut(o[1]);
+    let mut c = C::cut(o[2]);
+    let mut d = D::cut(o[3]);
+    let mut e = E::cut(o[4]);
+    let mut f = G::cut(o[5]);
+    let mut g = H::cut(o[6]);
+    let r = call(&mut a, &mut b, &mut c, &mut d, &mut e, &mut f, &mut g);
+    o[0] = a.wide();
+    o[1] = b.wide();
+    o[2] = c.wide();
+    o[3] = d.wide();
+    o[4] = e.wide();
+    o[5] = f.wide();
+    o[6] = g.wide();
     r
 }

@@ -1,5 +1,7 @@
 // The rows at the head of the list: an operation's name, a blank, and the letters of its items. Its number is its place among the rows.
-ghost use Rattle.std.specs.Prelude.{◌≡◌, IfSome, true, length};
+ghost use Rattle.std.specs.Prelude.{◌≡◌, ◌==◌, Some, IfSome, true, length, slice_get};
+ghost use Rattle.std.specs.List.{slice_split};
+ghost use Rattle.std.specs.Option.{option_map};
 
 use crate::items::{Item, Items};
 
@@ -9,16 +11,28 @@ pub struct Row<'a> {
     pub shape: &'a [u8],
 }
 
-fn read_row(line: &[u8]) -> Option<Row<'_>> {
-    let mut words = line.split(|b| *b == b' ');
-    let name = words.next()?;
-    let shape = words.next()?;
+fn read_row(line: &[u8]) -> Option<Row<'_>>
+    ensures name { IfSome result (λ r. slice_get (slice_split (λ b. b == 32) line.now) 0 ≡ Some r.name.now) }
+    ensures shape { IfSome result (λ r. slice_get (slice_split (λ b. b == 32) line.now) 1 ≡ Some r.shape.now) }
+{
+    let name = nth_part(line, b' ', 0)?;
+    let shape = nth_part(line, b' ', 1)?;
     Some(Row { name, shape })
 }
 
 // The row of a number.
-pub fn row_at(head: &[u8], number: usize) -> Option<Row<'_>> {
-    read_row(head.split(|b| *b == b'\n').nth(number)?)
+pub fn row_at(head: &[u8], number: usize) -> Option<Row<'_>>
+    ensures name { IfSome result (λ r. IfSome (slice_get (slice_split (λ b. b == 10) head.now) number) (λ line. slice_get (slice_split (λ b. b == 32) line) 0 ≡ Some r.name.now)) }
+    ensures shape { IfSome result (λ r. IfSome (slice_get (slice_split (λ b. b == 10) head.now) number) (λ line. slice_get (slice_split (λ b. b == 32) line) 1 ≡ Some r.shape.now)) }
+{
+    read_row(nth_part(head, b'\n', number)?)
+}
+
+// The part behind so many bytes `between`.
+fn nth_part(s: &[u8], between: u8, k: usize) -> Option<&[u8]>
+    ensures { option_map (λ p. p.now) result ≡ slice_get (slice_split (λ b. b == between) s.now) k }
+{
+    s.split(|b| *b == between).nth(k)
 }
 
 // The row of a name, and its number.

@@ -14,6 +14,7 @@ pub fn read_number(line: &[u8]) -> Option<(u64, &[u8])>
 // The joined parts with which a line begins, at least one, written to the bytes from `to` on: where they end, and what follows.
 pub fn joined<'a>(line: &'a [u8], bytes: &mut [u8], to: usize) -> Option<(usize, &'a [u8])> {
     let (mut end, mut rest) = repeated(line, bytes, to)?;
+    // Kept (3): the next byte decides whether a part follows; no iterator knows where a part ends before it is read.
     while let [b'"' | b'0'..=b'9', ..] = rest {
         let (next, after) = repeated(rest, bytes, end)?;
         end = next;
@@ -56,6 +57,7 @@ fn quoted<'a>(line: &'a [u8], bytes: &mut [u8], to: usize) -> Option<(usize, &'a
 {
     let mut end = to;
     let mut rest = line;
+    // Kept (3): a quoted part ends at its closing quote, which is seen as the bytes before it are read.
     loop {
         if let [b'"', after @ ..] = rest {
             return Some((end, after));
@@ -82,6 +84,7 @@ fn letter(line: &[u8]) -> Option<(u8, &[u8])>
 }
 
 // What a hexadecimal digit is worth.
+// Kept (4): `to_digit(16)` takes capital letters too, which the list has not.
 fn digit(b: u8) -> Option<u8>
     ensures { IfSome result (λ n. n < 16) }
 {

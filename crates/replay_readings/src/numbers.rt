@@ -68,6 +68,7 @@ pub fn interval(row: usize, i: Items<'_>, o: &mut [u64; 8]) -> u8 {
 }
 
 // What can be forced of an offer, with the least where one is too short.
+// Kept (2): the only call that is lent eight numbers; an `eight` beside `seven` for it alone would be longer.
 fn contest(i: Items<'_>, o: &mut [u64; 8]) -> u8 {
     let mut has_first = low8(o[0]);
     let mut first_least = o[1];

@@ -1,6 +1,8 @@
 // The calls on blocks, values, texts and images. Each takes its arguments from the items of the line, in the order of the C declaration, and its out numbers from `o`,
 // where they hold what they held before; it leaves them there and answers its number. A call is told by its row's number.
-use replay_lines::{Items, four, low8, low16, low32, one, six, three, two};
+ghost use Rattle.std.specs.Prelude.{◌≡◌, drop};
+
+use replay_lines::{Items, four, low16, one, seven, six, three, two};
 use sip_dialog::blocks::{sip_dialog_check_block, sip_dialog_header, sip_dialog_next_header};
 use sip_dialog::identifiers::{
     sip_dialog_dialog_id_new, sip_dialog_extract_tag, sip_dialog_from_request,
@@ -24,7 +26,9 @@ use sip_dialog::values::{
 };
 
 // Blocks, and the identifiers in them.
-pub fn block(row: usize, i: Items<'_>, o: &mut [u64; 8]) -> u8 {
+pub fn block(row: usize, i: Items<'_>, o: &mut [u64; 8]) -> u8
+    ensures rest { drop 6 o.new ≡ drop 6 o.old }
+{
     let s = i.text(0);
     let t = i.text(1);
     match row {
@@ -52,10 +56,14 @@ pub fn block(row: usize, i: Items<'_>, o: &mut [u64; 8]) -> u8 {
 }
 
 // URIs, routes and Session-Expires.
-pub fn value(row: usize, i: Items<'_>, o: &mut [u64; 8]) -> u8 {
+pub fn value(row: usize, i: Items<'_>, o: &mut [u64; 8]) -> u8
+    ensures rest { drop 7 o.new ≡ drop 7 o.old }
+{
     let s = i.text(0);
     match row {
-        10 => uri_parts(s, o),
+        10 => seven(o, |a, b, c, d, e, f, g| {
+            sip_dialog_sip_uri(s, a, b, c, d, e, f, g)
+        }),
         11 => one(o, |n| sip_dialog_uri_estimate(s, n)),
         12 => three(o, |found, place, length| {
             sip_dialog_parse_uri_from_header(s, found, place, length)
@@ -82,7 +90,9 @@ pub fn value(row: usize, i: Items<'_>, o: &mut [u64; 8]) -> u8 {
 }
 
 // CSeq, RSeq, RAck and methods.
-pub fn prack(row: usize, i: Items<'_>, o: &mut [u64; 8]) -> u8 {
+pub fn prack(row: usize, i: Items<'_>, o: &mut [u64; 8]) -> u8
+    ensures rest { drop 3 o.new ≡ drop 3 o.old }
+{
     let s = i.text(0);
     match row {
         24 => one(o, |n| sip_dialog_cseq_number(s, n)),
@@ -97,7 +107,9 @@ pub fn prack(row: usize, i: Items<'_>, o: &mut [u64; 8]) -> u8 {
 }
 
 // One image.
-pub fn image(row: usize, i: Items<'_>, o: &mut [u64; 8]) -> u8 {
+pub fn image(row: usize, i: Items<'_>, o: &mut [u64; 8]) -> u8
+    ensures rest { drop 7 o.new ≡ drop 7 o.old }
+{
     let s = i.text(0);
     match row {
         38 => six(
@@ -112,7 +124,9 @@ pub fn image(row: usize, i: Items<'_>, o: &mut [u64; 8]) -> u8 {
             o,
             |a, b, c, d, e, f| sip_dialog_image_uris(s, a, b, c, d, e, f),
         ),
-        41 => image_numbers(s, o),
+        41 => seven(o, |a, b, c, d, e, f, g| {
+            sip_dialog_image_numbers(s, a, b, c, d, e, f, g)
+        }),
         42 => one(o, |n| sip_dialog_image_route_count(s, n)),
         43 => three(o, |found, place, length| {
             sip_dialog_image_route(s, i.value(1) as usize, found, place, length)
@@ -120,62 +134,4 @@ pub fn image(row: usize, i: Items<'_>, o: &mut [u64; 8]) -> u8 {
         44 => one(o, |n| sip_dialog_image_matches_request(s, i.text(1), n)),
         _ => one(o, |n| sip_dialog_image_needs_refresh(s, i.value(1), n)),
     }
-}
-
-// The parts of a URI.
-fn uri_parts(s: &[u8], o: &mut [u64; 8]) -> u8 {
-    let mut secure = low8(o[0]);
-    let mut user = o[1] as usize;
-    let mut user_length = o[2] as usize;
-    let mut host = o[3] as usize;
-    let mut host_length = o[4] as usize;
-    let mut has_port = low8(o[5]);
-    let mut port = low16(o[6]);
-    let r = sip_dialog_sip_uri(
-        s,
-        &mut secure,
-        &mut user,
-        &mut user_length,
-        &mut host,
-        &mut host_length,
-        &mut has_port,
-        &mut port,
-    );
-    o[0] = secure as u64;
-    o[1] = user as u64;
-    o[2] = user_length as u64;
-    o[3] = host as u64;
-    o[4] = host_length as u64;
-    o[5] = has_port as u64;
-    o[6] = port as u64;
-    r
-}
-
-// The numbers of an image.
-fn image_numbers(s: &[u8], o: &mut [u64; 8]) -> u8 {
-    let mut local = low32(o[0]);
-    let mut remote = low32(o[1]);
-    let mut has_ack = low8(o[2]);
-    let mut ack = low32(o[3]);
-    let mut has_seconds = low8(o[4]);
-    let mut seconds = low32(o[5]);
-    let mut refresher = low8(o[6]);
-    let r = sip_dialog_image_numbers(
-        s,
-        &mut local,
-        &mut remote,
-        &mut has_ack,
-        &mut ack,
-        &mut has_seconds,
-        &mut seconds,
-        &mut refresher,
-    );
-    o[0] = local as u64;
-    o[1] = remote as u64;
-    o[2] = has_ack as u64;
-    o[3] = ack as u64;
-    o[4] = has_seconds as u64;
-    o[5] = seconds as u64;
-    o[6] = refresher as u64;
-    r
 }

@@ -1,5 +1,5 @@
 -- The turns of the two loops of `fill_routes`. Assumes nothing.
-use Prim.Native.Nat.{ℕ, zero, suc, ◌+◌, ◌*◌, ◌≤◌, ◌<◌}
+use Prim.Native.Nat.{ℕ, zero, suc, ◌+◌, ◌≤◌, ◌<◌}
 use native.Mathlib.Omega.{arith}
 use mathlib.Core.Path.{◌≡◌, refl, sym, ap, ◌∙◌}
 use mathlib.Core.Bool.{Bool, false}
@@ -47,9 +47,9 @@ module _ (b : ℕ) (skipped : Result Filling Refusal) (more : List ℕ → Resul
   by_unread None q = refl
   by_unread (Some r) q = absurd (no_unread (over_estimate rust_limits r.uri) (moved_piece b r.piece) q)
 
-  by_long : (o : Option ReadUri) (cause : Refusal) → element_from rust_limits b o ≡ Err cause → fill_element rust_limits o skipped more ≡ Err UriTooLong
+  by_long : (o : Option ReadUri) (cause : Refusal) → element_from rust_limits b o ≡ Err cause → fill_element rust_limits o skipped more ≡ Err cause
   by_long None cause q = absurd (let z : ◌≡◌ {A = ℕ} 0 1 = cc in omega arith)
-  by_long (Some r) cause q = let k = is_long (over_estimate rust_limits r.uri) (moved_piece b r.piece) cause q in rw k.0
+  by_long (Some r) cause q = let k = is_long (over_estimate rust_limits r.uri) (moved_piece b r.piece) cause q in rw (k.0, k.1)
 
   by_route : (o : Option ReadUri) (u : Piece) → element_from rust_limits b o ≡ Ok (Some u) → fill_element rust_limits o skipped more ≡ more u.text
   by_route None u q = absurd (let z : ◌≡◌ {A = ℕ} 0 1 = cc in omega arith)
@@ -67,17 +67,13 @@ module _ (reversed : Bool) (f : Filling) (es ms : List Piece) (p : Piece) (rest 
     unfolding filled
     fill_unread q = rw (e, lt-leb 50 f.count h) (by_unread p.place _ _ (header_uri p.text) q)
 
-    pub fill_long : (cause : Refusal) → element_from rust_limits p.place (header_uri p.text) ≡ Err cause → filled rust_limits reversed f (es ++ rest) ≡ Err UriTooLong
+    pub fill_long : (cause : Refusal) → element_from rust_limits p.place (header_uri p.text) ≡ Err cause → filled rust_limits reversed f (es ++ rest) ≡ Err cause
     unfolding filled
     fill_long cause q = rw (e, lt-leb 50 f.count h) (by_long p.place _ _ (header_uri p.text) cause q)
 
     pub fill_route : (u : Piece) → element_from rust_limits p.place (header_uri p.text) ≡ Ok (Some u) → filled rust_limits reversed f (es ++ rest) ≡ filled rust_limits reversed (with_text reversed u.text f) (ms ++ rest)
     unfolding filled
     fill_route u q = rw (e, lt-leb 50 f.count h) (by_route p.place _ _ (header_uri p.text) u q)
-
--- no element is left
-pub value_done : (es rest : List Piece) → es ≡ [] → es ++ rest ≡ rest
-value_done es rest e = ap (λ (l : List Piece). l ++ rest) e
 
 -- ---- the outer loop
 

@@ -6,9 +6,10 @@ use mathlib.Core.Path.{◌≡◌, refl, sym, ap, ◌∙◌}
 use mathlib.Core.Bool.{Bool, true, false}
 use mathlib.Core.List.{List, [], ◌∷◌, ◌++◌, map, reverse, reverse-cons, append_assoc, append-nil}
 use lib.ListN.{length, take, drop, length-append, length-map, length-reverse, length-drop, drop_of_length-le}
-use lib.Dec.{leb}
-use lib.Seq.{take-append-le, take-take, drop_at, length-take-le}
-use Rattle.std.specs.Prelude.{Err, None, Ok, Option, Result, Some}
+use lib.Dec.{eqb, leb}
+use borrow.Author.Tests.{eqb-true, eqb-false}
+use lib.Seq.{drop_at, length-take-le}
+use Rattle.std.specs.Prelude.{cond, Err, None, Ok, Option, Result, Some}
 use Rattle.limits.specs.Limits.{rust_limits}
 use Rattle.limits.specs.Outcome.{refuse_if, and_then}
 use Rattle.limits.specs.declared.Refusal.{Refusal}
@@ -18,7 +19,7 @@ use Rattle.text.specs.Text.{Piece, moved_piece}
 use Rattle.uri.specs.SipUri.{over_estimate}
 use Rattle.uri.specs.HeaderUri.{ReadUri, header_uri}
 use Rattle.edit.specs.Edit.{put_at}
-use Rattle.edit.proofs.EditLaws.{put_nothing, put_put}
+use Rattle.edit.proofs.EditLaws.{put_nothing, put_put, put_before}
 use Rattle.codec.specs.Codec.{text, write_all}
 use Rattle.record.specs.Record.{uri_text}
 use Rattle.codec.proofs.SizeLaws.{text_size}
@@ -142,17 +143,6 @@ all_size reversed (p ∷ ps) f = omega (arith, all_size reversed ps (with_text r
 
 -- ---- the bytes
 
--- a piece put just before another
-put_before : (at : ℕ) (a b bytes : List ℕ) → at + length a ≤ length bytes → put_at at a (put_at (at + length a) b bytes) ≡ put_at at (a ++ b) bytes
-put_before at a b bytes h =
-    let n : ℕ = at + length a in
-    let d : List ℕ = drop (n + length b) bytes in
-    let z : length (take n bytes) ≡ n = length-take-le n bytes h in
-    let x : take at (take n bytes ++ (b ++ d)) ≡ take at bytes = take-append-le at (take n bytes) (b ++ d) (omega arith) ∙ take-take at n bytes (omega arith) in
-    let y : drop n (take n bytes ++ (b ++ d)) ≡ b ++ d = drop_at (take n bytes) (b ++ d) n z in
-    let k : n + length b ≡ at + length (a ++ b) = omega (arith, length-append a b) in
-    rw (x, y, ← k, append_assoc a b d)
-
 put_long : (at : ℕ) (a bytes : List ℕ) → at + length a ≤ length bytes → length (put_at at a bytes) ≡ length bytes
 put_long at a bytes h =
     omega (arith, length-append (take at bytes) (a ++ drop (at + length a) bytes), length-append a (drop (at + length a) bytes), length-take-le at bytes (omega arith), length-drop (at + length a) bytes)
@@ -254,15 +244,22 @@ module _ (reversed : Bool) (block bytes : List ℕ) where
     read_size = sym (zero-add (length (bytes_of r.pieces))) ∙ sym (all_size reversed r.pieces _) ∙ ap (λ (g : Filling). g.size) r.held
 
     -- the measured section
-    pub measured_none : f.count ≡ 0 → Ok (0, 0) ≡ section_from (routes_of rust_limits block)
+    measured_none : f.count ≡ 0 → Ok (0, 0) ≡ section_from (routes_of rust_limits block)
     measured_none e =
         let k : length r.pieces ≡ 0 = read_count ∙ e in
         rw (r.is, section_none false r.pieces k, k)
 
-    pub measured_some : 0 < f.count → Ok (f.count, 1 + f.size) ≡ section_from (routes_of rust_limits block)
+    measured_some : 0 < f.count → Ok (f.count, 1 + f.size) ≡ section_from (routes_of rust_limits block)
     measured_some h =
         let s : length (section_of (route_texts false r.pieces)) ≡ 1 + f.size = omega (arith, ap length (section_filled false r.pieces (omega (arith, read_count))), read_size) in
         rw (r.is, s, read_count)
+
+    pub measured_same : Ok (f.count, cond (eqb f.count 0) 0 (1 + f.size)) ≡ section_from (routes_of rust_limits block)
+    measured_same = by (eqb f.count 0) refl
+      where
+        by : (t : Bool) → eqb f.count 0 ≡ t → Ok (f.count, cond t 0 (1 + f.size)) ≡ section_from (routes_of rust_limits block)
+        by true q = let z : f.count ≡ 0 = eqb-true _ _ q in ap (λ (n : ℕ). Ok (n, 0)) z ∙ measured_none z
+        by false q = let k : f.count ≡ 0 → ⊥ = eqb-false f.count 0 q in measured_some (omega arith)
 
     -- the written section
     pub unwritten : f.count ≡ 0 → section_in reversed (routes_of rust_limits block) ≡ []

@@ -1,5 +1,5 @@
 -- A step of the code: the routes of a peer's block together with what was measured of them (document 01, "Routes").
-use Rattle.std.specs.Prelude.{◌≤◌, ◌≡◌, List, length, Ok, Result}
+use Rattle.std.specs.Prelude.{ℕ, ◌≤◌, ◌≡◌, List, length, Err, Ok, Result}
 use Rattle.limits.specs.Limits.{rust_limits}
 use Rattle.limits.specs.declared.Refusal.{Refusal}
 use Rattle.text.specs.Text.{Piece}
@@ -14,3 +14,12 @@ given_by p = routes_of rust_limits p.block.now
 -- the block is no longer than a text may be, and count and size are those of its routes' section
 abbrev pub Measured : PeerRoutes → Type 0
 Measured p = (length p.block.now ≤ 8192) × (section_from (given_by p) ≡ Ok (p.count, p.size))
+
+-- those of this block
+abbrev pub MeasuredIn : List ℕ → PeerRoutes → Type 0
+MeasuredIn block p = (p.block.now ≡ block) × Measured p
+
+-- the count and the size of what was measured, or the cause
+abbrev pub counted_in : Result PeerRoutes Refusal → Result (ℕ × ℕ) Refusal
+counted_in (Ok p) = Ok (p.count, p.size)
+counted_in (Err cause) = Err cause

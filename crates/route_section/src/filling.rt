@@ -12,9 +12,9 @@ use route_set::{Elements, read_element};
 
 // The routes of all Record-Route lines, their elements one after another: one met when 50 are held ends the whole reading at once, and so does
 // one that is too long.
-// Kept (2, 7): document 01 names the form of two loops that a 51st route leaves by a label, here and in `scan_routes` of route_set. One function of
+// Kept (2): document 01 names the form of two loops that a 51st route leaves by a label, here and in `scan_routes` of route_set. One function of
 // both over a closure would have to say in its clauses what the closure holds after each element, which each loop says of its own numbers.
-// Kept (5): the clause asks for the length alone; a type of a checked block would need a second `check_block` that hands it out, and `.text` at each reading.
+// Kept (5): the fact is one inequality; a struct with it as its ghost field would be made at each call and its bytes taken out at each reading.
 pub fn fill_routes<O: Order>(out: &mut [u8], block: &[u8]) -> Result<(usize, usize), Refusal>
     requires { length block.now ≤ 8192 }
     ensures answered { Answered (filled rust_limits O.reversed (record { count = 0; size = 0; bytes = out.old }) (route_elements block.now)) result out.new }
@@ -30,11 +30,7 @@ pub fn fill_routes<O: Order>(out: &mut [u8], block: &[u8]) -> Result<(usize, usi
                 full = true;
                 break 'lines;
             }
-            // Kept (1): its one refusal has a line of its own, which a must-fail edit makes another; a `?` has none.
-            let Ok(route) = read_element(e) else {
-                return Err(Refusal::UriTooLong);
-            };
-            if let Some(u) = route {
+            if let Some(u) = read_element(e)? {
                 put_text::<O>(out, size, u.text);
                 size += 2 + u.text.len();
                 count += 1;
@@ -48,6 +44,7 @@ pub fn fill_routes<O: Order>(out: &mut [u8], block: &[u8]) -> Result<(usize, usi
 }
 
 // One text with its length bytes, if there is room for it.
+// Kept (5): the text of an element, which is no longer than its block; a type of a short text would be made for this call alone.
 fn put_text<O: Order>(out: &mut [u8], size: usize, t: &[u8])
     requires { (length t.now ≤ 8192) × (size ≤ 500000) }
     ensures { out.new ≡ text_put O.reversed size t.now out.old }

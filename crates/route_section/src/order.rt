@@ -6,6 +6,7 @@ ghost use Rattle.route_section.specs.Filling.{place_for};
 pub trait Order {
     ghost reversed: { Bool };
 
+    // Kept (5): three numbers that `put_text` has, and that nothing else is said of; a struct of them would be made for this call.
     // Where a text of `k` bytes goes among `room` bytes, when `size` bytes of texts are held: after those, or, reversed, before them.
     fn place(room: usize, size: usize, k: usize) -> usize
         requires { 1 + size + k ≤ room }
@@ -18,7 +19,6 @@ pub struct AsReceived {}
 impl Order for AsReceived {
     ghost reversed = { false };
 
-    // Kept (5): the parameters are the trait's.
     fn place(room: usize, size: usize, k: usize) -> usize {
         1 + size
     }
@@ -30,7 +30,6 @@ pub struct Reversed {}
 impl Order for Reversed {
     ghost reversed = { true };
 
-    // Kept (5): the parameters are the trait's.
     fn place(room: usize, size: usize, k: usize) -> usize {
         room - size - k
     }

@@ -98,10 +98,6 @@ module _ (w held a : ℕ) (es ms : List Piece) (p : Piece) (rest : List Piece) (
     unfolding scan
     scan_more u q k = rw (e, lt-leb 50 held h) (by_more w held a p.place _ _ (header_uri p.text) u q k)
 
--- no element is left
-pub value_done : (a : ℕ) (es rest : List Piece) → es ≡ [] → ahead a es rest ≡ rest
-value_done a es rest e = rw e
-
 -- ---- the outer loop: the values of the lines
 
 -- the elements of some values, where they stand in the block

@@ -7,6 +7,7 @@ use mathlib.Core.List.{List, [], ◌∷◌}
 use lib.ListN.{length, take, drop}
 use lib.Dec.{ltb}
 use borrow.Author.Tests.{ltb-true, ltb-false}
+use Rattle.std.proofs.lemmas.List.{take_rest}
 use Rattle.std.specs.Prelude.{None, Option, Some}
 use Rattle.limits.proofs.Laws.{some_pair}
 use Rattle.text.specs.Text.{trimmed, Piece, trimmed_piece}
@@ -14,7 +15,6 @@ use Rattle.text.specs.Number.{non_empty}
 use Rattle.text.specs.Answers.{Stop, span_of}
 use Rattle.text.specs.Spans.{part_in}
 use Rattle.text.specs.declared.Span.{Span}
-use Rattle.text.proofs.Runs.{drop_part}
 use Rattle.text.proofs.Trimming.{trimmed_at, trimmed_part}
 use Rattle.msg.proofs.LookupLaws.{Placed}
 use Rattle.route_set.specs.Parts.{segments, segments_from, elements, first_element, part_from}
@@ -49,7 +49,7 @@ unfolding first_element
 no_first v at h = rw (left_done (segments false 0) v at h)
 
 placed_segment : (v : List ℕ) (at n : ℕ) → at ≤ length v → Placed v (trimmed_piece at (take n (take (length v - at) (drop at v))))
-placed_segment v at n h = record { fits = rw (drop_part v at) (trimmed_at v at n h); there = rw (drop_part v at) (trimmed_part v at n) }
+placed_segment v at n h = record { fits = rw (take_rest v at) (trimmed_at v at n h); there = rw (take_rest v at) (trimmed_part v at n) }
 
 first_by : (v : List ℕ) (e : Stop) (fuel at : ℕ) → length v < at + fuel → first_element at (segments_from v at) ≡ Some e → First v at e
 first_by v e zero at h q = absurd (let x = no_first v at (omega arith) in let z : ◌≡◌ {A = ℕ} 0 1 = cc x in omega arith)

@@ -10,6 +10,7 @@ use text::{Cut, Segments, Span};
 
 // The next element of a value from a place on: 1, 2. All elements are had by asking from 0 on, and then from each answered
 // next place on.
+// Kept (5): C gives the two each by itself; a struct of them would be made for this call.
 pub fn next_header_value(value: &[u8], from: usize) -> Result<Option<(Span, usize)>, Refusal>
     ensures { result ≡ next_of (next_header_value rust_limits value.now from) }
 {
@@ -18,6 +19,7 @@ pub fn next_header_value(value: &[u8], from: usize) -> Result<Option<(Span, usiz
 }
 
 // The same of a value that was checked.
+// Kept (5): C gives the two each by itself, and `Elements` has them as its fields for a walk over all.
 pub fn next_part(value: &[u8], from: usize) -> Option<(Span, usize)>
     ensures { result ≡ part_from (element_from value.now from) }
 {
@@ -37,13 +39,14 @@ struct Comma {}
 impl Cut for Comma {
     ghost segments = { λ _ s. segments false 0 s };
 
-    // Kept (5): the parameters are the trait's.
     fn first(&self, s: &[u8]) -> usize {
         part_length(s)
     }
 }
 
 // How many bytes stand before the first comma that cuts.
+// Kept (2): `segment_length` of headers is this loop over another state, an enum; a trait for both would have the test and the step that stand
+// here, and clauses and laws for them beside.
 fn part_length(s: &[u8]) -> usize
     ensures value { result ≡ cut_length false 0 s.now }
     ensures upper_bound { result ≤ length s.now }
@@ -61,7 +64,6 @@ fn part_length(s: &[u8]) -> usize
 }
 
 // Whether a byte cuts, in quotes or not and at a depth of angle brackets.
-// Kept (7): whether quotes are open is what was read so far, and no choice of the caller.
 fn is_cut(quoted: bool, depth: usize, b: u8) -> bool
     ensures { result ≡ is_cut quoted depth b }
 {

@@ -1,5 +1,5 @@
 // The Contact's URI, and the route set of a block's Record-Route lines.
-ghost use Rattle.std.specs.Prelude.{◌≡◌, ◌+◌, ◌<◌, ◌≤◌, ◌^◌, length, take, drop};
+ghost use Rattle.std.specs.Prelude.{◌≡◌, ◌+◌, ◌<◌, ◌≤◌, ◌^◌, length};
 ghost use Rattle.limits.specs.Limits.{rust_limits};
 ghost use Rattle.text.specs.Answers.{lookup_of, span_of};
 ghost use Rattle.text.specs.Pieces.{piece_of};
@@ -15,6 +15,7 @@ use msg::Values;
 use text::{Part, Span};
 
 // The URI of the first Contact line, if it is readable: 1, 2.
+// Kept (2): a check and a reading, each named once; a function over both would be lent two closures and say no more than these lines.
 pub fn read_contact(block: &[u8]) -> Result<Option<Span>, Refusal>
     ensures { result ≡ lookup_of (contact rust_limits block.now) }
 {
@@ -23,6 +24,7 @@ pub fn read_contact(block: &[u8]) -> Result<Option<Span>, Refusal>
 }
 
 // The same of a block that was checked.
+// Kept (2): a look-up and a reading, each named once; a function over both would be lent a name and a closure for two lines.
 pub fn find_contact(block: &[u8]) -> Option<Span>
     ensures { result ≡ contact_from (contact_of block.now) }
 {
@@ -31,14 +33,17 @@ pub fn find_contact(block: &[u8]) -> Option<Span>
 }
 
 // The URI of a line that was looked up.
-// Kept (5): a line is a value that definitions give (`found_of`, `table_of`); with its text in it, which is lent, it is none, and the table of the
-// definitions would be a second type beside `HeaderTable`.
+// Kept (1): document 01 has the reading of a URI opened by `let .. else`.
+// Kept (5): a line that was looked up is its place and the next line's, kept without a lifetime (`HeaderTable` has eight); a `text::Part` would
+// carry the text beside the place, and each table the block's lifetime.
 pub fn contact_at(block: &[u8], line: Option<(Span, usize)>) -> Option<Span>
     requires { end_of line ≤ length block.now }
     ensures { result ≡ contact_from (uri_in (value_at line block.now)) }
 {
     let (v, _) = line?;
-    let (u, _) = uri::header_uri(v.text(block))?;
+    let Some((u, _)) = uri::header_uri(v.text(block)) else {
+        return None;
+    };
     Some(u.moved(v.start))
 }
 
@@ -68,15 +73,13 @@ pub fn route(block: &[u8], reversed: bool, index: usize) -> Result<Option<Span>,
 fn nth_route(block: &[u8], index: usize) -> Option<Span>
     ensures { Ok result ≡ route_in (scan rust_limits index 0 (route_elements block.now)) }
 {
-    match scan_routes(block, index) {
-        Ok((_, found)) => found,
-        Err(_) => None,
-    }
+    let (_, found) = scan_routes(block, index).ok()?;
+    found
 }
 
 // How many routes the Record-Route lines have up to the wanted one, and the wanted one, if they have it: an element met when 50 are held ends the
 // whole reading at once.
-// Kept (2, 7): document 01 names the form of these loops; `fill_routes` of route_section says why one function over a closure is no plainer.
+// Kept (2): document 01 names the form of these loops; `fill_routes` of route_section says why one function over a closure is no plainer.
 fn scan_routes(block: &[u8], wanted: usize) -> Result<(usize, Option<Span>), Refusal>
     ensures { result ≡ scan rust_limits wanted 0 (route_elements block.now) }
 {
@@ -104,6 +107,7 @@ fn scan_routes(block: &[u8], wanted: usize) -> Result<(usize, Option<Span>), Ref
 }
 
 // The URI of one element, where it stands in the value.
+// Kept (1): document 01 has the reading of a URI opened by `let .. else`.
 pub fn read_element<'a>(e: Part<'a>) -> Result<Option<Part<'a>>, Refusal>
     ensures { element_of result ≡ element_from rust_limits e.entry.place (header_uri e.entry.text.now) }
 {

@@ -78,6 +78,7 @@ impl Tail for Renewal<'_> {
         peer.count
     }
 
+    // Kept (5): the parameters of `Tail::write`, which says why.
     fn write(self, bytes: &mut [u8], at: usize) {
         let peer = self.peer;
         let a = write_numbers(bytes, at, self.numbers);

@@ -1,4 +1,5 @@
 pub mod FormLaws
+pub mod OrderLaws
 pub mod PlaceLaws
 pub mod ReadLaws
 pub mod SlotLaws

@@ -49,9 +49,6 @@ module _ (k : Key) (bytes : List ℕ) (used : ℕ) where
   pub holds : {e : EntryAt} → slot_for k bytes used ≡ Ok (Ok e) → Holds (e.id.call_id.start - 2) e.number e.end
   holds e = (subst Told e told).1
 
-  pub begins : {e : EntryAt} → slot_for k bytes used ≡ Ok (Ok e) → 2 ≤ e.id.call_id.start
-  begins e = (subst Told e told).0
-
   pub lacks : {at : ℕ} → slot_for k bytes used ≡ Ok (Err at) → Lacks at
   lacks e = subst Told e told
 

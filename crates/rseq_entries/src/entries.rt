@@ -1,14 +1,13 @@
 // One entry of the RSeq store, read at a place: three texts with two length bytes each, then a number that isn't 0.
 ghost use Rattle.std.specs.Prelude.{◌≡◌, ◌≤◌, length, drop};
 ghost use Rattle.dialog_id.specs.IdTexts.{ident_of};
-ghost use Rattle.ordered_store.specs.Order.{key_order};
 ghost use Rattle.rseq_entries.specs.Entries.{key_of_ident, Entry, entry_form};
 ghost use Rattle.rseq_entries.specs.Places.{reading_of, layout};
 ghost use Rattle.rseq_entries.specs.Laws.{lawful};
 
 use codec::{read_four, read_text};
 use dialog_id::{DialogId, IdTexts};
-use ordered_store::{Entry, KeyedBy, compare};
+use ordered_store::{Entry, KeyedBy};
 use std::cmp::Ordering;
 
 // Where its texts lie, its number, and the place after it.
@@ -24,7 +23,7 @@ impl Entry for EntryAt {
 
     ghost layout = { layout };
 
-    // Kept (5): as the trait has it.
+    // Kept (5): the parameters of `Entry::read`, which says why.
     fn read(bytes: &[u8], at: usize) -> Option<EntryAt> {
         read_entry(bytes, at)
     }
@@ -34,7 +33,7 @@ impl Entry for EntryAt {
     }
 
     fn ascends(self, next: EntryAt, bytes: &[u8]) -> bool {
-        compare_ids(self.id.texts(bytes), next.id.texts(bytes)).is_lt()
+        self.id.texts(bytes).cmp(&next.id.texts(bytes)).is_lt()
     }
 
     ghost lawful = { lawful };
@@ -43,14 +42,15 @@ impl Entry for EntryAt {
 impl<'a> KeyedBy<IdTexts<'a>> for EntryAt {
     ghost texts = { λ id. key_of_ident (ident_of id) };
 
-    // Kept (4, 5): as the trait has it; an entry and a key are of different types.
+    // Kept (4, 5): an entry and a key are of different types, which `Ord` can't compare; the parameters are those of `KeyedBy`, which says why.
     fn compare(self, bytes: &[u8], key: IdTexts<'a>) -> Ordering {
-        compare_ids(self.id.texts(bytes), key)
+        self.id.texts(bytes).cmp(&key)
     }
 }
 
 // The entry that begins at a place.
-// Kept (5): a reader lent as `&mut` has clauses for what is read, for its place and for its bytes: three where one stands.
+// Kept (5): a reader by value, with the fact as its ghost field, would be made anew at each place, and clauses would say `r.bytes.now`;
+// one lent as `&mut` has a clause for what is read, one for its place and one for its bytes.
 fn read_entry(bytes: &[u8], at: usize) -> Option<EntryAt>
     requires { at ≤ length bytes.now }
     ensures { result ≡ reading_of at (entry_form.read (drop at bytes.now)) }
@@ -75,15 +75,4 @@ fn read_entry(bytes: &[u8], at: usize) -> Option<EntryAt>
         number,
         end: place + 4,
     })
-}
-
-// The order of two identifiers: Call-ID first, then the local tag, then the remote one.
-// Kept (4): a derive calls std's `cmp` of slices, which costs 50 instructions on two texts of 2 bytes, where `compare` costs 37; the bar is a request at
-// 10,000 records, 3,700 instructions a record (docs/PERFORMANCE.md, "In the design pass").
-fn compare_ids(a: IdTexts<'_>, b: IdTexts<'_>) -> Ordering
-    ensures { result ≡ key_order (key_of_ident (ident_of a.entry)) (key_of_ident (ident_of b.entry)) }
-{
-    compare(a.call_id, b.call_id)
-        .then_with(|| compare(a.local_tag, b.local_tag))
-        .then_with(|| compare(a.remote_tag, b.remote_tag))
 }

@@ -18,7 +18,7 @@ mod writing;
 
 // RSeqManager::next_rseq: 1, 3, 18. A new identifier starts at n's low 31 bits, at least 1; a held number rises by one.
 // The number, and the new used length.
-// Kept (5, 6): a C caller lends bytes and says how many are used.
+// Kept (5, 6): C says how many of the lent bytes are used, perhaps too many: 3, in its turn among the causes; so both are taken as given.
 pub fn next_rseq(
     id: IdTexts<'_>,
     n: u32,
@@ -41,7 +41,7 @@ pub fn next_rseq(
 }
 
 // RSeqManager::current_rseq: 1, 3, 15.
-// Kept (5, 6): a C caller lends bytes and says how many are used.
+// Kept (5, 6): C says how many of the lent bytes are used, perhaps too many: 3, in its turn among the causes; so both are taken as given.
 pub fn current_rseq(id: IdTexts<'_>, bytes: &[u8], used: usize) -> Result<u32, Refusal>
     ensures value { result ≡ current_of (ran rust_limits (current (ident_of id.entry)) bytes.now used).answer }
     ensures bytes_value { bytes.now ≡ (ran rust_limits (current (ident_of id.entry)) bytes.now used).bytes }
@@ -53,7 +53,9 @@ pub fn current_rseq(id: IdTexts<'_>, bytes: &[u8], used: usize) -> Result<u32, R
 }
 
 // RSeqManager::remove: 1, 3. The bytes behind the entry move over it; where there is none, nothing changes. The new used length.
-// Kept (5, 6): a C caller lends bytes and says how many are used.
+// Kept (2): `prack_removal::remove_dialog` does so with its entry. A function of both would ask `Entry` for the place where one begins: one
+// more member, with a law of the layout and its proof in each crate.
+// Kept (5, 6): C says how many of the lent bytes are used, perhaps too many: 3, in its turn among the causes; so both are taken as given.
 pub fn remove(id: IdTexts<'_>, bytes: &mut [u8], used: usize) -> Result<usize, Refusal>
     ensures value { result ≡ written_in (ran rust_limits (remove (ident_of id.entry)) bytes.old used) }
     ensures bytes_after { bytes.new ≡ (ran rust_limits (remove (ident_of id.entry)) bytes.old used).bytes }
@@ -70,7 +72,7 @@ pub fn remove(id: IdTexts<'_>, bytes: &mut [u8], used: usize) -> Result<usize, R
 }
 
 // RSeqManager::len: 3. How many dialogs have a number.
-// Kept (5, 6): a C caller lends bytes and says how many are used.
+// Kept (5, 6): C says how many of the lent bytes are used, perhaps too many: 3, in its turn among the causes; so both are taken as given.
 pub fn len(bytes: &[u8], used: usize) -> Result<usize, Refusal>
     ensures value { result ≡ counted_of (ran rust_limits len bytes.now used).answer }
     ensures bytes_value { bytes.now ≡ (ran rust_limits len bytes.now used).bytes }
@@ -81,7 +83,7 @@ pub fn len(bytes: &[u8], used: usize) -> Result<usize, Refusal>
 }
 
 // RSeqManager::is_empty: 3. Whether no dialog has a number.
-// Kept (5, 6): a C caller lends bytes and says how many are used.
+// Kept (5, 6): C says how many of the lent bytes are used, perhaps too many: 3, in its turn among the causes; so both are taken as given.
 pub fn is_empty(bytes: &[u8], used: usize) -> Result<bool, Refusal>
     ensures value { result ≡ empty_of (ran rust_limits len bytes.now used).answer }
     ensures bytes_value { bytes.now ≡ (ran rust_limits len bytes.now used).bytes }

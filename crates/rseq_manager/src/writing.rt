@@ -1,18 +1,19 @@
 // Entries written at their places.
-ghost use Rattle.std.specs.Prelude.{◌≡◌, ◌+◌, ◌≤◌, ◌<◌, length, take};
+ghost use Rattle.std.specs.Prelude.{◌≡◌, ◌+◌, ◌≤◌, length, take};
 ghost use Rattle.edit.specs.Edit.{put_at, spliced};
 ghost use Rattle.output.specs.Output.{fitted, leaves};
 ghost use Rattle.dialog_id.specs.IdTexts.{ident_of};
 ghost use Rattle.rseq_entries.specs.Entries.{entry_form};
 ghost use Rattle.rseq_manager.specs.RSeq.{numbered};
-ghost use Rattle.rseq_manager.specs.Answers.{numbered_from};
+ghost use Rattle.rseq_manager.specs.Answers.{numbered_from, TextsShort};
 
 use codec::LENGTH_SIZE;
 use dialog_id::IdTexts;
 use limits::Refusal;
 
 // A new entry put in at a place of the used bytes: 18. The number, and the new used length.
-// Kept (5, 6): the bytes past the used ones are room for the entry.
+// Kept (2, 5, 6): the bytes past the used ones are room for the entry; `prack_entries` tests and moves them so too, two steps: a function of
+// both would need clauses for used bytes with a gap in them.
 pub fn insert(
     id: IdTexts<'_>,
     number: u32,
@@ -20,7 +21,7 @@ pub fn insert(
     used: usize,
     at: usize,
 ) -> Result<(u32, usize), Refusal>
-    requires call_id_len_bound { (length id.call_id.now < 65536) × (length id.local_tag.now < 65536) × (length id.remote_tag.now < 65536) }
+    requires texts_short { TextsShort (ident_of id) }
     requires at_le_used { (at ≤ used) × (used ≤ length bytes.old) }
     ensures value { result ≡ numbered_from number (fitted (length bytes.old) (spliced at 0 (entry_form.write (numbered (ident_of id.entry) number)) (take used bytes.old))) }
     ensures bytes_after { bytes.new ≡ leaves (fitted (length bytes.old) (spliced at 0 (entry_form.write (numbered (ident_of id.entry) number)) (take used bytes.old))) bytes.old }
@@ -37,9 +38,10 @@ pub fn insert(
 }
 
 // Three texts with their length bytes, and the number, at a place.
-// Kept (5): written at a place of bytes, as each part of it is by codec.
+// Kept (2, 5): `store_ids::write_id` writes three texts so too, but no crate below both has codec and `IdTexts`; written at a place of bytes,
+// as each part of it is by codec.
 fn write_entry(id: IdTexts<'_>, number: u32, bytes: &mut [u8], at: usize)
-    requires call_id_len_bound { (length id.call_id.now < 65536) × (length id.local_tag.now < 65536) × (length id.remote_tag.now < 65536) }
+    requires texts_short { TextsShort (ident_of id) }
     requires number_in_bounds { at + length (entry_form.write (numbered (ident_of id) number)) ≤ length bytes.old }
     ensures { bytes.new ≡ put_at at (entry_form.write (numbered (ident_of id.entry) number)) bytes.old }
 {

@@ -3,13 +3,9 @@ use Prim.Native.Nat.{ℕ, ◌≤◌, ◌+◌, ◌*◌, ◌/◌}
 use native.Mathlib.Omega.{arith}
 use mathlib.Core.Path.{◌≡◌, refl, sym}
 use mathlib.Core.Bool.{Bool, true, false}
-use mathlib.Core.List.{List}
-use denote.Ref.{Bor}
 use lib.Dec.{leb, ltb}
 use borrow.Author.Tests.{ltb-false, le-leb, lt-leb, leb-true, leb-false}
 use Rattle.std.specs.Prelude.{None, Ok, Option, Some}
-use Rattle.std.specs.Bool.{then_some}
-use Rattle.session_timer_manager.specs.Answers.{text_in, text_if}
 use Rattle.session_timer_manager.specs.Intervals.{joint_minimum, reduced, negotiated_from, negotiated, non_refresher_expiry, refresh_time}
 
 -- section 9: a reduced interval is no shorter than the minimum and no longer than the requested one
@@ -47,8 +43,3 @@ thirds_before i e = by (leb (i * 2) (e * 3 + 2)) refl
     by : (t : Bool) → leb (i * 2) (e * 3 + 2) ≡ t → t ≡ leb (i * 2 / 3) e
     by true p = sym (le-leb (i * 2 / 3) e (omega (arith, leb-true (i * 2) (e * 3 + 2) p)))
     by false p = sym (lt-leb (i * 2 / 3) e (omega (arith, leb-false (i * 2) (e * 3 + 2) p)))
-
--- a parameter that is given by a flag and bytes
-pub text_given : (given : Bool) (text : Bor (List ℕ)) → text_in (then_some given text) ≡ text_if given text.now
-text_given true text = refl
-text_given false text = refl

@@ -2,10 +2,10 @@
 // Times are whole nanoseconds where nothing is said of seconds.
 #![tactic(auto)]
 
-ghost use Rattle.std.specs.Prelude.{◌≡◌};
+ghost use Rattle.std.specs.Prelude.{◌≡◌, ◌<◌, ◌*◌, ◌/◌, ◌^◌, leb};
 ghost use Rattle.limits.specs.Limits.{rust_limits};
 ghost use Rattle.session_timer_manager.specs.Answers.{time_of, seconds_of, text_in, interval_from, role_from};
-ghost use Rattle.session_timer_manager.specs.Intervals.{minimum_or_default, validated, joint_minimum, negotiated, non_refresher_expiry, refresh_time, refresh_due};
+ghost use Rattle.session_timer_manager.specs.Intervals.{minimum_or_default, validated, joint_minimum, reduced, negotiated, non_refresher_expiry, refresh_time, refresh_due};
 ghost use Rattle.session_timer_manager.specs.Refresher.{we_refresh, refresher_role};
 
 use limits::{Limits, Refusal};
@@ -54,10 +54,7 @@ pub fn negotiate_session_expires(
     if requested < least {
         return Err(Refusal::SessionExpiresTooSmall(least));
     }
-    let Some(preferred) = preference else {
-        return Ok(requested);
-    };
-    Ok(requested.min(preferred.max(least)))
+    Ok(reduced(least, requested, preference))
 }
 
 // Whether we refresh the session, by the refresher parameter, if there is one.
@@ -76,10 +73,14 @@ pub fn determine_refresher_role(param: Option<&[u8]>, is_uac: bool) -> Result<bo
 pub fn needs_refresh(expires: Option<u32>, elapsed: u64) -> bool
     ensures { result ≡ refresh_due (seconds_of expires) elapsed }
 {
-    let Some(seconds) = expires else {
-        return false;
-    };
-    let interval = (seconds as u64) * NANOS_PER_SECOND;
+    expires.is_some_and(|seconds| thirds_passed((seconds as u64) * NANOS_PER_SECOND, elapsed))
+}
+
+// Whether two thirds of an interval have passed.
+fn thirds_passed(interval: u64, elapsed: u64) -> bool
+    requires { interval < 2 ^ 62 }
+    ensures { result ≡ leb (interval * 2 / 3) elapsed }
+{
     if interval <= elapsed {
         return true;
     }
@@ -99,6 +100,13 @@ fn joint_minimum(local: u64, remote: Option<u64>) -> u64
     ensures { result ≡ joint_minimum local (time_of remote) }
 {
     remote.map_or(local, |given| local.max(given))
+}
+
+// The requested interval, reduced to the preference but not below the minimum.
+fn reduced(least: u64, requested: u64, preference: Option<u64>) -> u64
+    ensures { result ≡ reduced least requested (time_of preference) }
+{
+    preference.map_or(requested, |preferred| requested.min(preferred.max(least)))
 }
 
 // Whether we refresh by this parameter. `uac` and `UAC` need no test: they say what holds for any other text too.

@@ -208,7 +208,6 @@ fn lists(rt: &impl Print) -> io::Result<()> {
     elements(rt, b"01 Routes", b" , ,")
 }
 
-// Kept (5): the place is a word of the line that is printed; a struct of it and `rt` would be made anew for each line.
 fn block(rt: &impl Print, place: &[u8], b: &[u8]) -> io::Result<()> {
     ask_block(rt, place, b"check", b)?;
     show_check(rt, msg::check_block(b))?;

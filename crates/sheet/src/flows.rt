@@ -1,6 +1,6 @@
 // Whole messages of the RFCs' call flows: the identifier, CSeq, Contact and Session-Expires of each.
 use dialog_id::DialogId;
-use sheet_lines::{ask, end_line, show, show_answer, show_expires, show_id, show_lookup};
+use sheet_lines::{ask, end_line, show_answer, show_expires, show_id, show_lookup};
 use std::io;
 
 pub fn flows(rt: &impl Print) -> io::Result<()> {
@@ -90,7 +90,6 @@ fn session_timer(rt: &impl Print) -> io::Result<()> {
 }
 
 // From is the local side of a request.
-// Kept (5): the place is a word of the line that is printed; a struct of it and `rt` would be made anew for each line.
 fn request(rt: &impl Print, place: &[u8], message: &[u8], block: &[u8]) -> io::Result<()> {
     ask(rt, place, message, b", identifier")?;
     show_id(rt, block, DialogId::from_request(block))?;
@@ -111,7 +110,7 @@ fn response(rt: &impl Print, place: &[u8], message: &[u8], block: &[u8]) -> io::
 fn fields(rt: &impl Print, place: &[u8], message: &[u8], block: &[u8]) -> io::Result<()> {
     ask(rt, place, message, b", CSeq")?;
     show_answer(rt, prack_headers::extract_cseq_number(block))?;
-    show(rt, b", method ")?;
+    rt.write_all(b", method ")?;
     show_answer(rt, prack_headers::extract_cseq_method(block))?;
     end_line(rt)?;
     ask(rt, place, message, b", Contact")?;

@@ -1,6 +1,6 @@
 // A dialog's identifier from given parts.
 use dialog_id::{DialogId, IdTexts};
-use sheet_lines::{ask, ask_size, end_line, show, show_check};
+use sheet_lines::{ask, ask_size, begin, end_line, show_check};
 use std::io;
 
 pub fn identifiers(rt: &impl Print) -> io::Result<()> {
@@ -32,7 +32,6 @@ pub fn identifiers(rt: &impl Print) -> io::Result<()> {
     tag_of(rt, &long[..129])
 }
 
-// Kept (5): the place is a word of the line that is printed; a struct of it and `rt` would be made anew for each line.
 fn identifier(
     rt: &impl Print,
     place: &[u8],
@@ -40,14 +39,13 @@ fn identifier(
     local_tag: &[u8],
     remote_tag: &[u8],
 ) -> io::Result<()> {
-    show(rt, place)?;
-    show(rt, b"  identifier [")?;
-    show(rt, call_id)?;
-    show(rt, b"][")?;
-    show(rt, local_tag)?;
-    show(rt, b"][")?;
-    show(rt, remote_tag)?;
-    show(rt, b"]: ")?;
+    begin(rt, place, b"identifier [")?;
+    rt.write_all(call_id)?;
+    rt.write_all(b"][")?;
+    rt.write_all(local_tag)?;
+    rt.write_all(b"][")?;
+    rt.write_all(remote_tag)?;
+    rt.write_all(b"]: ")?;
     check(rt, call_id, local_tag, remote_tag)
 }
 
@@ -56,6 +54,7 @@ fn local_tag(rt: &impl Print, what: &[u8], tag: &[u8]) -> io::Result<()> {
     check(rt, b"c", tag, b"r")
 }
 
+// Kept (2): `tag_of` differs in a word and in the part that is given; what the two do then is one call of `check`.
 fn call_id_of(rt: &impl Print, s: &[u8]) -> io::Result<()> {
     ask_size(rt, b"01 Identifier", b"Call-ID", s)?;
     check(rt, s, b"l", b"r")

@@ -1,5 +1,5 @@
 // Numbers as Rust reads a u32, and the number and method of CSeq.
-use sheet_lines::{ask, ask_block, end_line, show, show_answer, show_number};
+use sheet_lines::{ask, ask_block, end_line, show_answer, show_or};
 use std::io;
 
 pub fn numbers(rt: &impl Print) -> io::Result<()> {
@@ -27,17 +27,16 @@ pub fn numbers(rt: &impl Print) -> io::Result<()> {
     cseq(rt, after_20_16, b"Subject: no CSeq\r\n")
 }
 
-// Kept (5): the place is a word of the line that is printed; a struct of it and `rt` would be made anew for each line.
 fn number(rt: &impl Print, place: &[u8], s: &[u8]) -> io::Result<()> {
     ask(rt, place, b"number ", s)?;
-    show_number(rt, text::read_u32(s))?;
+    show_or(rt, b"", text::read_u32(s), b"unreadable")?;
     end_line(rt)
 }
 
 fn cseq(rt: &impl Print, place: &[u8], block: &[u8]) -> io::Result<()> {
     ask_block(rt, place, b"CSeq", block)?;
     show_answer(rt, prack_headers::extract_cseq_number(block))?;
-    show(rt, b", method ")?;
+    rt.write_all(b", method ")?;
     show_answer(rt, prack_headers::extract_cseq_method(block))?;
     end_line(rt)
 }

@@ -1,6 +1,6 @@
 // Texts and blocks of 8,192 bytes, which are read, and of 8,193, which are not.
 use limits::Refusal;
-use sheet_lines::{ask_size, end_line, show, show_check, show_expires, show_refusal, show_size};
+use sheet_lines::{ask_size, end_line, show_check, show_expires, show_found, show_size};
 use std::io;
 use text::Span;
 
@@ -70,9 +70,5 @@ fn expires_of(rt: &impl Print, value: &[u8]) -> io::Result<()> {
 
 // How long the part is that was found, and where it stands.
 fn show_sized(rt: &impl Print, l: Result<Option<Span>, Refusal>) -> io::Result<()> {
-    match l {
-        Ok(Some(part)) => show_size(rt, part),
-        Ok(None) => show(rt, b"nothing"),
-        Err(x) => show_refusal(rt, x),
-    }
+    show_found(rt, l, |part| show_size(rt, part))
 }

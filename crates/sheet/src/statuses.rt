@@ -1,5 +1,5 @@
 // The classes of a response's status code.
-use sheet_lines::{ask_number, end_line, show};
+use sheet_lines::{ask_number, end_line};
 use std::io;
 
 pub fn statuses(rt: &impl Print) -> io::Result<()> {
@@ -19,34 +19,33 @@ pub fn statuses(rt: &impl Print) -> io::Result<()> {
     class(rt, after_7_2, 700)
 }
 
-// Kept (5): the place is a word of the line that is printed; a struct of it and `rt` would be made anew for each line.
 fn class(rt: &impl Print, place: &[u8], code: u16) -> io::Result<()> {
     ask_number(rt, place, b"class of ", code as u64)?;
     show_class(rt, code)?;
     if msg::is_error(code) {
-        show(rt, b", error")?;
+        rt.write_all(b", error")?;
     }
     end_line(rt)
 }
 
 fn show_class(rt: &impl Print, code: u16) -> io::Result<()> {
     if msg::is_informational(code) {
-        return show(rt, b"informational");
+        return rt.write_all(b"informational");
     }
     if msg::is_success(code) {
-        return show(rt, b"success");
+        return rt.write_all(b"success");
     }
     if msg::is_redirection(code) {
-        return show(rt, b"redirection");
+        return rt.write_all(b"redirection");
     }
     if msg::is_client_error(code) {
-        return show(rt, b"client error");
+        return rt.write_all(b"client error");
     }
     if msg::is_server_error(code) {
-        return show(rt, b"server error");
+        return rt.write_all(b"server error");
     }
     if msg::is_global_failure(code) {
-        return show(rt, b"global failure");
+        return rt.write_all(b"global failure");
     }
-    show(rt, b"none")
+    rt.write_all(b"none")
 }

@@ -71,7 +71,6 @@ fn held(rt: &impl Print) -> io::Result<()> {
     tag(rt, rule, b";tag=\"a;b\"")
 }
 
-// Kept (5): the place is a word of the line that is printed; a struct of it and `rt` would be made anew for each line.
 fn tag(rt: &impl Print, place: &[u8], value: &[u8]) -> io::Result<()> {
     ask(rt, place, b"tag of ", value)?;
     show_lookup(rt, value, headers::extract_tag(value).map(Some))?;

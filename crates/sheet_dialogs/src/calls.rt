@@ -1,9 +1,11 @@
 // Each call on one record, and its line.
+ghost use Rattle.std.specs.Prelude.{◌≡◌};
+
 use crate::records::show_record;
 use creation_checks::NewDialog;
 use limits::Refusal;
 use sheet_lines::{
-    Held, ask, ask_block, ask_number, end_line, show, show_block, show_cause, show_time, show_yes,
+    Held, ask, ask_block, ask_number, begin, end_line, show_block, show_cause, show_time, show_yes,
 };
 use std::io;
 
@@ -11,8 +13,7 @@ use std::io;
 pub type Record = Held<512>;
 
 // A record by an INVITE that we sent.
-// Kept (2, 5): `uas` differs in a word and in the function that is called, and one of both would be given the two at each of its calls; the place is a word of the
-// line that is printed; a struct of it and `rt` would be made anew for each line.
+// Kept (2): `uas` differs in a word and in the function that is called, and one of both would be given the two at each of its calls.
 pub fn uac(
     rt: &impl Print,
     place: &[u8],
@@ -39,7 +40,9 @@ pub fn uas(
 }
 
 // The call as the other side has it: its URIs turned round.
-pub fn turned(call: NewDialog<'_>) -> NewDialog<'_> {
+pub fn turned(call: NewDialog<'_>) -> NewDialog<'_>
+    ensures { result ≡ record { method = call.entry.method; request = call.entry.request; status = call.entry.status; response = call.entry.response; local_uri = call.entry.remote_uri; remote_uri = call.entry.local_uri } }
+{
     NewDialog {
         local_uri: call.remote_uri,
         remote_uri: call.local_uri,
@@ -48,7 +51,9 @@ pub fn turned(call: NewDialog<'_>) -> NewDialog<'_> {
 }
 
 // The call with a response of another status.
-pub fn answered_by(call: NewDialog<'_>, status: u16) -> NewDialog<'_> {
+pub fn answered_by(call: NewDialog<'_>, status: u16) -> NewDialog<'_>
+    ensures { result ≡ record { method = call.entry.method; request = call.entry.request; status = status; response = call.entry.response; local_uri = call.entry.local_uri; remote_uri = call.entry.remote_uri } }
+{
     NewDialog { status, ..call }
 }
 
@@ -67,6 +72,7 @@ fn created(rt: &impl Print, answer: Result<usize, Refusal>, record: &mut Record)
 }
 
 // A request, whose block is shown.
+// Kept (2): `message` differs in how it asks; what the two do then is one call of `requested`.
 pub fn request(
     rt: &impl Print,
     place: &[u8],
@@ -97,6 +103,7 @@ fn requested(rt: &impl Print, method: &[u8], block: &[u8], record: &mut Record) 
 }
 
 // A response, whose block is shown.
+// Kept (2): `answer` differs in how it asks; what the two do then is one call of `answered`.
 pub fn response(
     rt: &impl Print,
     place: &[u8],
@@ -104,10 +111,10 @@ pub fn response(
     block: &[u8],
     record: &mut Record,
 ) -> io::Result<()> {
-    show(rt, place)?;
-    print!(rt; "  {status} of {{")?;
+    begin(rt, place, b"")?;
+    print!(rt; "{status} of {{")?;
     show_block(rt, block)?;
-    show(rt, b"}: ")?;
+    rt.write_all(b"}: ")?;
     answered(rt, status, block, record)
 }
 
@@ -159,11 +166,11 @@ fn updated(rt: &impl Print, answer: Result<usize, Refusal>, record: &mut Record)
     match answer {
         Ok(n) => {
             record.used = n;
-            show(rt, b"taken; ")?;
+            rt.write_all(b"taken; ")?;
         }
         Err(x) => {
             show_cause(rt, x)?;
-            show(rt, b"; ")?;
+            rt.write_all(b"; ")?;
         }
     }
     show_record(rt, record.used_bytes())?;
@@ -192,20 +199,20 @@ pub fn matching(
     record: &Record,
 ) -> io::Result<()> {
     ask(rt, place, b"matches_request, ", method)?;
-    match dialog::matches_request(block, record.used_bytes()) {
-        Ok(b) => show_yes(rt, b)?,
-        Err(x) => show_cause(rt, x)?,
-    }
-    end_line(rt)
+    shown(rt, dialog::matches_request(block, record.used_bytes()))
 }
 
 // Whether a refresh is due, so long after the last.
 pub fn refresh(rt: &impl Print, place: &[u8], elapsed: u64, record: &Record) -> io::Result<()> {
-    show(rt, place)?;
-    show(rt, b"  needs_refresh after ")?;
+    begin(rt, place, b"needs_refresh after ")?;
     show_time(rt, elapsed)?;
-    show(rt, b": ")?;
-    match dialog::needs_refresh(record.used_bytes(), elapsed) {
+    rt.write_all(b": ")?;
+    shown(rt, dialog::needs_refresh(record.used_bytes(), elapsed))
+}
+
+// Yes or no, or why neither, and the end of the line.
+fn shown(rt: &impl Print, answer: Result<bool, Refusal>) -> io::Result<()> {
+    match answer {
         Ok(b) => show_yes(rt, b)?,
         Err(x) => show_cause(rt, x)?,
     }

@@ -27,8 +27,7 @@ fn late_routes(rt: &impl Print, call: NewDialog<'_>, routes: &[u8]) -> io::Resul
         &mut record,
     )?;
     response(rt, b"RFC 3261 after 13.2.2.1", 183, routes, &mut record)?;
-    response(rt, b"RFC 3261 after 13.2.2.4", 200, routes, &mut record)?;
-    Ok(())
+    response(rt, b"RFC 3261 after 13.2.2.4", 200, routes, &mut record)
 }
 
 // The routes came before the 2xx, which has none.
@@ -47,8 +46,7 @@ fn early_routes(rt: &impl Print, call: NewDialog<'_>) -> io::Result<()> {
         200,
         b"Contact: <sip:callee@u3.domain.com>\r\n",
         &mut record,
-    )?;
-    Ok(())
+    )
 }
 
 // The ACK has the INVITE's number.
@@ -64,8 +62,7 @@ fn acknowledged(rt: &impl Print, call: NewDialog<'_>) -> io::Result<()> {
     )?;
     confirm(rt, place, &mut record)?;
     request(rt, place, b"ACK", b"CSeq: 4712 ACK\r\n", &mut record)?;
-    request(rt, place, b"ACK", b"CSeq: 4711 ACK\r\n", &mut record)?;
-    Ok(())
+    request(rt, place, b"ACK", b"CSeq: 4711 ACK\r\n", &mut record)
 }
 
 // The callee's own 2xx given as a response.
@@ -78,6 +75,5 @@ fn answered(rt: &impl Print, call: NewDialog<'_>, routes: &[u8]) -> io::Result<(
         turned(answered_by(call, 199)),
         &mut record,
     )?;
-    response(rt, b"RFC 3261 after 13.3.1.4", 200, routes, &mut record)?;
-    Ok(())
+    response(rt, b"RFC 3261 after 13.3.1.4", 200, routes, &mut record)
 }

@@ -1,5 +1,5 @@
 // A record by an INVITE without Contact to a sips URI, and creations that are refused.
-use crate::calls::{Record, answered_by, uac, uas};
+use crate::calls::{Record, answered_by, turned, uac, uas};
 use creation_checks::NewDialog;
 use std::io;
 
@@ -12,8 +12,7 @@ pub fn creation(rt: &impl Print, call: NewDialog<'_>) -> io::Result<()> {
         NewDialog {
             request: b"CSeq: 4711 INVITE\r\n",
             local_uri: b"sips:callee@domain.com",
-            remote_uri: call.local_uri,
-            ..call
+            ..turned(call)
         },
         &mut record,
     )?;
@@ -23,9 +22,7 @@ pub fn creation(rt: &impl Print, call: NewDialog<'_>) -> io::Result<()> {
         b"INVITE 2147483648 and 200",
         NewDialog {
             request: b"CSeq: 2147483648 INVITE\r\n",
-            local_uri: call.remote_uri,
-            remote_uri: call.local_uri,
-            ..call
+            ..turned(call)
         },
         &mut record,
     )?;
@@ -35,6 +32,5 @@ pub fn creation(rt: &impl Print, call: NewDialog<'_>) -> io::Result<()> {
         b"INVITE 4711 and 300",
         answered_by(call, 300),
         &mut record,
-    )?;
-    Ok(())
+    )
 }

@@ -48,8 +48,7 @@ fn sent(rt: &impl Print, record: &mut Record) -> io::Result<()> {
         b"ACK",
         b"CSeq: 1 ACK\r\n",
         record,
-    )?;
-    Ok(())
+    )
 }
 
 // The peer's requests: the order of their numbers.
@@ -85,6 +84,5 @@ fn refreshed(rt: &impl Print, record: &mut Record) -> io::Result<()> {
         record,
     )?;
     terminate(rt, end, record)?;
-    request(rt, end, b"INFO", b"CSeq: 4717 INFO\r\n", record)?;
-    Ok(())
+    request(rt, end, b"INFO", b"CSeq: 4717 INFO\r\n", record)
 }

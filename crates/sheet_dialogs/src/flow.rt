@@ -32,8 +32,7 @@ fn trying(rt: &impl Print, call: NewDialog<'_>) -> io::Result<()> {
             ..call
         },
         &mut record,
-    )?;
-    Ok(())
+    )
 }
 
 // Alice calls, and Bob ends the call.
@@ -58,8 +57,7 @@ fn caller(rt: &impl Print, call: NewDialog<'_>) -> io::Result<()> {
     )?;
     matching(rt, place, b"BYE", bye, &record)?;
     message(rt, place, b"BYE", bye, &mut record)?;
-    terminate(rt, b"RFC 3261 after 24.2 F14", &mut record)?;
-    Ok(())
+    terminate(rt, b"RFC 3261 after 24.2 F14", &mut record)
 }
 
 // Bob's first own number is 1; in the RFC it is 231.
@@ -80,6 +78,5 @@ fn callee(rt: &impl Print, call: NewDialog<'_>) -> io::Result<()> {
         b"To: Bob <sip:bob@biloxi.com>;tag=a6c85cf\r\nFrom: Alice <sip:alice@atlanta.com>;tag=1928301774\r\nCall-ID: a84b4c76e66710\r\nCSeq: 314159 ACK\r\n",
         &mut record,
     )?;
-    next_local(rt, b"RFC 3261 after 24.2 F13", &mut record)?;
-    Ok(())
+    next_local(rt, b"RFC 3261 after 24.2 F13", &mut record)
 }

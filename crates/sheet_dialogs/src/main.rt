@@ -1,5 +1,7 @@
 // Runs the examples of RFC 3261 12, 13 and 24.2, of RFC 4028 and of document 01 that one record can show, a line for each: where the
 // example stands (`after` where it is not word for word there), what is given, the answer, and the record after it.
+// Kept (5): `rt` and the place of a line, or `rt` and a call: a struct of the two would have a type parameter for `rt`, and each line that has a
+// place of its own, or a call changed in a field, would make one.
 #![tactic(auto)]
 
 mod calls;

@@ -23,8 +23,7 @@ fn seven(rt: &impl Print, call: NewDialog<'_>) -> io::Result<()> {
     uas(rt, b"01 sheet", b"INVITE 7 and 200", call, &mut record)?;
     request(rt, place, info, b"CSeq: 7 INFO\r\n", &mut record)?;
     request(rt, place, info, b"CSeq: 1008 INFO\r\n", &mut record)?;
-    request(rt, place, info, b"CSeq: 1007 INFO\r\n", &mut record)?;
-    Ok(())
+    request(rt, place, info, b"CSeq: 1007 INFO\r\n", &mut record)
 }
 
 fn zero(rt: &impl Print, call: NewDialog<'_>) -> io::Result<()> {
@@ -33,6 +32,5 @@ fn zero(rt: &impl Print, call: NewDialog<'_>) -> io::Result<()> {
     let mut record = Record::new();
     uac(rt, b"01 sheet", b"INVITE 7 and 200", call, &mut record)?;
     request(rt, place, info, b"CSeq: 2147483648 INFO\r\n", &mut record)?;
-    request(rt, place, info, b"CSeq: 2147483647 INFO\r\n", &mut record)?;
-    Ok(())
+    request(rt, place, info, b"CSeq: 2147483647 INFO\r\n", &mut record)
 }

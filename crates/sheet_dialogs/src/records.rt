@@ -4,12 +4,12 @@ use dialog::{image_route, read_image};
 use headers::Refresher;
 use image::UrisAt;
 use record::{Numbers, State};
-use sheet_lines::{show, show_bracketed, show_part};
+use sheet_lines::{show_bracketed, show_or, show_part};
 use std::io;
 
 pub fn show_record(rt: &impl Print, image: &[u8]) -> io::Result<()> {
     let Ok(r) = read_image(image) else {
-        return show(rt, b"no record");
+        return rt.write_all(b"no record");
     };
     let numbers = r.numbers;
     let uris = r.uris;
@@ -23,56 +23,50 @@ pub fn show_record(rt: &impl Print, image: &[u8]) -> io::Result<()> {
 // Kept (4): the sheet's words for a type of a library.
 fn show_state(rt: &impl Print, numbers: Numbers) -> io::Result<()> {
     match numbers.state {
-        State::Early => show(rt, b"E"),
-        State::Confirmed => show(rt, b"C"),
-        State::Terminated => show(rt, b"T"),
+        State::Early => rt.write_all(b"E"),
+        State::Confirmed => rt.write_all(b"C"),
+        State::Terminated => rt.write_all(b"T"),
     }
 }
 
 fn show_side(rt: &impl Print, we_are_uac: bool) -> io::Result<()> {
     if we_are_uac {
-        show(rt, b" uac ")
+        rt.write_all(b" uac ")
     } else {
-        show(rt, b" uas ")
+        rt.write_all(b" uas ")
     }
 }
 
 fn show_numbers(rt: &impl Print, numbers: Numbers) -> io::Result<()> {
     print!(rt; "{} {}", numbers.local, numbers.remote)?;
-    show_optional(rt, numbers.last_ack)?;
-    show_optional(rt, numbers.seconds)?;
+    show_or(rt, b" ", numbers.last_ack, b" -")?;
+    show_or(rt, b" ", numbers.seconds, b" -")?;
     show_refresher(rt, numbers.refresher)
 }
 
-fn show_optional(rt: &impl Print, n: Option<u32>) -> io::Result<()> {
-    match n {
-        Some(v) => print!(rt; " {v}"),
-        None => show(rt, b" -"),
-    }
-}
-
 // Kept (4): the sheet's words for a type of a library.
+// Kept (2): as `show_refresher` of sheet_lines, with other words: each sheet has its own.
 fn show_refresher(rt: &impl Print, r: Option<Refresher>) -> io::Result<()> {
     match r {
-        Some(Refresher::Uac) => show(rt, b" uac"),
-        Some(Refresher::Uas) => show(rt, b" uas"),
-        None => show(rt, b" -"),
+        Some(Refresher::Uac) => rt.write_all(b" uac"),
+        Some(Refresher::Uas) => rt.write_all(b" uas"),
+        None => rt.write_all(b" -"),
     }
 }
 
 fn show_target(rt: &impl Print, image: &[u8], uris: UrisAt) -> io::Result<()> {
     if uris.local_secure || uris.remote_secure {
-        show(rt, b", secure")?;
+        rt.write_all(b", secure")?;
     }
-    show(rt, b", target ")?;
+    rt.write_all(b", target ")?;
     show_part(rt, image, uris.target)
 }
 
 fn show_routes(rt: &impl Print, image: &[u8], count: usize) -> io::Result<()> {
     if count == 0 {
-        return show(rt, b", no routes");
+        return rt.write_all(b", no routes");
     }
-    show(rt, b", routes")?;
+    rt.write_all(b", routes")?;
     show_each(rt, image, count)
 }
 
@@ -85,7 +79,7 @@ fn show_each(rt: &impl Print, image: &[u8], count: usize) -> io::Result<()> {
 
 fn show_route(rt: &impl Print, image: &[u8], index: usize) -> io::Result<()> {
     if let Ok(Some(part)) = image_route(image, index) {
-        show(rt, b" ")?;
+        rt.write_all(b" ")?;
         show_bracketed(rt, image, part)?;
     }
     Ok(())

@@ -60,8 +60,7 @@ fn answered(rt: &impl Print, record: &mut Record) -> io::Result<()> {
         b"Session-Expires: 50;refresher=uac\r\n",
         record,
     )?;
-    response(rt, place, 200, b"Supported: timer\r\n", record)?;
-    Ok(())
+    response(rt, place, 200, b"Supported: timer\r\n", record)
 }
 
 fn callee(rt: &impl Print, call: NewDialog<'_>) -> io::Result<()> {
@@ -79,8 +78,7 @@ fn callee(rt: &impl Print, call: NewDialog<'_>) -> io::Result<()> {
         b"UPDATE",
         b"CSeq: 314162 UPDATE\r\nSession-Expires: 1800;refresher=uas\r\n",
         &mut record,
-    )?;
-    Ok(())
+    )
 }
 
 // 90 s, and less.
@@ -108,6 +106,5 @@ fn shortest(rt: &impl Print) -> io::Result<()> {
     )?;
     refresh(rt, place, 60000000000, &record)?;
     refresh(rt, place, 59999999999, &record)?;
-    interval(rt, b"01 row 13", 89, &mut record)?;
-    Ok(())
+    interval(rt, b"01 row 13", 89, &mut record)
 }

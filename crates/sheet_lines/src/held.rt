@@ -1,11 +1,11 @@
 // Lent bytes, and how many of them are used: a call is lent them whole, and may leave more or fewer used.
 ghost use Rattle.std.specs.Prelude.{◌≡◌, IfOk, IfErr, take};
 
-use crate::{show, show_refusal};
+use crate::show_refusal;
 use limits::Refusal;
 use std::io;
 
-// Kept (6): the sheets have no heap, so the bytes are an array, and a call is lent all of it.
+// Kept (6): README's rule: no heap. So the bytes are an array, and a call is lent all of it.
 #[derive(Drop)]
 pub struct Held<const N: usize> {
     pub bytes: [u8; N],
@@ -39,7 +39,7 @@ impl<const N: usize> Held<N> {
         match answer {
             Ok(n) => {
                 self.used = n;
-                show(rt, b"taken")?;
+                rt.write_all(b"taken")?;
             }
             Err(x) => show_refusal(rt, x)?,
         }

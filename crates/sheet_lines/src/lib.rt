@@ -1,4 +1,6 @@
 // How a line of the sheets is written: where the example stands, what is asked, and each kind of answer.
+// Kept (5): `rt` and the place of a line: a struct of the two would have a type parameter for `rt`, and each call that has a place of its
+// own would make one; the place is no more than words that are printed.
 #![tactic(auto)]
 
 mod held;
@@ -13,51 +15,44 @@ use std::io;
 use text::Span;
 use uri::SipUri;
 
-const NANOS_PER_SECOND: u64 = 1000000000;
-
-// Bytes as they are, on standard output.
-pub fn show(rt: &impl Print, s: &[u8]) -> io::Result<()> {
-    rt.write_all(s)
-}
+pub const NANOS_PER_SECOND: u64 = 1000000000;
 
 pub fn end_line(rt: &impl Print) -> io::Result<()> {
-    show(rt, b"\n")
+    rt.write_all(b"\n")
 }
 
-// The beginning of a line: where the example stands, what is asked, and of which text.
-// Kept (5): the place is a word of the line that is printed; a struct of it and `rt` would be made anew for each line.
+// The beginning of a line: where the example stands, and what is asked.
+pub fn begin(rt: &impl Print, place: &[u8], question: &[u8]) -> io::Result<()> {
+    rt.write_all(place)?;
+    rt.write_all(b"  ")?;
+    rt.write_all(question)
+}
+
+// The same, and of which text it is asked.
 pub fn ask(rt: &impl Print, place: &[u8], question: &[u8], given: &[u8]) -> io::Result<()> {
-    show(rt, place)?;
-    show(rt, b"  ")?;
-    show(rt, question)?;
-    show(rt, given)?;
-    show(rt, b": ")
+    begin(rt, place, question)?;
+    rt.write_all(given)?;
+    rt.write_all(b": ")
 }
 
 // The same of a number.
 pub fn ask_number(rt: &impl Print, place: &[u8], question: &[u8], given: u64) -> io::Result<()> {
-    show(rt, place)?;
-    show(rt, b"  ")?;
-    show(rt, question)?;
+    begin(rt, place, question)?;
     print!(rt; "{given}: ")
 }
 
 // The same of a text that is told by its size.
 pub fn ask_size(rt: &impl Print, place: &[u8], question: &[u8], given: &[u8]) -> io::Result<()> {
-    show(rt, place)?;
-    show(rt, b"  ")?;
-    show(rt, question)?;
+    begin(rt, place, question)?;
     print!(rt; " of {} bytes: ", given.len())
 }
 
 // The same of a header block.
 pub fn ask_block(rt: &impl Print, place: &[u8], question: &[u8], block: &[u8]) -> io::Result<()> {
-    show(rt, place)?;
-    show(rt, b"  ")?;
-    show(rt, question)?;
-    show(rt, b" of {")?;
+    begin(rt, place, question)?;
+    rt.write_all(b" of {")?;
     show_block(rt, block)?;
-    show(rt, b"}: ")
+    rt.write_all(b"}: ")
 }
 
 // The bytes of a block, its line ends as `\r\n`.
@@ -70,9 +65,9 @@ pub fn show_block(rt: &impl Print, block: &[u8]) -> io::Result<()> {
 
 fn show_byte(rt: &impl Print, b: u8) -> io::Result<()> {
     match b {
-        b'\r' => show(rt, b"\\r"),
-        b'\n' => show(rt, b"\\n"),
-        _ => show(rt, &[b]),
+        b'\r' => rt.write_all(b"\\r"),
+        b'\n' => rt.write_all(b"\\n"),
+        _ => rt.write_all(&[b]),
     }
 }
 
@@ -88,17 +83,17 @@ fn part_of(s: &[u8], part: Span) -> Option<&[u8]> {
 // A part of a text, or that it isn't one.
 fn show_text(rt: &impl Print, part: Option<&[u8]>) -> io::Result<()> {
     match part {
-        Some([]) => show(rt, b"empty"),
-        Some(part) => show(rt, part),
-        None => show(rt, b"outside"),
+        Some([]) => rt.write_all(b"empty"),
+        Some(part) => rt.write_all(part),
+        None => rt.write_all(b"outside"),
     }
 }
 
 // A part in brackets.
 pub fn show_bracketed(rt: &impl Print, s: &[u8], part: Span) -> io::Result<()> {
-    show(rt, b"[")?;
+    rt.write_all(b"[")?;
     show_part(rt, s, part)?;
-    show(rt, b"]")
+    rt.write_all(b"]")
 }
 
 // How long a part is, and where it stands.
@@ -111,31 +106,67 @@ pub fn show_refusal(rt: &impl Print, x: Refusal) -> io::Result<()> {
 }
 
 pub fn show_yes(rt: &impl Print, b: bool) -> io::Result<()> {
-    if b { show(rt, b"yes") } else { show(rt, b"no") }
+    if b {
+        rt.write_all(b"yes")
+    } else {
+        rt.write_all(b"no")
+    }
 }
 
-// Kept (4): the sheet's words for an answer of a library.
-pub fn show_check(rt: &impl Print, c: Result<(), Refusal>) -> io::Result<()> {
-    match c {
-        Ok(()) => show(rt, b"taken"),
+// What was answered, as `show` shows it, or why nothing was.
+// Kept (2): `show_next`, `show_id`, `show_uri` and `show_expires` match by themselves: each shows more than one call does, and a
+// closure of it would be as long.
+// Kept (4): the two cases of an answer, each shown by a call; nothing is converted.
+fn show_given<T, F: Fn(T) -> io::Result<()>>(
+    rt: &impl Print,
+    answer: Result<T, Refusal>,
+    show: F,
+) -> io::Result<()>
+    requires { F.IsAlwaysCallable show }
+{
+    match answer {
+        Ok(given) => show(given),
         Err(x) => show_refusal(rt, x),
     }
 }
 
-pub fn show_number(rt: &impl Print, n: Option<u32>) -> io::Result<()> {
+// The same of what may not be there.
+pub fn show_found<T, F: Fn(T) -> io::Result<()>>(
+    rt: &impl Print,
+    answer: Result<Option<T>, Refusal>,
+    show: F,
+) -> io::Result<()>
+    requires { F.IsAlwaysCallable show }
+{
+    match answer {
+        Ok(Some(found)) => show(found),
+        Ok(None) => rt.write_all(b"nothing"),
+        Err(x) => show_refusal(rt, x),
+    }
+}
+
+// A number behind some words, or other words where there is none.
+pub fn show_or<N: Display + Drop>(
+    rt: &impl Print,
+    before: &[u8],
+    n: Option<N>,
+    none: &[u8],
+) -> io::Result<()> {
     match n {
-        Some(v) => print!(rt; "{v}"),
-        None => show(rt, b"unreadable"),
+        Some(n) => {
+            rt.write_all(before)?;
+            print!(rt; "{n}")
+        }
+        None => rt.write_all(none),
     }
 }
 
-// Kept (4): the sheet's words for an answer of a library.
+pub fn show_check(rt: &impl Print, c: Result<(), Refusal>) -> io::Result<()> {
+    show_given(rt, c, |_| rt.write_all(b"taken"))
+}
+
 pub fn show_lookup(rt: &impl Print, s: &[u8], l: Result<Option<Span>, Refusal>) -> io::Result<()> {
-    match l {
-        Ok(Some(part)) => show_part(rt, s, part),
-        Ok(None) => show(rt, b"nothing"),
-        Err(x) => show_refusal(rt, x),
-    }
+    show_found(rt, l, |part| show_part(rt, s, part))
 }
 
 // One of several texts, in brackets, or how they end.
@@ -147,11 +178,11 @@ pub fn show_next(
     match n {
         Ok(Some((part, next))) => {
             show_bracketed(rt, s, part)?;
-            show(rt, b" ")?;
+            rt.write_all(b" ")?;
             Ok(Some(next))
         }
         Ok(None) => {
-            show(rt, b"nothing")?;
+            rt.write_all(b"nothing")?;
             Ok(None)
         }
         Err(x) => {
@@ -165,9 +196,9 @@ pub fn show_id(rt: &impl Print, block: &[u8], id: Result<DialogId, Refusal>) -> 
     match id {
         Ok(d) => {
             show_part(rt, block, d.call_id)?;
-            show(rt, b", local ")?;
+            rt.write_all(b", local ")?;
             show_part(rt, block, d.local_tag)?;
-            show(rt, b", remote ")?;
+            rt.write_all(b", remote ")?;
             show_part(rt, block, d.remote_tag)
         }
         Err(x) => show_refusal(rt, x),
@@ -178,40 +209,29 @@ pub fn show_uri(rt: &impl Print, s: &[u8], u: Result<SipUri, Refusal>) -> io::Re
     match u {
         Ok(parts) => {
             if parts.secure {
-                show(rt, b"sips, ")?;
+                rt.write_all(b"sips, ")?;
             } else {
-                show(rt, b"sip, ")?;
+                rt.write_all(b"sip, ")?;
             }
             let user = parts.user;
             match user {
                 Some(part) => {
-                    show(rt, b"user ")?;
+                    rt.write_all(b"user ")?;
                     show_part(rt, s, part)?;
                 }
-                None => show(rt, b"no user")?,
+                None => rt.write_all(b"no user")?,
             }
-            show(rt, b", host ")?;
+            rt.write_all(b", host ")?;
             show_part(rt, s, parts.host)?;
-            let port = parts.port;
-            show_port(rt, port)
+            show_or(rt, b", port ", parts.port, b", no port")
         }
         Err(x) => show_refusal(rt, x),
     }
 }
 
-fn show_port(rt: &impl Print, p: Option<u16>) -> io::Result<()> {
-    match p {
-        Some(n) => print!(rt; ", port {n}"),
-        None => show(rt, b", no port"),
-    }
-}
-
 // A number, or why there is none.
 pub fn show_answer<N: Display + Drop>(rt: &impl Print, n: Result<N, Refusal>) -> io::Result<()> {
-    match n {
-        Ok(n) => print!(rt; "{n}"),
-        Err(x) => show_refusal(rt, x),
-    }
+    show_given(rt, n, |n| print!(rt; "{n}"))
 }
 
 pub fn show_expires(
@@ -223,7 +243,7 @@ pub fn show_expires(
             print!(rt; "{seconds}")?;
             show_refresher(rt, refresher)
         }
-        Ok(None) => show(rt, b"nothing"),
+        Ok(None) => rt.write_all(b"nothing"),
         Err(x) => show_refusal(rt, x),
     }
 }
@@ -231,9 +251,9 @@ pub fn show_expires(
 // Kept (4): the sheet's words for a type of a library.
 fn show_refresher(rt: &impl Print, r: Option<Refresher>) -> io::Result<()> {
     match r {
-        Some(Refresher::Uac) => show(rt, b", uac"),
-        Some(Refresher::Uas) => show(rt, b", uas"),
-        None => show(rt, b", no refresher"),
+        Some(Refresher::Uac) => rt.write_all(b", uac"),
+        Some(Refresher::Uas) => rt.write_all(b", uas"),
+        None => rt.write_all(b", no refresher"),
     }
 }
 
@@ -253,17 +273,11 @@ pub fn show_time(rt: &impl Print, nanos: u64) -> io::Result<()> {
 pub fn show_interval(rt: &impl Print, i: Result<u64, Refusal>) -> io::Result<()> {
     match i {
         Ok(nanos) => show_time(rt, nanos),
-        Err(x) => {
-            show_refusal(rt, x)?;
-            if let Refusal::SessionExpiresTooSmall(least) = x {
-                show(rt, b" with ")?;
-                show_time(rt, least)?;
-            }
-            Ok(())
-        }
+        Err(x) => show_least(rt, x, |least| show_time(rt, least)),
     }
 }
 
+// Kept (4): the sheet's words for an answer of a library.
 pub fn show_checked(rt: &impl Print, c: Result<u32, Refusal>) -> io::Result<()> {
     match c {
         Ok(seconds) => show_seconds(rt, seconds as u64),
@@ -273,43 +287,39 @@ pub fn show_checked(rt: &impl Print, c: Result<u32, Refusal>) -> io::Result<()> 
 
 // The number of a refusal, and the least seconds where it names some.
 pub fn show_cause(rt: &impl Print, x: Refusal) -> io::Result<()> {
+    show_least(rt, x, |least| show_seconds(rt, least))
+}
+
+// The number of a refusal, and the least, as `show` shows it, where it names one.
+fn show_least<F: Fn(u64) -> io::Result<()>>(rt: &impl Print, x: Refusal, show: F) -> io::Result<()>
+    requires { F.IsAlwaysCallable show }
+{
     show_refusal(rt, x)?;
     if let Refusal::SessionExpiresTooSmall(least) = x {
-        show(rt, b" with ")?;
-        show_seconds(rt, least)?;
+        rt.write_all(b" with ")?;
+        show(least)?;
     }
     Ok(())
 }
 
 // Yes or no, or why neither.
-// Kept (4): the sheet's words for an answer of a library.
 pub fn show_verdict(rt: &impl Print, b: Result<bool, Refusal>) -> io::Result<()> {
-    match b {
-        Ok(b) => show_yes(rt, b),
-        Err(x) => show_refusal(rt, x),
-    }
+    show_given(rt, b, |b| show_yes(rt, b))
 }
 
 pub fn show_method_number(rt: &impl Print, m: Result<Option<u8>, Refusal>) -> io::Result<()> {
-    match m {
-        Ok(Some(n)) => print!(rt; "{n}"),
-        Ok(None) => show(rt, b"nothing"),
-        Err(x) => show_refusal(rt, x),
-    }
+    show_found(rt, m, |n| print!(rt; "{n}"))
 }
 
 pub fn show_rack(rt: &impl Print, r: Result<RAck, Refusal>) -> io::Result<()> {
-    match r {
-        Ok(rack) => print!(rt; "{} {} {}", rack.rseq, rack.cseq, rack.method),
-        Err(x) => show_refusal(rt, x),
-    }
+    show_given(
+        rt,
+        r,
+        |rack| print!(rt; "{} {} {}", rack.rseq, rack.cseq, rack.method),
+    )
 }
 
 // What was written at the front of the lent bytes.
-// Kept (4): the sheet's words for an answer of a library.
 pub fn show_written(rt: &impl Print, out: &[u8], w: Result<usize, Refusal>) -> io::Result<()> {
-    match w {
-        Ok(n) => show_text(rt, out.get(..n)),
-        Err(x) => show_refusal(rt, x),
-    }
+    show_given(rt, w, |n| show_text(rt, out.get(..n)))
 }

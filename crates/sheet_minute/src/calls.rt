@@ -1,7 +1,7 @@
 // Each call on a run of verdicts, and its line.
 use c_answers::check_number;
 use limits::Refusal;
-use sheet_lines::{Held, show, show_refusal};
+use sheet_lines::{Held, show_refusal};
 use std::io;
 
 // A verdict, and what was answered.
@@ -38,10 +38,10 @@ pub fn add_many<const N: usize>(
 
 // The worst minute.
 pub fn worst<const N: usize>(rt: &impl Print, run: &Held<N>) -> io::Result<()> {
-    show(rt, b"worst_minute: ")?;
+    rt.write_all(b"worst_minute: ")?;
     match worst_minute::worst_minute(&run.bytes, run.used) {
         Ok(Some((n, start))) => print!(rt; "{n} from {start}")?,
-        Ok(None) => show(rt, b"0")?,
+        Ok(None) => rt.write_all(b"0")?,
         Err(x) => show_refusal(rt, x)?,
     }
     run.end(rt)

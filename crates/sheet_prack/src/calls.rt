@@ -1,26 +1,28 @@
 // Each call on a PRACK store, and its line.
+ghost use Rattle.std.specs.Prelude.{◌≡◌};
+
 use prack_list::Provisional;
-use sheet_lines::{
-    Held, end_line, show, show_block, show_rack, show_refusal, show_time, show_verdict,
-};
+use sheet_lines::{Held, end_line, show_block, show_rack, show_refusal, show_time, show_verdict};
 use std::io;
 
+// The number of the method INVITE.
+const INVITE: u8 = 1;
+
 // The beginning of a line: where the example stands, the call, and the dialog.
-// Kept (5): the place is a word of the line that is printed; a struct of it and `rt` would be made anew for each line.
 pub fn begin(rt: &impl Print, place: &[u8], call: &[u8], id: &[u8]) -> io::Result<()> {
-    show(rt, place)?;
-    show(rt, b"  ")?;
-    show(rt, call)?;
-    show(rt, b" ")?;
-    show(rt, id)
+    sheet_lines::begin(rt, place, call)?;
+    rt.write_all(b" ")?;
+    rt.write_all(id)
 }
 
 // A response to an INVITE.
-pub fn invited(rseq: u32, cseq: u32, code: u16, time: u64) -> Provisional {
+pub fn invited(rseq: u32, cseq: u32, code: u16, time: u64) -> Provisional
+    ensures { result ≡ record { rseq = rseq; cseq = cseq; method = 1; code = code; time = time } }
+{
     Provisional {
         rseq,
         cseq,
-        method: 1,
+        method: INVITE,
         code,
         time,
     }
@@ -53,7 +55,7 @@ pub fn validate<const N: usize>(
     store: &mut Held<N>,
 ) -> io::Result<()> {
     begin(rt, place, b"validate", id)?;
-    show(rt, b", {")?;
+    rt.write_all(b", {")?;
     show_block(rt, block)?;
     show_moment(rt, b"}, at ", time)?;
     let used = store.used;
@@ -120,15 +122,15 @@ pub fn remove_dialog<const N: usize>(
     store: &mut Held<N>,
 ) -> io::Result<()> {
     begin(rt, place, b"remove_dialog", id)?;
-    show(rt, b": ")?;
+    rt.write_all(b": ")?;
     let answer = prack_removal::remove_dialog(id, &mut store.bytes, store.used);
     store.changed(rt, answer)
 }
 
 fn show_moment(rt: &impl Print, before: &[u8], time: u64) -> io::Result<()> {
-    show(rt, before)?;
+    rt.write_all(before)?;
     show_time(rt, time)?;
-    show(rt, b": ")
+    rt.write_all(b": ")
 }
 
 // What `get_pending` wrote: six bytes for each response.

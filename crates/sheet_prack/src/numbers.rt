@@ -38,7 +38,6 @@ fn dialog(local_tag: &[u8]) -> IdTexts<'_> {
     }
 }
 
-// Kept (5): the place is a word of the line that is printed; a struct of it and `rt` would be made anew for each line.
 fn next(
     rt: &impl Print,
     place: &[u8],

@@ -1,5 +1,5 @@
 // Who sets the interval: what a callee can force, for offers on both sides of every bound. Times are seconds.
-use sheet_lines::{end_line, show, show_cause, show_seconds, show_yes};
+use sheet_lines::{end_line, show_cause, show_seconds, show_yes};
 use std::io;
 
 const LARGEST: u64 = u64::MAX;
@@ -48,20 +48,20 @@ fn most_bounds(rt: &impl Print) -> io::Result<()> {
 }
 
 fn contest(rt: &impl Print, requested: u64, min_se: u64) -> io::Result<()> {
-    show(rt, b"02 request 12  offer of ")?;
+    rt.write_all(b"02 request 12  offer of ")?;
     show_seconds(rt, requested)?;
-    show(rt, b", Min-SE ")?;
+    rt.write_all(b", Min-SE ")?;
     show_seconds(rt, min_se)?;
-    show(rt, b": ")?;
+    rt.write_all(b": ")?;
     match interval_contest::interval_contest(requested, min_se) {
         Ok(c) => {
             let first = c.first;
             let retry = c.retry;
-            show(rt, b"first ")?;
+            rt.write_all(b"first ")?;
             show_forced(rt, first)?;
-            show(rt, b"; retry ")?;
+            rt.write_all(b"; retry ")?;
             show_forced(rt, retry)?;
-            show(rt, b"; only the request or 13: ")?;
+            rt.write_all(b"; only the request or 13: ")?;
             show_yes(rt, c.only_requested)?;
         }
         Err(x) => show_cause(rt, x)?,
@@ -73,9 +73,9 @@ fn show_forced(rt: &impl Print, f: Option<(u64, u64)>) -> io::Result<()> {
     match f {
         Some((least, most)) => {
             show_seconds(rt, least)?;
-            show(rt, b" to ")?;
+            rt.write_all(b" to ")?;
             show_seconds(rt, most)
         }
-        None => show(rt, b"none"),
+        None => rt.write_all(b"none"),
     }
 }

@@ -24,7 +24,7 @@ pub fn expires(rt: &impl Print) -> io::Result<()> {
     value(rt, rule, b";refresher=uac")
 }
 
-// Kept (5): the place is a word of the line that is printed; a struct of it and `rt` would be made anew for each line.
+// Kept (2): `block` and `minimum` ask, show and end a line too, as each line of a sheet; what they ask and how they show it is other.
 fn value(rt: &impl Print, place: &[u8], v: &[u8]) -> io::Result<()> {
     ask(rt, place, b"Session-Expires ", v)?;
     show_expires(rt, headers::parse_session_expires(v))?;

@@ -1,10 +1,9 @@
 // Session intervals: refresh, expiry, the minimum, negotiation, and who refreshes. Times are given here in seconds.
 use sheet_lines::{
-    end_line, show, show_checked, show_interval, show_seconds, show_time, show_verdict, show_yes,
+    NANOS_PER_SECOND, begin, end_line, show_checked, show_interval, show_seconds, show_time,
+    show_verdict, show_yes,
 };
 use std::io;
-
-const SECOND: u64 = 1000000000;
 
 pub fn intervals(rt: &impl Print) -> io::Result<()> {
     refreshes(rt)?;
@@ -82,25 +81,20 @@ fn roles(rt: &impl Print) -> io::Result<()> {
     role(rt, rule, None, false)
 }
 
-// Kept (5): the place is a word of the line that is printed; a struct of it and `rt` would be made anew for each line.
 fn due(rt: &impl Print, place: &[u8], interval: Option<u32>, elapsed: u64) -> io::Result<()> {
-    show(rt, place)?;
-    show(rt, b"  refresh due, interval ")?;
+    begin(rt, place, b"refresh due, interval ")?;
     match interval {
-        Some(n) => {
-            show_seconds(rt, n as u64)?;
-        }
-        None => {
-            show(rt, b"none")?;
-        }
+        Some(n) => show_seconds(rt, n as u64)?,
+        None => rt.write_all(b"none")?,
     }
-    show(rt, b", after ")?;
+    rt.write_all(b", after ")?;
     show_time(rt, elapsed)?;
-    show(rt, b": ")?;
+    rt.write_all(b": ")?;
     show_yes(rt, session_timer_manager::needs_refresh(interval, elapsed))?;
     end_line(rt)
 }
 
+// Kept (2): `expiry` differs in its words and in the function that is called, which each of its calls would give.
 fn half(rt: &impl Print, place: &[u8], interval: u32) -> io::Result<()> {
     ask_seconds(rt, place, b"refresh time of ", interval)?;
     show_time(
@@ -120,12 +114,11 @@ fn expiry(rt: &impl Print, place: &[u8], interval: u32) -> io::Result<()> {
 }
 
 fn validate(rt: &impl Print, place: &[u8], interval: u32, minimum: Option<u64>) -> io::Result<()> {
-    show(rt, place)?;
-    show(rt, b"  validate ")?;
+    begin(rt, place, b"validate ")?;
     show_seconds(rt, interval as u64)?;
-    show(rt, b", minimum ")?;
+    rt.write_all(b", minimum ")?;
     show_optional(rt, minimum)?;
-    show(rt, b": ")?;
+    rt.write_all(b": ")?;
     show_interval(
         rt,
         session_timer_manager::validate_session_expires(nanos(interval), minimum),
@@ -134,10 +127,9 @@ fn validate(rt: &impl Print, place: &[u8], interval: u32, minimum: Option<u64>) 
 }
 
 fn checked(rt: &impl Print, place: &[u8], interval: u64) -> io::Result<()> {
-    show(rt, place)?;
-    show(rt, b"  set ")?;
+    begin(rt, place, b"set ")?;
     show_seconds(rt, interval)?;
-    show(rt, b": ")?;
+    rt.write_all(b": ")?;
     show_checked(rt, session_seconds::check_expires_seconds(interval))?;
     end_line(rt)
 }
@@ -150,16 +142,15 @@ fn negotiate(
     remote_min: Option<u64>,
     preference: Option<u64>,
 ) -> io::Result<()> {
-    show(rt, place)?;
-    show(rt, b"  negotiate ")?;
+    begin(rt, place, b"negotiate ")?;
     show_seconds(rt, requested as u64)?;
-    show(rt, b", minima ")?;
+    rt.write_all(b", minima ")?;
     show_seconds(rt, local_min as u64)?;
-    show(rt, b" and ")?;
+    rt.write_all(b" and ")?;
     show_optional(rt, remote_min)?;
-    show(rt, b", preference ")?;
+    rt.write_all(b", preference ")?;
     show_optional(rt, preference)?;
-    show(rt, b": ")?;
+    rt.write_all(b": ")?;
     show_interval(
         rt,
         session_timer_manager::negotiate_session_expires(
@@ -173,13 +164,12 @@ fn negotiate(
 }
 
 fn role(rt: &impl Print, place: &[u8], param: Option<&[u8]>, is_uac: bool) -> io::Result<()> {
-    show(rt, place)?;
-    show(rt, b"  we refresh, refresher ")?;
-    show(rt, param.unwrap_or(b"none"))?;
+    begin(rt, place, b"we refresh, refresher ")?;
+    rt.write_all(param.unwrap_or(b"none"))?;
     if is_uac {
-        show(rt, b", we are uac: ")?;
+        rt.write_all(b", we are uac: ")?;
     } else {
-        show(rt, b", we are uas: ")?;
+        rt.write_all(b", we are uas: ")?;
     }
     show_verdict(
         rt,
@@ -189,18 +179,16 @@ fn role(rt: &impl Print, place: &[u8], param: Option<&[u8]>, is_uac: bool) -> io
 }
 
 fn ask_seconds(rt: &impl Print, place: &[u8], question: &[u8], interval: u32) -> io::Result<()> {
-    show(rt, place)?;
-    show(rt, b"  ")?;
-    show(rt, question)?;
+    begin(rt, place, question)?;
     show_seconds(rt, interval as u64)?;
-    show(rt, b": ")
+    rt.write_all(b": ")
 }
 
 // Kept (4): the sheet's words for a time that may be absent.
 fn show_optional(rt: &impl Print, t: Option<u64>) -> io::Result<()> {
     match t {
         Some(n) => show_time(rt, n),
-        None => show(rt, b"none"),
+        None => rt.write_all(b"none"),
     }
 }
 
@@ -209,5 +197,5 @@ fn seconds(n: u32) -> Option<u64> {
 }
 
 fn nanos(n: u32) -> u64 {
-    (n as u64) * SECOND
+    (n as u64) * NANOS_PER_SECOND
 }

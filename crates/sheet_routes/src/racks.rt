@@ -1,6 +1,6 @@
 // Methods by number, RSeq, reliable provisional responses, and RAck read and written.
 use sheet_lines::{
-    ask, ask_block, ask_number, end_line, show, show_answer, show_block, show_method_number,
+    ask, ask_block, ask_number, begin, end_line, show_answer, show_block, show_method_number,
     show_rack, show_verdict, show_written,
 };
 use std::io;
@@ -89,7 +89,6 @@ fn writings(rt: &impl Print) -> io::Result<()> {
     written(rt, row, 776656, 1, 15)
 }
 
-// Kept (5): the place is a word of the line that is printed; a struct of it and `rt` would be made anew for each line.
 fn method(rt: &impl Print, place: &[u8], s: &[u8]) -> io::Result<()> {
     ask(rt, place, b"number of ", s)?;
     show_method_number(rt, methods::method_number(s))?;
@@ -99,6 +98,7 @@ fn method(rt: &impl Print, place: &[u8], s: &[u8]) -> io::Result<()> {
 // Kept (1): the line shows a number, and two of them are no method's.
 fn name(rt: &impl Print, place: &[u8], number: u8) -> io::Result<()> {
     ask_number(rt, place, b"method ", number as u64)?;
+    // Kept (6): README's rule: no heap. So the text goes into an array, and the answer says how long it is.
     let mut out = [0u8; 16];
     let w = methods::method_text(number, &mut out);
     show_written(rt, &out, w)?;
@@ -112,10 +112,10 @@ fn rseq(rt: &impl Print, place: &[u8], block: &[u8]) -> io::Result<()> {
 }
 
 fn reliable(rt: &impl Print, place: &[u8], status: u16, block: &[u8]) -> io::Result<()> {
-    show(rt, place)?;
-    print!(rt; "  reliable, {status} of {{")?;
+    begin(rt, place, b"reliable, ")?;
+    print!(rt; "{status} of {{")?;
     show_block(rt, block)?;
-    show(rt, b"}: ")?;
+    rt.write_all(b"}: ")?;
     show_verdict(rt, prack_headers::is_reliable_provisional(status, block))?;
     end_line(rt)
 }
@@ -128,8 +128,9 @@ fn rack(rt: &impl Print, place: &[u8], value: &[u8]) -> io::Result<()> {
 
 // Kept (1): the line shows a number, and two of them are no method's.
 fn written(rt: &impl Print, place: &[u8], rseq: u32, cseq: u32, method: u8) -> io::Result<()> {
-    show(rt, place)?;
-    print!(rt; "  RAck of {rseq}, {cseq} and method {method}: ")?;
+    begin(rt, place, b"RAck of ")?;
+    print!(rt; "{rseq}, {cseq} and method {method}: ")?;
+    // Kept (6): README's rule: no heap. So the text goes into an array, and the answer says how long it is.
     let mut out = [0u8; 40];
     let w = rack::format_rack(rseq, cseq, method, &mut out);
     show_written(rt, &out, w)?;

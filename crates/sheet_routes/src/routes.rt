@@ -1,5 +1,5 @@
 // Contact and Record-Route: the remote target, and the route set as received and reversed.
-use sheet_lines::{ask_block, end_line, show, show_answer, show_bracketed, show_lookup};
+use sheet_lines::{ask_block, end_line, show_answer, show_bracketed, show_lookup};
 use std::io;
 
 // No example has more.
@@ -128,7 +128,7 @@ fn fields(rt: &impl Print) -> io::Result<()> {
     contact(rt, after_20_10, b"Contact: *\r\n")
 }
 
-// Kept (5): the place is a word of the line that is printed; a struct of it and `rt` would be made anew for each line.
+// Kept (2): `received` and `reversed` ask, show and end a line too, as each line of a sheet; what they ask and how they show it is other.
 fn contact(rt: &impl Print, place: &[u8], block: &[u8]) -> io::Result<()> {
     ask_block(rt, place, b"Contact", block)?;
     show_lookup(rt, block, route_set::read_contact(block))?;
@@ -141,6 +141,7 @@ fn received(rt: &impl Print, place: &[u8], block: &[u8]) -> io::Result<()> {
     end_line(rt)
 }
 
+// Kept (2): `received` differs in a word and a flag, which each of its calls would give.
 fn reversed(rt: &impl Print, place: &[u8], block: &[u8]) -> io::Result<()> {
     ask_block(rt, place, b"routes, reversed,", block)?;
     show_routes(rt, block, true)?;
@@ -154,7 +155,7 @@ fn show_routes(rt: &impl Print, block: &[u8], reversed: bool) -> io::Result<()> 
         let Ok(Some(part)) = route_set::route(block, reversed, i) else {
             break;
         };
-        show(rt, b" ")?;
+        rt.write_all(b" ")?;
         show_bracketed(rt, block, part)?;
     }
     Ok(())

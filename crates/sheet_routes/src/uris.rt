@@ -151,7 +151,7 @@ fn values(rt: &impl Print) -> io::Result<()> {
     value(rt, b"01 Contact", b"<sip:p@h")
 }
 
-// Kept (5): the place is a word of the line that is printed; a struct of it and `rt` would be made anew for each line.
+// Kept (2): `estimate`, `host_of` and `value` ask, show and end a line too, as each line of a sheet; what they ask or show is other.
 fn given(rt: &impl Print, place: &[u8], s: &[u8]) -> io::Result<()> {
     ask(rt, place, b"URI ", s)?;
     show_uri(rt, s, uri::sip_uri(s))?;

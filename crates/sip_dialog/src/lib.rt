@@ -1,4 +1,5 @@
 // The C face: functions on numbers and byte runs. Nothing but calls, and answers handed over.
+// Kept (1, 2, 5, 6): the header gives each function of this crate its name, parameters and answer, and each has a clause of its own.
 #![tactic(auto)]
 
 pub mod blocks;

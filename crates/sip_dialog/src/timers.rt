@@ -11,6 +11,7 @@ ghost use Rattle.c_answers.specs.Given.{FlagGives, WithLeastGives, ValidatedGive
 use c_answers::{give_flag, give_validated, give_with_least};
 
 // An interval in nanoseconds against a minimum: 13 with the least.
+// Kept (1): the C header's parameters: a value that may be absent is given by a flag beside it; `then_some` makes an Option of it.
 pub fn sip_dialog_validate_session_expires(
     interval: u64,
     has_minimum: bool,
@@ -26,6 +27,7 @@ pub fn sip_dialog_validate_session_expires(
 }
 
 // The interval that both sides can accept, in nanoseconds: 13 with the least.
+// Kept (1): the C header's parameters: a value that may be absent is given by a flag beside it; `then_some` makes an Option of it.
 pub fn sip_dialog_negotiate_session_expires(
     requested: u64,
     local_minimum: u64,
@@ -65,6 +67,7 @@ pub fn sip_dialog_calculate_refresh_time(interval: u64) -> u64
 }
 
 // Whether a session of so many seconds is to be refreshed after a time in nanoseconds.
+// Kept (1): the C header's parameters: a value that may be absent is given by a flag beside it; `then_some` makes an Option of it.
 pub fn sip_dialog_needs_refresh(has_interval: bool, seconds: u32, elapsed: u64) -> bool
     ensures { result ≡ refresh_due (seconds_of (then_some has_interval seconds)) elapsed }
 {
@@ -72,6 +75,7 @@ pub fn sip_dialog_needs_refresh(has_interval: bool, seconds: u32, elapsed: u64) 
 }
 
 // Whether we refresh: 1.
+// Kept (1): the C header's parameters: a value that may be absent is given by a flag beside it; `then_some` makes an Option of it.
 pub fn sip_dialog_determine_refresher_role(
     given: bool,
     text: &[u8],

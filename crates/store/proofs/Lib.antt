@@ -1,6 +1,5 @@
 pub mod AnswerLaws
 pub mod CountLaws
 pub mod HeldLaws
-pub mod IdLaws
 pub mod TableLaws
 pub mod WalkLaws

@@ -20,18 +20,17 @@ const SMALL_STORE: usize = 4096;
 const MIDDLE_STORE: usize = 65536;
 
 // DialogManager::count, of lent bytes of which so many are used: 3.
-// Kept (5, 6): a C caller lends bytes and says how many are used.
+// Kept (5, 6): C says how many of the lent bytes are used, perhaps too many: 3, in its turn among the causes; so both are taken as given.
+// Kept (2): `bytes.get(..used).ok_or(Refusal::BadStore)?` stands in other calls too: a function of it would be this line, with a clause of two cases.
 pub fn count(bytes: &[u8], used: usize) -> Result<usize, Refusal>
     ensures { result ≡ count_answer (records_held bytes.now used) }
 {
-    if bytes.len() < used {
-        return Err(Refusal::BadStore);
-    }
-    read_store(&bytes[..used]).ok_or(Refusal::BadStore)
+    let held = bytes.get(..used).ok_or(Refusal::BadStore)?;
+    read_store(held).ok_or(Refusal::BadStore)
 }
 
 // The used bytes of a lent store: 3.
-// Kept (5, 6): a C caller lends bytes and says how many are used.
+// Kept (5, 6): C says how many of the lent bytes are used, perhaps too many: 3, in its turn among the causes; so both are taken as given.
 pub fn read<'a>(bytes: &'a [u8], used: usize) -> Result<Held<'a>, Refusal>
     ensures { ReadAs bytes.now used result }
 {
@@ -65,7 +64,7 @@ fn read_in<const N: usize>(bytes: &[u8]) -> Option<usize>
 }
 
 // The same, with tables for the places of the records; a store with more records than they hold is compared pair by pair.
-// Kept (5): no heap: the caller lends both tables.
+// Kept (5, 6): no heap: the caller lends both tables; a struct of the two would be made for this call, and anew where both are cut to the count.
 fn read_with(bytes: &[u8], places: &mut [usize], scratch: &mut [usize]) -> Option<usize>
     requires { length scratch.old ≡ length places.old }
     ensures { result ≡ store_from (decode_all bytes.now) }
@@ -80,15 +79,15 @@ fn read_with(bytes: &[u8], places: &mut [usize], scratch: &mut [usize]) -> Optio
 }
 
 // The records from the front to the end, identifiers not compared; the places of as many as the table holds.
-// Kept (5): no heap: the caller lends the table.
+// Kept (5, 6): no heap: the caller lends the table, which may hold fewer places than there are records, so that the count is answered beside it.
 fn read_records(bytes: &[u8], places: &mut [usize]) -> Option<usize>
     ensures value { result ≡ store_from (whole_records bytes.now) }
     ensures tabled { Tabled bytes.now places.new }
 {
     let mut at = 0;
     let mut count = 0;
-    // Kept (3): `?` hands on the first bytes that are no record. An iterator of records would end there as at the end of the bytes, and leave it to
-    // be asked behind the loop which it was; of an iterator of `Option`, one loop reads so: a struct, a relation and its words for it alone.
+    // Kept (3): `?` hands on the first bytes that are no record. A walk, as `listing_text::Walk` is, ends there as it ends behind the last record:
+    // `at` would be kept beside it all the same, for the table, and held against the length after it.
     while at < bytes.len() {
         let r = image::read_record(bytes, at)?;
         if count < places.len() {

@@ -8,13 +8,13 @@ use lib.ListN.{length, take, drop, length-append, length-drop}
 use lib.Seq.{length-take-le}
 use lib.Dec.{ltb}
 use borrow.Author.Tests.{ltb-true, ltb-false}
+use Rattle.std.proofs.lemmas.Bool.{and_parts}
 use Rattle.std.specs.Prelude.{Err, None, Ok, Option, Result, Some}
 use Rattle.limits.specs.Limits.{LimitSet}
 use Rattle.limits.specs.Outcome.{refuse_if, or_refuse}
 use Rattle.limits.specs.declared.Refusal.{Refusal}
 use Rattle.limits.specs.declared.Refusal.TheVariants.{BadStore, NotFound}
 use Rattle.edit.specs.Edit.{over, spliced}
-use Rattle.text.proofs.Sames.{both}
 use Rattle.codec.specs.Codec.{write_all}
 use Rattle.record.specs.Record.{Record, image}
 use Rattle.record.specs.Store.{same_id, lacks, distinct, decode_all}
@@ -79,8 +79,8 @@ lacks_find r (x ∷ b) h = by (same_id x r) refl h (lacks_find r b)
 -- none behind the first
 behind : (front : Book) (r : Record) (back : Book) → distinct (front ++ (r ∷ back)) ≡ true → find (ident_of r) back ≡ None
 unfolding distinct
-behind [] r back h = lacks_find r back (both (lacks back r) (distinct back) h).0
-behind (x ∷ front) r back h = behind front r back (both (lacks (front ++ (r ∷ back)) x) (distinct (front ++ (r ∷ back))) h).1
+behind [] r back h = lacks_find r back (and_parts (lacks back r) (distinct back) h).0
+behind (x ∷ front) r back h = behind front r back (and_parts (lacks (front ++ (r ∷ back)) x) (distinct (front ++ (r ∷ back))) h).1
 
 -- ---- the place of a record, and the record
 

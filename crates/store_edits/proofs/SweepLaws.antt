@@ -4,8 +4,8 @@ use native.Mathlib.Omega.{arith}
 use mathlib.Core.Path.{◌≡◌, refl, sym, ap, ap₂, subst, ◌∙◌}
 use mathlib.Core.Bool.{Bool, true, false, cond, not}
 use mathlib.Core.List.{List, [], ◌∷◌, ◌++◌, append_assoc, append-nil}
-use lib.ListN.{length, take, drop, length-append, length-drop}
-use lib.Seq.{take-append_seam, drop-append-add, drop-drop}
+use lib.ListN.{length, take, drop, length-append, length-drop, take-append-drop}
+use lib.Seq.{take-append_seam, drop-append-le, drop-append-add, drop-drop}
 use Rattle.std.specs.Prelude.{Err, Ok}
 use Rattle.limits.specs.Limits.{LimitSet}
 use Rattle.limits.specs.declared.Refusal.{Refusal}
@@ -130,6 +130,18 @@ module _ (s : List ℕ) (used : ℕ) (bytes : List ℕ) (at to : ℕ) (g : Closi
   -- no byte more or less
   pub same_long : length bytes ≡ length s
   same_long = ap length g.are ∙ omega (arith, length-append g.front (drop (length g.front) s), length-drop (length g.front) s, g.to_is, g.below, g.ahead.left, g.within)
+
+-- bytes are left
+pub more : (s bytes : List ℕ) (at to : ℕ) → Closing s (length s) bytes at to → at < length bytes → at < length s
+more s bytes at to g h = omega (arith, same_long s (length s) bytes at to g, h)
+
+-- the front of the lent bytes, swept; those behind it stay
+pub swept_front : (s : List ℕ) (used : ℕ) (t : List ℕ) {after : List ℕ} → used ≤ length s → after ≡ over t (take used s) → length after ≡ length (take used s) → after ++ drop used s ≡ over t s
+swept_front s used t {after} h e l =
+    let f : List ℕ = take used s in
+    let n : length t ≤ length f = omega (arith, sym l ∙ ap length e, length-append t (drop (length t) f), length-drop (length t) f) in
+    ap (λ (x : List ℕ). x ++ drop used s) e ∙ append_assoc t (drop (length t) f) (drop used s)
+    ∙ ap (λ (x : List ℕ). t ++ x) (sym (drop-append-le (length t) f (drop used s) n) ∙ ap (drop (length t)) (take-append-drop used s))
 
 -- ---- the whole call
 

@@ -9,7 +9,7 @@ use dialog_id::IdTexts;
 use limits::Refusal;
 
 // DialogManager::remove: 1, 3, 15. The bytes behind the record move over it.
-// Kept (5, 6): a C caller lends bytes and says how many are used.
+// Kept (5, 6): C says how many of the lent bytes are used, perhaps too many: 3, in its turn among the causes; so both are taken as given.
 pub fn remove(id: IdTexts<'_>, bytes: &mut [u8], used: usize) -> Result<usize, Refusal>
     ensures value { result ≡ written_in (run rust_limits (removing (length bytes.old) id.entry.call_id.now id.entry.local_tag.now id.entry.remote_tag.now) bytes.old used) }
     ensures bytes_after { bytes.new ≡ (run rust_limits (removing (length bytes.old) id.entry.call_id.now id.entry.local_tag.now id.entry.remote_tag.now) bytes.old used).bytes }

@@ -1,5 +1,5 @@
 // All Terminated records taken out of a store.
-ghost use Rattle.std.specs.Prelude.{◌≡◌, ◌≤◌, length, take};
+ghost use Rattle.std.specs.Prelude.{◌≡◌, length};
 ghost use Rattle.limits.specs.Limits.{rust_limits};
 ghost use Rattle.edit.specs.Edit.{over};
 ghost use Rattle.record_walk.specs.Walk.{At};
@@ -14,27 +14,25 @@ use record::State;
 use record_walk::{ids_end, record_end};
 
 // DialogManager::cleanup_terminated: 3. The records that stay keep their order.
-// Kept (5, 6): a C caller lends bytes and says how many are used.
+// Kept (5, 6): C says how many of the lent bytes are used, perhaps too many: 3, in its turn among the causes; so both are taken as given.
 pub fn sweep(bytes: &mut [u8], used: usize) -> Result<usize, Refusal>
     ensures value { result ≡ written_in (run rust_limits (sweeping (length bytes.old)) bytes.old used) }
     ensures bytes_after { bytes.new ≡ (run rust_limits (sweeping (length bytes.old)) bytes.old used).bytes }
 {
     store::count(bytes, used)?;
-    Ok(close_up(bytes, used))
+    Ok(close_up(&mut bytes[..used]))
 }
 
-// Each record that stays moved down to the end of those before it. The new used length.
-// Kept (5, 6): bytes are written, and those past the used ones stay what they were.
-fn close_up(bytes: &mut [u8], used: usize) -> usize
-    requires used_in_bounds { used ≤ length bytes.old }
-    requires stored { Stored (take used bytes.old) }
-    ensures value { result ≡ length (living_in (decode_all (take used bytes.old))) }
-    ensures bytes_after { bytes.new ≡ over (living_in (decode_all (take used bytes.old))) bytes.old }
+// Of the used bytes: each record that stays moved down to the end of those before it. The new used length.
+fn close_up(bytes: &mut [u8]) -> usize
+    requires { Stored bytes.old }
+    ensures value { result ≡ length (living_in (decode_all bytes.old)) }
+    ensures bytes_after { bytes.new ≡ over (living_in (decode_all bytes.old)) bytes.old }
 {
     let mut at = 0;
     let mut to = 0;
     // Kept (3): the bytes are written as they are walked, so that no iterator can hold them.
-    while at < used {
+    while at < bytes.len() {
         let end = record_end(bytes, at);
         if !is_terminated(bytes, at) {
             let n = end - at;
@@ -47,7 +45,8 @@ fn close_up(bytes: &mut [u8], used: usize) -> usize
 }
 
 // The state byte of the record at a place stands behind its identifier; its low two bits tell the state.
-// Kept (5): bytes and a place apart: a slice in a struct does not say that its elements are bytes, which the laws of records ask.
+// Kept (5): the places are those of a walk or a table; a struct of bytes and place with `At` as its ghost field (as `Held` has `fit`)
+// would be made and proved anew at each of them.
 fn is_terminated(bytes: &[u8], at: usize) -> bool
     requires { At bytes.now at }
     ensures { TerminatedAt bytes.now at result }

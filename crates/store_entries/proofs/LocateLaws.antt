@@ -6,7 +6,6 @@ use mathlib.Core.Bool.{Bool, true, false}
 use mathlib.Core.List.{List}
 use lib.ListN.{length, take}
 use lib.Dec.{ltb}
-use lib.Seq.{length-take-le}
 use borrow.Author.Tests.{le-ltb}
 use Rattle.std.specs.Prelude.{Err, None, Ok, Option, Result, Some}
 use Rattle.limits.specs.Outcome.{refuse_if, and_then, or_refuse}
@@ -20,15 +19,11 @@ use Rattle.image_edit.specs.declared.RecordPlace.{RecordPlace}
 use Rattle.store.specs.Counting.{records_held, count_answer}
 use Rattle.dialog_id.specs.Ident.{Ident}
 use Rattle.book.specs.Book.{Book, is_of, first_place}
-use Rattle.dialog_manager.specs.Search.{Spot, first, found_of, found_in, Stands}
+use Rattle.dialog_manager.specs.Search.{Spot, first, found_of, found_in}
 use Rattle.dialog_manager.proofs.LookupLaws.{Kept, same_Err}
-use Rattle.store_entries.specs.Entries.{spot_in, spot_named, standing_of, Ready}
+use Rattle.store_entries.specs.Entries.{spot_in, spot_named, standing_of}
 
 module _ (bytes : List ℕ) (used : ℕ) where
-  -- the record that was found is read at its place
-  pub ready : Kept bytes used → (at : ℕ) (r : RecordAt) → Stands (take used bytes) (Some (at, r)) → Ready bytes (Ok (record { used = used; at = at; «record» = r }))
-  ready k at r w = (k.within, omega (arith, w.0, length-take-le used bytes k.within), w.1)
-
   -- no identifier is named
   pub nowhere_unread : {cause : Refusal} → count_answer (records_held bytes used) ≡ Err cause → Err cause ≡ standing_of used (spot_named None bytes used)
   unfolding records_held

@@ -12,7 +12,7 @@ use image_edit::RecordPlace;
 use limits::Refusal;
 
 // 3, 15.
-// Kept (5, 6): that the used length lies within the lent bytes is checked here, by `store::read`.
+// Kept (5, 6): it asks nothing of its callers: of a `store::Held`, by `read`, it would ask that the store was read.
 pub fn locate(bytes: &[u8], used: usize, id: IdTexts<'_>) -> Result<RecordPlace, Refusal>
     ensures value { result ≡ standing_of used (spot_in (ident_of id.entry) bytes.now used) }
     ensures ready { Ready bytes.now result }

@@ -27,7 +27,6 @@ use Rattle.record_walk.specs.Walk.{At, end_at}
 use Rattle.store.specs.Counting.{records_held, count_answer}
 use Rattle.store.specs.Identifiers.{IdsRead}
 use Rattle.text.specs.Spans.{part_in}
-use Rattle.dialog_id.specs.Ident.{Ident}
 use Rattle.dialog_id.specs.IdTexts.{ident_in}
 use Rattle.book.specs.Calls.{all_ids, read, written}
 use Rattle.record.specs.Store.{decode_all}
@@ -36,7 +35,7 @@ use Rattle.book.specs.Store.{run}
 use Rattle.dialog_manager.specs.Search.{Stored, IdsWithin}
 use Rattle.dialog_manager.proofs.SearchLaws.{Turn, standing, its_end, ids_within}
 use Rattle.dialog_manager.proofs.LookupLaws.{Kept, store_refuses, replies}
-use Rattle.store_ids.specs.Identifiers.{ids_in, IdsShort, length_at, TextsShort, texts_bytes, texts_at}
+use Rattle.store_ids.specs.Identifiers.{ids_in, IdsShort, length_at, TextsShort, texts_at}
 
 -- ---- sizes
 
@@ -53,14 +52,6 @@ texts_size_lem s i w =
     let b = text.write (part_in s i.id.local_tag) in
     let c = text.write (part_in s i.id.remote_tag) in
     omega (arith, length-append a (b ++ c), length-append b c, part_size s i.id.call_id w.0, part_size s i.id.local_tag w.1, part_size s i.id.remote_tag w.2)
-
--- of any three texts
-pub bytes_size : (i : Ident) → length (texts_bytes i) ≡ 2 + length i.call_id + 2 + length i.local_tag + 2 + length i.remote_tag
-bytes_size i =
-    let a = text.write i.call_id in
-    let b = text.write i.local_tag in
-    let c = text.write i.remote_tag in
-    omega (arith, length-append a (b ++ c), length-append b c, text_size i.call_id, text_size i.local_tag, text_size i.remote_tag)
 
 -- what two length bytes hold of a part, they hold of its text
 part_short : (s : List ℕ) (v : Span) → v.start + v.length ≤ length s → v.length < 65536 → length (part_in s v) < 65536

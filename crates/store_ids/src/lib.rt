@@ -18,7 +18,7 @@ use limits::Refusal;
 use store::{Held, ids_at};
 
 // DialogManager::all_ids: 3, 18. Answers how many bytes of the output were written.
-// Kept (5, 6): a C caller lends bytes and says how many are used.
+// Kept (5, 6): C says how many of the lent bytes are used, perhaps too many: 3, in its turn among the causes; so both are taken as given.
 pub fn all_ids(bytes: &[u8], used: usize, out: &mut [u8]) -> Result<usize, Refusal>
     ensures value { result ≡ ids_written (run rust_limits (read (length bytes.now) (all_ids (length out.old))) bytes.now used).answer }
     ensures out_after { out.new ≡ output_after (run rust_limits (read (length bytes.now) (all_ids (length out.old))) bytes.now used).answer out.old }
@@ -74,7 +74,8 @@ fn write_all(held: Held<'_>, out: &mut [u8])
 }
 
 // An identifier at a place of the output: each text with its length bytes. The place after it.
-// Kept (2, 5): an empty text is written too, as two length bytes, while `image_writer::write_ids` leaves it out; the place goes in and comes back as the next.
+// Kept (2): an empty text is written too, as two length bytes, while `image_writer::write_ids` leaves it out.
+// Kept (5): a type of three short texts would be put around `id` here and in rseq_manager, and taken off before codec's `write_text`.
 fn write_id(out: &mut [u8], to: usize, id: IdTexts<'_>) -> usize
     requires texts_short { TextsShort (ident_of id) }
     requires texts_in_bounds { to + length (texts_bytes (ident_of id)) ≤ length out.old }

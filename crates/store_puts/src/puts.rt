@@ -1,7 +1,6 @@
 // One record's image put into a store.
-ghost use Rattle.std.specs.Prelude.{◌≡◌, ◌++◌, ◌+◌, ◌≤◌, length, take};
+ghost use Rattle.std.specs.Prelude.{◌≡◌, ◌++◌, ◌≤◌, length, take};
 ghost use Rattle.limits.specs.Limits.{rust_limits};
-ghost use Rattle.edit.specs.Edit.{spliced};
 ghost use Rattle.output.specs.Output.{fitted, leaves, written_from};
 ghost use Rattle.book.specs.Store.{run};
 ghost use Rattle.dialog_manager.specs.Answers.{written_in};
@@ -16,7 +15,7 @@ use record::State;
 use store::Held;
 
 // DialogManager::insert of one record image: 3, 16, 17, 18. A replacement keeps its place; a new record is written into the free end of the store.
-// Kept (5, 6): a C caller lends bytes and says how many are used.
+// Kept (5, 6): C says how many of the lent bytes are used, perhaps too many: 3, in its turn among the causes; so both are taken as given.
 pub fn put(image: &[u8], bytes: &mut [u8], used: usize) -> Result<usize, Refusal>
     ensures value { result ≡ written_in (run rust_limits (putting (length bytes.old) image.now) bytes.old used) }
     ensures bytes_after { bytes.new ≡ (run rust_limits (putting (length bytes.old) image.now) bytes.old used).bytes }
@@ -54,30 +53,11 @@ fn put_named(
     let Some((at, r)) = search_id(held, id) else {
         return add(image, bytes, used);
     };
-    replace_image(image, bytes, used, at, r.end - at)
-}
-
-// The image for the old_length used bytes at a place: 18.
-// Kept (5, 6): bytes past the used ones are written where the image is longer or new.
-fn replace_image(
-    image: &[u8],
-    bytes: &mut [u8],
-    used: usize,
-    at: usize,
-    old_length: usize,
-) -> Result<usize, Refusal>
-    requires { (at + old_length ≤ used) × (used ≤ length bytes.old) }
-    ensures value { result ≡ written_from (fitted (length bytes.old) (spliced at old_length image.now (take used bytes.old))) }
-    ensures bytes_after { bytes.new ≡ leaves (fitted (length bytes.old) (spliced at old_length image.now (take used bytes.old))) bytes.old }
-{
-    if bytes.len() - (used - old_length) < image.len() {
-        return Err(Refusal::NoRoom);
-    }
-    Ok(edit::replace(bytes, used, at, old_length, image))
+    output::replace(bytes, used, at, r.end - at, image)
 }
 
 // The image after the used bytes: 18. The image writer is lent the free end of the store, the bytes from the used length on.
-// Kept (5, 6): bytes past the used ones are written where the image is longer or new.
+// Kept (5, 6): the image writer is lent the free end alone; what is answered and said here is of the whole store.
 fn add(image: &[u8], bytes: &mut [u8], used: usize) -> Result<usize, Refusal>
     requires { used ≤ length bytes.old }
     ensures value { result ≡ written_from (fitted (length bytes.old) (take used bytes.old ++ image.now)) }

@@ -17,7 +17,7 @@ use msg::HeaderTable;
 use store_entries::locate;
 
 // The request entry: 1, 2, 3, 15, 4, 9; ACK: 11; others: 10, 11, 12; 18. The record that the block names is changed as by Dialog::update_from_request.
-// Kept (5, 6): a C caller lends bytes and says how many are used.
+// Kept (5, 6): C says how many of the lent bytes are used, perhaps too many: 3, in its turn among the causes; so both are taken as given.
 pub fn request(method: &[u8], block: &[u8], bytes: &mut [u8], used: usize) -> Result<usize, Refusal>
     ensures value { result ≡ written_in (requesting rust_limits method.now block.now bytes.old used) }
     ensures bytes_after { bytes.new ≡ (requesting rust_limits method.now block.now bytes.old used).bytes }
@@ -32,7 +32,7 @@ pub fn request(method: &[u8], block: &[u8], bytes: &mut [u8], used: usize) -> Re
 }
 
 // By the identifier that a block names, if it names one: 3, 15. A request from the peer has From as remote tag.
-// Kept (5, 6): 3 comes after 2, and after that the two that are called check the used length, so that the caller cannot.
+// Kept (5, 6): what `locate` and `nowhere` are given, which read the store.
 fn locate_named(
     bytes: &[u8],
     used: usize,
@@ -50,7 +50,7 @@ fn locate_named(
 }
 
 // No identifier is named: 3, 15.
-// Kept (5, 6): that the used length lies within the lent bytes is checked here, by `count`.
+// Kept (5, 6): the same that `locate` is given; here `count` reads the store.
 fn nowhere(bytes: &[u8], used: usize) -> Result<RecordPlace, Refusal>
     ensures value { result ≡ standing_of used (spot_named None bytes.now used) }
     ensures ready { Ready bytes.now result }

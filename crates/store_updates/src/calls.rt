@@ -14,7 +14,8 @@ use store_entries::locate;
 use store_steps::{interval_at, local_at, terminate_at};
 
 // Dialog::terminate, by identifier: 1, 3, 15.
-// Kept (5, 6): a C caller lends bytes and says how many are used.
+// Kept (5, 6): C says how many of the lent bytes are used, perhaps too many: 3, in its turn among the causes; so both are taken as given.
+// Kept (2): two lines, and a clause of its own for each: what is found, and the step that is taken there.
 pub fn terminate(id: IdTexts<'_>, bytes: &mut [u8], used: usize) -> Result<usize, Refusal>
     ensures value { result ≡ written_in (terminating rust_limits id.entry.call_id.now id.entry.local_tag.now id.entry.remote_tag.now bytes.old used) }
     ensures bytes_after { bytes.new ≡ (terminating rust_limits id.entry.call_id.now id.entry.local_tag.now id.entry.remote_tag.now bytes.old used).bytes }
@@ -25,7 +26,7 @@ pub fn terminate(id: IdTexts<'_>, bytes: &mut [u8], used: usize) -> Result<usize
 }
 
 // Dialog::update_from_response, by identifier: 1, 2, 3, 15, 18.
-// Kept (5, 6): a C caller lends bytes and says how many are used.
+// Kept (5, 6): C says how many of the lent bytes are used, perhaps too many: 3, in its turn among the causes; so both are taken as given.
 pub fn response(
     id: IdTexts<'_>,
     status: u16,
@@ -44,7 +45,7 @@ pub fn response(
 }
 
 // Dialog::set_session_expires, by identifier: 1, 3, 15, 13 with 90, 14, 18.
-// Kept (5, 6): a C caller lends bytes and says how many are used.
+// Kept (5, 6): C says how many of the lent bytes are used, perhaps too many: 3, in its turn among the causes; so both are taken as given.
 pub fn set_session_expires(
     id: IdTexts<'_>,
     seconds: u64,
@@ -60,7 +61,8 @@ pub fn set_session_expires(
 }
 
 // Dialog::next_local_cseq, by identifier: 1, 3, 15, 18. Answers the new number, or the largest again.
-// Kept (5, 6): a C caller lends bytes and says how many are used.
+// Kept (5, 6): C says how many of the lent bytes are used, perhaps too many: 3, in its turn among the causes; so both are taken as given.
+// Kept (2): two lines, and a clause of its own for each: what is found, and the step that is taken there.
 pub fn next_local_cseq(
     id: IdTexts<'_>,
     bytes: &mut [u8],

@@ -6,9 +6,9 @@ use mathlib.Core.Path.{◌≡◌, refl, sym, ap, ◌∙◌}
 use mathlib.Core.Bool.{Bool, true, false, cond, ◌&&◌}
 use mathlib.Core.List.{List, [], ◌∷◌}
 use lib.ListN.{length, take, drop, length-drop}
-use lib.Seq.{take_all}
 use lib.Dec.{eqb}
 use borrow.Author.Tests.{eq-eqb, ne_eqb, eqb-true, eqb-false}
+use Rattle.std.proofs.lemmas.List.{take_rest}
 use Rattle.std.specs.Prelude.{None, Option, Some, MatchOption}
 use Rattle.std.specs.Option.{unwrap_or}
 use Rattle.text.specs.Text.{span, all}
@@ -52,11 +52,8 @@ all_span p (b ∷ s) = by (p b) (all_span p s)
     by false h = ne_eqb 0 (suc (length s)) (λ e. omega arith)
 
 -- the part from a to the end
-pub drop_part : (s : List ℕ) (a : ℕ) → take (length s - a) (drop a s) ≡ drop a s
-drop_part s a = take_all (length s - a) (drop a s) (simp length-drop (omega arith))
-
 pub part_length : (s : List ℕ) (a : ℕ) → length (take (length s - a) (drop a s)) ≡ length s - a
-part_length s a = ap length (drop_part s a) ∙ length-drop a s
+part_length s a = ap length (take_rest s a) ∙ length-drop a s
 
 -- where a byte was found, or else the length
 pub place_or : (n len : ℕ) (o : Option ℕ) → MatchOption o (len ≡ n) (λ k. (k ≡ n) × (k < len)) → unwrap_or o len ≡ n

@@ -8,11 +8,11 @@ use lib.ListN.{length, take, drop, length-drop}
 use lib.Seq.{take_all, drop-drop, length-take-le}
 use lib.Dec.{ltb}
 use borrow.Author.Tests.{ltb-true, ltb-false, le-leb, lt-leb}
+use Rattle.std.proofs.lemmas.List.{take_rest}
 use Rattle.text.specs.Text.{Piece}
 use Rattle.text.specs.Segments.{Cuts, placed, segments_left, pieces_left}
 use Rattle.text.specs.Spans.{part_in}
 use Rattle.text.specs.declared.Span.{Span}
-use Rattle.text.proofs.Runs.{drop_part}
 
 module _ (f : List ℕ → List (List ℕ)) (s : List ℕ) where
   pub left_start : segments_left f s 0 ≡ f s
@@ -29,13 +29,13 @@ module _ (f : List ℕ → List (List ℕ)) (s : List ℕ) where
     -- n is how many bytes the first segment of the part from `at` on has
     module _ (n : ℕ) (h : at ≤ length s) (c : Cuts f (take (length s - at) (drop at s)) n) where
       first : Cuts f (drop at s) n
-      first = (rw drop_part at c)
+      first = (rw take_rest at c)
 
       pub segment_fits : at + n ≤ length s
       segment_fits = omega (arith, first.0, length-drop at s)
 
       pub segment_length : length (take n (take (length s - at) (drop at s))) ≡ n
-      segment_length = rw drop_part (length-take-le n (drop at s) first.0)
+      segment_length = rw take_rest (length-take-le n (drop at s) first.0)
 
       by_more : (u : Bool) → ltb n (length (drop at s)) ≡ u → f (drop at s) ≡ take n (drop at s) ∷ segments_left f s (at + n + 1)
       by_more true e =
@@ -49,7 +49,7 @@ module _ (f : List ℕ → List (List ℕ)) (s : List ℕ) where
           first.2 l ∙ rw (take_all n (drop at s) l, lt-leb _ _ k)
 
       pub left_cons : segments_left f s at ≡ take n (take (length s - at) (drop at s)) ∷ segments_left f s (at + n + 1)
-      left_cons = rw (le-leb at (length s) h, drop_part s at) (by_more _ refl)
+      left_cons = rw (le-leb at (length s) h, take_rest s at) (by_more _ refl)
 
       pub pieces_cons : pieces_left f s at ≡ record { place = at; text = take n (take (length s - at) (drop at s)) } ∷ pieces_left f s (at + n + 1)
       unfolding placed

@@ -8,9 +8,10 @@ use mathlib.Core.List.{List, [], ◌∷◌, reverse, reverse-append}
 use lib.ListN.{length, get_or, take, drop, length-drop, length-take}
 use lib.Seq.{take-length, take-suc, take-nil, take-take, drop-drop, length-take-le}
 use mathlib.Core.Logic.{◌⊎◌, inl, inr}
+use Rattle.std.proofs.lemmas.List.{take_rest}
 use Rattle.std.proofs.lemmas.Bool.{cases_lt}
 use Rattle.text.specs.Text.{span, is_blank, blanks, text_end, trimmed}
-use Rattle.text.proofs.Runs.{span_le, drop_part}
+use Rattle.text.proofs.Runs.{span_le}
 
 -- m bytes are left
 last : (s : List ℕ) (m : ℕ) → m < length s → reverse (take (suc m) s) ≡ get_or s m 0 ∷ reverse (take m s)
@@ -33,7 +34,7 @@ module _ (p : ℕ → Bool) (s : List ℕ) (e : ℕ) (stop : (k : ℕ) → k + 1
 -- what `trim` returns, as its two calls say it
 pub trim_part : (s : List ℕ) (a e : ℕ) → a ≡ blanks s → e ≡ text_end (take (length s - a) (drop a s)) → take e (take (length s - a) (drop a s)) ≡ trimmed s
 unfolding trimmed
-trim_part s a e p q = rw (q, drop_part s a, p)
+trim_part s a e p q = rw (q, take_rest s a, p)
 
 -- how long it is
 pub trim_length : (s : List ℕ) (a e : ℕ) → a ≡ blanks s → e ≡ text_end (take (length s - a) (drop a s)) → e ≤ length (take (length s - a) (drop a s)) → e ≡ length (trimmed s)

@@ -26,7 +26,6 @@ pub(crate) struct Blank {}
 impl ByteClass for Blank {
     ghost test = { λ _ b. is_blank b };
 
-    // Kept (5): the parameters are the trait's.
     fn has(&self, b: u8) -> bool {
         crate::is_blank(b)
     }
@@ -39,7 +38,6 @@ pub(crate) struct Dark {}
 impl ByteClass for Dark {
     ghost test = { λ _ b. not (is_blank b) };
 
-    // Kept (5): the parameters are the trait's.
     fn has(&self, b: u8) -> bool {
         !crate::is_blank(b)
     }
@@ -52,7 +50,6 @@ pub(crate) struct Visible {}
 impl ByteClass for Visible {
     ghost test = { λ _ b. within 32 126 b };
 
-    // Kept (5): the parameters are the trait's.
     fn has(&self, b: u8) -> bool {
         crate::in_range(b, 32, 126)
     }
@@ -65,7 +62,6 @@ pub(crate) struct Value {}
 impl ByteClass for Value {
     ghost test = { λ _ b. is_value b };
 
-    // Kept (5): the parameters are the trait's.
     fn has(&self, b: u8) -> bool {
         crate::is_value(b)
     }
@@ -80,7 +76,6 @@ pub(crate) struct Other {
 impl ByteClass for Other {
     ghost test = { λ c b. other c.byte b };
 
-    // Kept (5): the parameters are the trait's.
     fn has(&self, b: u8) -> bool {
         b != self.byte
     }

@@ -3,6 +3,7 @@ ghost use Rattle.std.specs.Prelude.{◌≡◌, ◌<◌, ◌≤◌, ◌^◌};
 ghost use Rattle.text.specs.Number.{number_from, digits_below, read_digits, read_number};
 
 // Digits alone, at least one, with a value below the bound.
+// Kept (4): std's `parse` is for a `str` and lets a `+` stand first, which a port and Session-Expires may not have; so this would stand beside it.
 pub fn digits_below(s: &[u8], bound: u64) -> Option<u32>
     requires { (0 < bound) × (bound ≤ 2 ^ 32) }
     ensures { result ≡ number_from (digits_below bound s.now) }

@@ -10,7 +10,6 @@ pub trait Cut {
     ghost segments: { Self → List ℕ → List (List ℕ) };
 
     // How many bytes the first segment has.
-    // Kept (5): the parameters are the trait's.
     fn first(&self, s: &[u8]) -> usize
         ensures { Cuts (segments self.now) s.now result };
 }

@@ -62,10 +62,8 @@ module _ (v : List ℕ) (p : Span) (hp : p ≡ trimmed_span v) (t : List ℕ) (h
 
   -- n bytes stand before the first `<`
   module _ (n : ℕ) (hn : n ≡ span (other 60) t) where
-    pub bracket : n < length t → (e : ℕ) → e ≡ p.start + p.length → in_brackets (p.start + n + 1) (take (e - (p.start + n + 1)) (drop (p.start + n + 1) v)) ≡ uri_text v
-    bracket h e he =
-        let i : blanks v + length (trimmed v) - (blanks v + n + 1) ≡ length (trimmed v) - (n + 1) = omega arith in
-        rw (bracket_cut v n (rw whole at hn) (rw whole at h), he, hp, i)
+    pub bracket : n < length t → in_brackets (p.start + n + 1) (take (p.length - (n + 1)) (drop (p.start + n + 1) v)) ≡ uri_text v
+    bracket h = rw (bracket_cut v n (rw whole at hn) (rw whole at h), hp)
 
     -- there is none, and m bytes stand before the first `;`
     pub plain : (m : ℕ) → length t ≤ n → m ≡ span (other 59) t → uri_text v ≡ Some (trimmed_piece p.start (take m (drop p.start v)))

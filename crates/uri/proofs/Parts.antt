@@ -1,20 +1,21 @@
 -- The scheme, the user part and what stands after them. Assumes nothing.
 use Prim.Native.Nat.{ℕ, zero, suc, ◌+◌, ◌-◌, ◌≤◌, ◌<◌}
 use native.Mathlib.Omega.{arith}
-use mathlib.Core.Path.{◌≡◌, refl, sym, ap, ap₂, subst, ◌∙◌}
+use mathlib.Core.Path.{◌≡◌, refl, sym, ap, ap₂, ◌∙◌}
 use mathlib.Core.Bool.{Bool, true, false, cond, not, ◌&&◌, true≢false}
 use mathlib.Core.List.{List, [], ◌∷◌}
 use lib.ListN.{length, take, drop, get_or, length-take, length-drop}
 use lib.Seq.{length-take-le, drop-drop}
 use lib.Dec.{eqb}
 use borrow.Author.Tests.{lt-ltb, le-ltb, eq-eqb, ne_eqb}
+use Rattle.std.proofs.lemmas.List.{take_rest}
 use Rattle.std.proofs.lemmas.Bool.{and_parts}
 use Rattle.std.specs.Prelude.{None, Option, Some}
 use Rattle.limits.proofs.Laws.{some_pair}
 use Rattle.text.specs.Text.{span, all, other, alike, same, lower, Piece}
 use Rattle.text.specs.Answers.{span_of}
 use Rattle.text.specs.declared.Span.{Span}
-use Rattle.text.proofs.Runs.{span_le, drop_part, part_length}
+use Rattle.text.proofs.Runs.{span_le, part_length}
 use Rattle.uri.proofs.Hosts.{host_own, host_uris}
 use Rattle.uri_bytes.specs.Bytes.{is_uri}
 use Rattle.uri_bytes.specs.Classes.{in_class}
@@ -95,17 +96,17 @@ module _ (s : List ℕ) where
 
 module _ (secure : Bool) (s : List ℕ) (at n : ℕ) (hn : n ≡ span (other 64) (part s at)) where
   run : n ≡ span (other 64) (drop at s)
-  run = rw drop_part at hn
+  run = rw take_rest at hn
 
   pub no_user : n ≡ length (part s at) → with_host secure (user_in s at None) at (drop at s) ≡ with_user secure at (drop at s)
   unfolding with_user
   no_user e =
-      let h : length (drop at s) ≤ n = omega (arith, rw drop_part at e) in
+      let h : length (drop at s) ≤ n = omega (arith, rw take_rest at e) in
       rw (← run, le-ltb n (length (drop at s)) h)
 
   module _ (h : n < length (part s at)) where
     inside : n < length (drop at s)
-    inside = rw drop_part at h
+    inside = rw take_rest at h
 
     pub empty_user : n ≡ 0 → with_user secure at (drop at s) ≡ None
     unfolding with_user
@@ -136,7 +137,7 @@ module _ (s : List ℕ) (at n : ℕ) (hn : n ≡ span (in_class class.User) (par
 
   -- the next byte is one that no URI has
   pub step_broken : n < length (part s at) → (get_or (part s at) n 0 ≡ 64 → ⊥) → UserStep s at None
-  step_broken h e = λ secure. ap (λ (t : Bool). cond t (with_user secure at (drop at s)) None) (rw drop_part at (all_fails is_uri (part s at) n h bad))
+  step_broken h e = λ secure. ap (λ (t : Bool). cond t (with_user secure at (drop at s)) None) (rw take_rest at (all_fails is_uri (part s at) n h bad))
     where
       stops : in_class class.User (get_or (part s at) n 0) ≡ false
       stops = rw hn (span_ends (in_class class.User) (part s at) (rw (← hn) h))
@@ -163,7 +164,7 @@ module _ (s : List ℕ) (at n : ℕ) (hn : n ≡ span (in_class class.User) (par
     after_at : all is_uri (drop at s) ≡ all is_uri (drop (at + n + 1) s)
     after_at =
         let k : at + (n + 1) ≡ at + n + 1 = omega arith in
-        rw (all_split is_uri (n + 1) (drop at s), rw drop_part at all_uri, drop-drop (n + 1) at s, k)
+        rw (all_split is_uri (n + 1) (drop at s), rw take_rest at all_uri, drop-drop (n + 1) at s, k)
 
     pub step_read : (n ≡ 0 → ⊥) → at ≤ length s → UserStep s at (Some (Some (record { start = at; length = n }), at + n + 1))
     step_read z l = (
@@ -180,21 +181,6 @@ no_part at (suc n) e = absurd (let z : ◌≡◌ {A = ℕ} 0 1 = cc (lt-ltb 0 (s
 pub some_part : (at n : ℕ) {u : Span} → user_at at n ≡ Some u → (n ≡ 0 → ⊥) × (record { start = at; length = n } ≡ u)
 some_part at zero e = absurd (let z : ◌≡◌ {A = ℕ} 0 1 = cc in omega arith)
 some_part at (suc n) e = (λ z. omega arith, cc (lt-ltb 0 (suc n) (omega arith)))
-
--- what the answer about the user part says
-pub user_unread : (s : List ℕ) (at : ℕ) (r : Option (Option Span × ℕ)) → UserStep s at r → r ≡ None → (secure : Bool) → of_uri (drop at s) (with_user secure at (drop at s)) ≡ None
-user_unread s at None i e = i
-user_unread s at (Some (u, k)) i e = absurd (let z : ◌≡◌ {A = ℕ} 0 1 = cc in omega arith)
-
-module _ (s : List ℕ) (at : ℕ) (r : Option (Option Span × ℕ)) {u : Option Span} {k : ℕ} (i : UserStep s at r) (e : r ≡ Some (u, k)) where
-  told : UserStep s at (Some (u, k))
-  told = subst (UserStep s at) e i
-
-  pub user_inside : (k ≤ length s) × UserInside s u
-  user_inside = (told.0, told.1)
-
-  pub user_read : (secure : Bool) → of_uri (drop at s) (with_user secure at (drop at s)) ≡ of_uri (drop k s) (with_host secure (user_in s k u) k (drop k s))
-  user_read = told.2
 
 -- ---- the host and the port
 
@@ -228,21 +214,21 @@ host_piece at s = record { place = at; text = host_text s }
 module _ (secure : Bool) (s : List ℕ) (at : ℕ) (user : Option Span) where
   pub host_unread : host_from (host_text (part s at)) ≡ None → of_uri (drop at s) (with_host secure (user_in s at user) at (drop at s)) ≡ None
   unfolding with_host
-  host_unread e = rw (host_not (host_text (drop at s)) (is_host_text (host_text (drop at s))) (rw (drop_part s at) at e)) (unread_of (drop at s))
+  host_unread e = rw (host_not (host_text (drop at s)) (is_host_text (host_text (drop at s))) (rw (take_rest s at) at e)) (unread_of (drop at s))
 
   module _ (n : ℕ) (e : host_from (host_text (part s at)) ≡ Some n) where
     known : (is_host_text (host_text (drop at s)) ≡ true) × (length (host_text (drop at s)) ≡ n)
-    known = host_is (host_text (drop at s)) (is_host_text (host_text (drop at s))) (rw (drop_part s at) at e)
+    known = host_is (host_text (drop at s)) (is_host_text (host_text (drop at s))) (rw (take_rest s at) at e)
 
     from_port : with_host secure (user_in s at user) at (drop at s) ≡ with_port secure (user_in s at user) (host_piece at (drop at s)) (port_of (part (part s at) n))
     unfolding with_host
-    from_port = rw (known.0, known.1, drop_part s at, drop_part (drop at s) n)
+    from_port = rw (known.0, known.1, take_rest s at, take_rest (drop at s) n)
 
     -- the bytes of the host are those of a URI, so that those after it tell
     tail_tells : all is_uri (drop at s) ≡ all is_uri (part (part s at) n)
     tail_tells =
         let k : take n (drop at s) ≡ host_text (drop at s) = rw (← known.1) (host_own (drop at s)) in
-        rw (drop_part s at, drop_part (drop at s) n, all_split is_uri n (drop at s), k, host_uris (host_text (drop at s)) known.0)
+        rw (take_rest s at, take_rest (drop at s) n, all_split is_uri n (drop at s), k, host_uris (host_text (drop at s)) known.0)
 
     pub port_unread : after_host_from (port_of (part (part s at) n)) ≡ None → of_uri (drop at s) (with_host secure (user_in s at user) at (drop at s)) ≡ None
     port_unread f = ap (of_uri (drop at s)) (from_port ∙ port_not secure (user_in s at user) (host_piece at (drop at s)) (port_of (part (part s at) n)) f) ∙ unread_of (drop at s)

@@ -9,11 +9,11 @@ use lib.ListN.{length, take, drop, get_or}
 use lib.Seq.{take-length}
 use lib.Dec.{leb, ltb}
 use borrow.Author.Tests.{eq-eqb, ne_eqb, le-leb, lt-leb, ltb-true}
+use Rattle.std.proofs.lemmas.List.{take_rest}
 use Rattle.std.proofs.lemmas.Bool.{and_parts}
 use Rattle.std.specs.Prelude.{None, Option, Some}
 use Rattle.text.specs.Text.{span, all, is_digit}
 use Rattle.text.specs.Number.{non_empty, value, digits_below, number_from}
-use Rattle.text.proofs.Runs.{drop_part}
 use Rattle.uri_bytes.specs.Bytes.{ends_port}
 use Rattle.uri.specs.SipUri.{at_end, port_number, given_port, port_of}
 
@@ -48,11 +48,11 @@ module _ (s : List ℕ) (n : ℕ) (hn : n ≡ span is_digit s) where
 
   pub port_open : at_end (take (length s - n) (drop n s)) ≡ false → port_number s ≡ None
   unfolding port_number
-  port_open e = rw (← hn, rw drop_part at e, and-false (leb n 5))
+  port_open e = rw (← hn, rw take_rest at e, and-false (leb n 5))
 
   pub port_digits : n ≤ 5 → at_end (take (length s - n) (drop n s)) ≡ true → port_number s ≡ digits_below 65536 (take n s)
   unfolding port_number
-  port_digits h e = rw (← hn, rw drop_part at e, le-leb n 5 h)
+  port_digits h e = rw (← hn, rw take_rest at e, le-leb n 5 h)
 
 -- ---- after the host
 

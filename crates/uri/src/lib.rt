@@ -7,6 +7,7 @@ ghost use Rattle.text.specs.Answers.{lookup_of, span_of};
 ghost use Rattle.uri.specs.SipUri.{uri_answer, read_uri, estimate_answer, read_estimate, uri_from, user_at, sip_uri, with_user, with_host};
 ghost use Rattle.uri.specs.HeaderUri.{uri_from_header, header_uri_from, header_uri, uri_text, in_brackets};
 ghost use Rattle.text.specs.Text.{trimmed_piece};
+ghost use Rattle.text.specs.Spans.{part_in, PartWithin};
 ghost use Rattle.uri.specs.Steps.{Inside, UserInside, UserStep, cut_from, of_uri, scheme_length, size_of, user_in, user_size};
 
 use authority::{after_host, read_host};
@@ -27,6 +28,7 @@ pub struct SipUri {
 
 // A given URI: 1, 6.
 // Kept (1): document 01 has the reading of a URI opened by `let .. else`.
+// Kept (2): two readings that document 01 opens by `let .. else`, each with its check, type and refusal; a generic one would be lent all three.
 pub fn sip_uri(s: &[u8]) -> Result<SipUri, Refusal>
     ensures { result ≡ uri_answer (read_uri rust_limits s.now) }
 {
@@ -97,10 +99,7 @@ fn estimated_length(u: SipUri) -> usize
 {
     let parts = user_length(u) + u.host.length;
     let port = u.port;
-    match port {
-        Some(_) => parts + 6 + 10,
-        None => parts + 10,
-    }
+    port.map_or(parts + 10, |_| parts + 6 + 10)
 }
 
 // How long the user part is: 0 where there is none.
@@ -125,7 +124,7 @@ fn scheme_length(s: &[u8]) -> Option<(usize, bool)>
 }
 
 // The parts from the user part on, which stands after the scheme.
-// Kept (5): the spans answered are places of the whole text, so a slice from the place would not do.
+// Kept (5): both steps need the whole text: their clauses say that the user part lies in it, which a `Part` from `at` on doesn't show.
 fn with_user(s: &[u8], at: usize, secure: bool) -> Option<SipUri>
     requires { at ≤ length s.now }
     ensures { result ≡ uri_from (of_uri (drop at s.now) (with_user secure at (drop at s.now))) }
@@ -135,7 +134,7 @@ fn with_user(s: &[u8], at: usize, secure: bool) -> Option<SipUri>
 }
 
 // All before the first `@`, or nothing where there is none; and where the host stands. Bytes that no URI has are seen here.
-// Kept (5): the spans answered are places of the whole text, so a slice from the place would not do.
+// Kept (5): the clause says that the user part lies in the whole text, before the place answered; a `Part` from a place on doesn't show that.
 fn read_user(s: &[u8], at: usize) -> Option<(Option<Span>, usize)>
     requires { at ≤ length s.now }
     ensures { UserStep s.now at result }
@@ -168,7 +167,7 @@ fn user_part(at: usize, n: usize) -> Option<Span>
 
 // The parts from the host on, with the user part that stands before it.
 // Kept (1): document 01 has the reading of a number, as the port's, opened by `let .. else`.
-// Kept (5): the spans answered are places of the whole text, so a slice from the place would not do.
+// Kept (5): the clauses say what the user part is in the whole text; it stands before `at`, so that a `Part` from there on doesn't show it.
 fn with_host(s: &[u8], at: usize, secure: bool, user: Option<Span>) -> Option<SipUri>
     requires { (at ≤ length s.now) × UserInside s.now user }
     ensures { result ≡ uri_from (of_uri (drop at s.now) (with_host secure (user_in s.now at user) at (drop at s.now))) }
@@ -200,26 +199,39 @@ fn uri_text(value: &[u8]) -> Option<Span>
     let whole = text::trim_span(value);
     let t = whole.text(value);
     if let Some(n) = text::find(t, b'<') {
-        return in_brackets(value, whole.start + n + 1, whole.end());
+        let behind = Span {
+            start: whole.start + n + 1,
+            length: whole.length - (n + 1),
+        };
+        return in_brackets(value, behind);
     }
     let n = text::find(t, b';').unwrap_or(t.len());
-    Some(trimmed_part(value, whole.start, n))
+    let front = Span {
+        start: whole.start,
+        length: n,
+    };
+    Some(trimmed_part(value, front))
 }
 
-// The same, from behind the `<` on.
-fn in_brackets(value: &[u8], at: usize, end: usize) -> Option<Span>
-    requires { (at ≤ end) × (end ≤ length value.now) }
-    ensures { result ≡ cut_from (in_brackets at (take (end - at) (drop at value.now))) }
+// The same, of the part behind the `<`.
+// Kept (5): the fact is the clause of `Span::text`, by which the bytes of the part are had; a `Part` made of both would be taken apart at once.
+fn in_brackets(value: &[u8], part: Span) -> Option<Span>
+    requires { PartWithin value.now part }
+    ensures { result ≡ cut_from (in_brackets part.start (part_in value.now part)) }
 {
-    let n = text::find(&value[at..end], b'>')?;
-    Some(trimmed_part(value, at, n))
+    let n = text::find(part.text(value), b'>')?;
+    let front = Span {
+        start: part.start,
+        length: n,
+    };
+    Some(trimmed_part(value, front))
 }
 
-// Where the n bytes from a place on stand without their blanks.
-// Kept (5): the span answered is a place of the whole text, so a slice from the place would not do.
-fn trimmed_part(value: &[u8], at: usize, n: usize) -> Span
-    requires { at + n ≤ length value.now }
-    ensures { result ≡ span_of (trimmed_piece at (take n (drop at value.now))) }
+// Where a part stands without its blanks.
+// Kept (5): as for `in_brackets`: the clause of `Span::text`.
+fn trimmed_part(value: &[u8], part: Span) -> Span
+    requires { PartWithin value.now part }
+    ensures { result ≡ span_of (trimmed_piece part.start (part_in value.now part)) }
 {
-    text::trim_span(&value[at..at + n]).moved(at)
+    text::trim_span(part.text(value)).moved(part.start)
 }

@@ -4,19 +4,19 @@ use native.Mathlib.Omega.{arith}
 use mathlib.Core.Path.{◌≡◌, refl, sym, ap, ◌∙◌}
 use mathlib.Core.Bool.{Bool, true, false, not, ◌&&◌, true≢false}
 use mathlib.Core.List.{List, [], ◌∷◌}
-use lib.Dec.{T, ltb, eqb}
+use lib.Dec.{ltb, eqb}
 use borrow.Author.Tests.{ne_eqb, le-leb, lt-leb, ltb-true, ltb-false, eqb-true, not-false}
+use Rattle.std.proofs.lemmas.Bool.{agree_below, agree_below_at}
 use Rattle.text.specs.Text.{all, alike, lower}
 use Rattle.uri_bytes.specs.Bytes.{is_uri, is_host, is_address, ends_host}
-use Rattle.uri_bytes.proofs.Sets.{agree, agree_at}
 
 -- a test that fails at every number from 256 on, and doesn't pass below where q fails, implies q
-implied : (p q : ℕ → Bool) → T (agree (λ b. p b && not (q b)) (λ b. false) 256) → ((b : ℕ) → 256 ≤ b → p b ≡ false) → (b : ℕ) → p b ≡ true → q b ≡ true
+implied : (p q : ℕ → Bool) → agree_below (λ b. p b && not (q b)) (λ b. false) 256 ≡ true → ((b : ℕ) → 256 ≤ b → p b ≡ false) → (b : ℕ) → p b ≡ true → q b ≡ true
 implied p q t large b e = by (ltb b 256) refl
   where
     by : (u : Bool) → ltb b 256 ≡ u → q b ≡ true
     by true f =
-        let g : (p b && not (q b)) ≡ false = agree_at (λ b. p b && not (q b)) (λ b. false) 256 b t (ltb-true b 256 f) in
+        let g : (p b && not (q b)) ≡ false = agree_below_at (λ b. p b && not (q b)) (λ b. false) 256 b t (ltb-true b 256 f) in
         not-false _ (rw e at g)
     by false f = absurd (true≢false (sym e ∙ large b (ltb-false b 256 f)))
 
@@ -27,14 +27,14 @@ address_large : (b : ℕ) → 256 ≤ b → is_address b ≡ false
 address_large b h = rw (le-leb 48 b (omega arith), lt-leb b 57 (omega arith), le-leb 65 b (omega arith), lt-leb b 70 (omega arith), le-leb 97 b (omega arith), lt-leb b 102 (omega arith), ne_eqb b 58 (λ e. omega arith), ne_eqb b 46 (λ e. omega arith))
 
 pub host_uri : (b : ℕ) → is_host b ≡ true → is_uri b ≡ true
-host_uri = implied is_host is_uri tt host_large
+host_uri = implied is_host is_uri refl host_large
 
 -- a byte of a host's name doesn't end a host
 pub host_goes_on : (b : ℕ) → is_host b ≡ true → not (ends_host b) ≡ true
-host_goes_on = implied is_host (λ b. not (ends_host b)) tt host_large
+host_goes_on = implied is_host (λ b. not (ends_host b)) refl host_large
 
 pub address_uri : (b : ℕ) → is_address b ≡ true → is_uri b ≡ true
-address_uri = implied is_address is_uri tt address_large
+address_uri = implied is_address is_uri refl address_large
 
 -- a letter's case doesn't matter
 lower_uri : (b : ℕ) → is_uri (lower b) ≡ is_uri b
@@ -44,7 +44,7 @@ lower_uri b = by (ltb b 256) refl
     large h = rw (le-leb 65 b (omega arith), lt-leb b 90 (omega arith))
 
     by : (u : Bool) → ltb b 256 ≡ u → is_uri (lower b) ≡ is_uri b
-    by true f = agree_at (λ b. is_uri (lower b)) is_uri 256 b tt (ltb-true b 256 f)
+    by true f = agree_below_at (λ b. is_uri (lower b)) is_uri 256 b refl (ltb-true b 256 f)
     by false f = ap is_uri (large (ltb-false b 256 f))
 
 pub alike_uri : (a b : List ℕ) → alike lower a b ≡ true → all is_uri a ≡ all is_uri b

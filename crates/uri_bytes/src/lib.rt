@@ -106,7 +106,6 @@ fn set_of(k: Class) -> ByteSet
 impl ByteClass for ByteSet {
     ghost test = { λ set b. in_set set b };
 
-    // Kept (5): the parameters are the trait's.
     fn has(&self, b: u8) -> bool {
         if in_range(b, self.low, self.high) {
             return true;

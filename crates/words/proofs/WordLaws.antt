@@ -6,8 +6,8 @@ use mathlib.Core.Bool.{Bool, true, false}
 use mathlib.Core.List.{List, [], ◌∷◌}
 use lib.ListN.{length, take, drop}
 use lib.Seq.{get_or-drop, drop-drop}
+use Rattle.std.proofs.lemmas.List.{take_rest}
 use Rattle.text.specs.Text.{is_blank, split, on_head, filled, words, word_span}
-use Rattle.text.proofs.Runs.{drop_part}
 use Rattle.text.proofs.Words.{words_cons, words_none}
 use Rattle.words.specs.Words.{word_at}
 
@@ -34,8 +34,8 @@ word_is s a zero e = rw (words_none s a e)
 word_is s a (suc n) e = rw (words_cons s a (suc n) e (omega arith))
 
 pub rest_is : (s : List ℕ) (a n : ℕ) → record { start = a; length = n } ≡ word_span s → words (take (length s - (a + n)) (drop (a + n) s)) ≡ drop 1 (words s)
-rest_is s a zero e = rw (drop_part, words_none s a e) (no_more s (a + 0) (words_none s a e))
-rest_is s a (suc n) e = rw (drop_part, words_cons s a (suc n) e (omega arith))
+rest_is s a zero e = rw (take_rest, words_none s a e) (no_more s (a + 0) (words_none s a e))
+rest_is s a (suc n) e = rw (take_rest, words_cons s a (suc n) e (omega arith))
 
 -- a word of what stands after the first is the next one of the whole
 pub next_word : (s t : List ℕ) (k : ℕ) → words t ≡ drop 1 (words s) → word_at k t ≡ word_at (1 + k) s

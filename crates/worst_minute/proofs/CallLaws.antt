@@ -15,7 +15,7 @@ use Rattle.limits.specs.declared.Refusal.{Refusal}
 use Rattle.limits.specs.Outcome.{and_then, or_refuse}
 use Rattle.limits.specs.declared.Refusal.TheVariants.{BadStore, NoRoom}
 use Rattle.edit.specs.Edit.{put_at, over}
-use Rattle.edit.proofs.EditLaws.{drop_take}
+use Rattle.std.proofs.lemmas.List.{drop-take}
 use Rattle.output.specs.Output.{fitted}
 use Rattle.output.proofs.OutputLaws.{put_first, put_next}
 use Rattle.worst_minute.specs.Minute.{Verdict, worst_at, worst, taken_after, last_ones, rises_from}
@@ -192,7 +192,7 @@ module _ (v : Verdict) (bytes : List ℕ) (used : ℕ) where
 
       module _ (full : used ≡ 36864) where
         front_is : drop 9 (take used bytes) ≡ take 36855 (drop 9 bytes)
-        front_is = ap (λ n. drop 9 (take n bytes)) full ∙ drop_take 9 36855 bytes (omega arith)
+        front_is = ap (λ n. drop 9 (take n bytes)) full ∙ drop-take 9 36855 bytes
 
         cut : encode_run (with_verdict v l.run) ≡ take 36855 (drop 9 bytes) ++ entry_bytes entry
         cut =

@@ -18,7 +18,8 @@ use Rattle.worst_minute.specs.declared.counting.Window.{Window}
 use Rattle.worst_minute.proofs.LayoutLaws.{length_entries, drop_entries}
 use Rattle.worst_minute.proofs.ReadLaws.{sized, time_falls, is_run, rest_at, rises_next, none_left as all_read}
 use Rattle.worst_minute.proofs.WindowLaws.{first_of_lem, one_left, none_left, is_refusal_lem, is_accepted}
-use Rattle.worst_minute.proofs.ScanLaws.{lt_or_le, left_short, scan_worst}
+use Rattle.worst_minute.proofs.ScanLaws.{left_short, scan_worst}
+use Rattle.std.proofs.lemmas.Bool.{cases_lt}
 
 -- ---- one more entry, one more refusal
 
@@ -137,7 +138,7 @@ module _ (s : List ℕ) (z : is_sized (length s) ≡ true) (full : 0 < length s)
           entry = room;
           starts = r.starts;
           counts = r.counts;
-          below = λ i l. by i l (lt_or_le (r.lo + i) r.k);
+          below = λ i l. by i l (cases_lt (r.lo + i) r.k);
         }
           where
             place : (i : ℕ) → w.from + i * 9 ≡ (r.lo + i) * 9
@@ -173,7 +174,7 @@ module _ (s : List ℕ) (z : is_sized (length s) ≡ true) (full : 0 < length s)
           left = left_behind t win
 
           not_there : 0 < r.k - r.lo
-          not_there = by (lt_or_le r.lo r.k)
+          not_there = by (cases_lt r.lo r.k)
             where
               by : (r.lo < r.k) ⊎ (r.k ≤ r.lo) → 0 < r.k - r.lo
               by (inl q) = omega arith
@@ -320,3 +321,6 @@ ready_as s {w} {w'} best {most} {start} {at} r p q t = subst (λ (x : Window). R
 
 pub counting_as : (s : List ℕ) {w w' : Window} {best : Minute} {last at : ℕ} → Counting s w best last at → w' ≡ w → Counting s w' best last at
 counting_as s {w} {w'} {best} {last} {at} r p = subst (λ (x : Window). Counting s x best last at) (sym p) r
+
+pub counting_with : (s : List ℕ) {w w' : Window} (best : Minute) {most start last at : ℕ} → Counting s w best last at → w' ≡ w → most ≡ best.refusals → start ≡ best.start → Counting s w' (record { start = start; refusals = most }) last at
+counting_with s {w} {w'} best {most} {start} {last} {at} r p q t = subst (λ (b : Minute). Counting s w' b last at) (sym (same_minute t q)) (counting_as s r p)

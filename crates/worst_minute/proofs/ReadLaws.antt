@@ -84,9 +84,6 @@ pub record Read (s left : List ℕ) (last : ℕ) : Type 0 where
   pub rises : rises_from 0 (verdicts_in s) ≡ rises_from last (verdicts_in left)
   pub lasts : last_time 0 (verdicts_in s) ≡ last_time last (verdicts_in left)
 
-pub none_read : (s : List ℕ) {left : List ℕ} → left ≡ s → Read s left 0
-none_read s {left} e = record { rises = rw e; lasts = rw e }
-
 module _ (s : List ℕ) (z : is_sized (length s) ≡ true) {left : List ℕ} {last : ℕ} (r : Read s left last) where
   -- the next entry
   module _ (a b : List ℕ) {t : ℕ} (e : left ≡ a ++ b) (k : length a ≡ 9) (h : t ≡ time_at a 0) where

@@ -13,17 +13,11 @@ use lib.Seq.{get_or-take, get_or-drop, drop-drop, take-add, take-suc, drop_at, d
 use lib.Dec.{leb, ltb}
 use borrow.Author.Tests.{leb-true, leb-false, ltb-true, ltb-false, le-leb, lt-leb, lt-ltb, le-ltb}
 use Rattle.std.specs.Prelude.{Some}
+use Rattle.std.proofs.lemmas.Bool.{cases_lt}
 use Rattle.worst_minute.specs.Minute.{Verdict, is_refusal, minute, is_within, refusals_from, Minute, worst, time_of, IsWorst, rises_from}
 use Rattle.worst_minute.specs.Steps.{refused_in, is_behind, left_behind, minute_in, or_more, counting, scan}
 use Rattle.worst_minute.proofs.ReadLaws.{nobody}
 use Rattle.worst_minute.proofs.MinuteLaws.{worst_only}
-
-pub lt_or_le : (i n : ℕ) → (i < n) ⊎ (n ≤ i)
-lt_or_le i n = by (ltb i n) refl
-  where
-    by : (b : Bool) → ltb i n ≡ b → (i < n) ⊎ (n ≤ i)
-    by true e = inl (ltb-true i n e)
-    by false e = inr (ltb-false i n e)
 
 nothing_more : (lo n : ℕ) → n ≤ 0 → lo + n ≡ lo
 nothing_more lo n h = omega arith
@@ -260,16 +254,16 @@ module _ (vs : List Verdict) (r : rises_from 0 vs ≡ true) where
       }
         where
           by_place : (i : ℕ) → (i < lo → refusals i ≤ refused_in (win lo k)) → (lo ≤ i → refusals i ≤ refused_in (win lo k)) → refusals i ≤ refused_in (win lo k)
-          by_place i x y = ⊎_elim x y (lt_or_le i lo)
+          by_place i x y = ⊎_elim x y (cases_lt i lo)
 
           by_start : (i : ℕ) → refusals i ≡ refused_in (win lo k) → (i < lo → time_of (win lo k) 0 ≤ time_of vs i) → (lo ≤ i → time_of (win lo k) 0 ≤ time_of vs i) → time_of (win lo k) 0 ≤ time_of vs i
-          by_start i e x y = ⊎_elim x y (lt_or_le i lo)
+          by_start i e x y = ⊎_elim x y (cases_lt i lo)
 
       -- it has not
       has_no_more : refused_in (win lo k) ≤ m.refusals → Before next m
       has_no_more h = record {
-        no_more = λ i l. ⊎_elim (λ q. b.no_more i q) (λ q. omega (arith, few i q (omega (arith, fits)) (c i q l))) (lt_or_le i lo);
-        no_earlier = λ i l e. ⊎_elim (λ q. b.no_earlier i q e) (λ q. omega (arith, b.starts, in_order b.place i (omega (arith, not_after)) (omega (arith, fits)))) (lt_or_le i lo);
+        no_more = λ i l. ⊎_elim (λ q. b.no_more i q) (λ q. omega (arith, few i q (omega (arith, fits)) (c i q l))) (cases_lt i lo);
+        no_earlier = λ i l e. ⊎_elim (λ q. b.no_earlier i q e) (λ q. omega (arith, b.starts, in_order b.place i (omega (arith, not_after)) (omega (arith, fits)))) (cases_lt i lo);
         place = b.place;
         starts = b.starts;
         one_of = λ _. (omega (arith, not_after), held lo refl);
@@ -311,7 +305,7 @@ module _ (vs : List Verdict) (r : rises_from 0 vs ≡ true) where
 
       -- and the first that isn't
       near : time_of vs k - time_of vs (lo + left) < minute
-      near = by (lt_or_le (lo + left) k)
+      near = by (cases_lt (lo + left) k)
         where
           by : (lo + left < k) ⊎ (k ≤ lo + left) → time_of vs k - time_of vs (lo + left) < minute
           by (inl q) =
@@ -325,7 +319,7 @@ module _ (vs : List Verdict) (r : rises_from 0 vs ≡ true) where
       closed i a q j x y = omega (arith, far i a q, in_order k j x y)
 
       new_start : (i : ℕ) → i < lo + left → time_of vs i < time_of vs (lo + left)
-      new_start i q = by (lt_or_le i lo) (lt_or_le 0 left)
+      new_start i q = by (cases_lt i lo) (cases_lt 0 left)
         where
           by : (i < lo) ⊎ (lo ≤ i) → (0 < left) ⊎ (left ≤ 0) → time_of vs i < time_of vs (lo + left)
           by (inl a) (inl b) = omega (arith, w.fresh i a, far lo (omega arith) (omega arith), near, in_order (lo + left) k left_fits h)
@@ -342,7 +336,7 @@ module _ (vs : List Verdict) (r : rises_from 0 vs ≡ true) where
       }
 
       pub next_before : (m : Minute) → Before lo m → Before (lo + left) (counting left (win lo k) m)
-      next_before m b = by (lt_or_le 0 left)
+      next_before m b = by (cases_lt 0 left)
         where
           by : (0 < left) ⊎ (left ≤ 0) → Before (lo + left) (counting left (win lo k) m)
           by (inl a) = rw (lt-ltb 0 left a) (counted m b (lo + left) (omega arith) (omega (arith, left_fits)) (omega (arith, left_fits)) closed)

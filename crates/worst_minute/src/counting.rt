@@ -36,9 +36,7 @@ pub fn count(run: &[u8]) -> Result<(usize, u64), Refusal>
     let mut most = 0;
     let mut start = first;
     let mut last = first;
-    // Kept (3): `moved` reads up to the place; over chunks `enumerate` would count as `k` does, and `step_by` asks for a measure, which a range does not.
-    for k in 0..run.len() / ENTRY_SIZE {
-        let at = k * ENTRY_SIZE;
+    for at in (0..run.len()).step_by(ENTRY_SIZE) {
         let t = time_at(run, at);
         if t < last {
             return Err(Refusal::BadStore);

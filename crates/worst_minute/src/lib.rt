@@ -19,7 +19,7 @@ pub const ENTRY_SIZE: usize = 9;
 pub const RUN_ROOM: usize = 36864;
 
 // A verdict at the end of the run: 3, 18. A time below the last one is taken as that one; the 4,097th drops the oldest. The new used length.
-// Kept (1, 5, 6): a number is any byte of the log; a C caller lends bytes and says how many are used, and may say more than there are.
+// Kept (1, 5, 6): a number is any byte of the log. C says how many of the lent bytes are used, perhaps too many: 3; so both are taken as given.
 pub fn add_verdict(time: u64, number: u8, bytes: &mut [u8], used: usize) -> Result<usize, Refusal>
     ensures value { result ≡ written_from (added (record { time = time; number = number }) bytes.old used) }
     ensures bytes_after { bytes.new ≡ leaves (added (record { time = time; number = number }) bytes.old used) bytes.old }
@@ -41,7 +41,7 @@ pub fn add_verdict(time: u64, number: u8, bytes: &mut [u8], used: usize) -> Resu
 }
 
 // The most refusals in 60 s that start at a verdict, and the earliest start that has them: 3.
-// Kept (5, 6): a C caller lends bytes and says how many are used, and may say more than there are.
+// Kept (5, 6): C says how many of the lent bytes are used, perhaps too many: 3, in its turn among the causes; so both are taken as given.
 pub fn worst_minute(bytes: &[u8], used: usize) -> Result<Option<(usize, u64)>, Refusal>
     ensures { result ≡ worst_answer (worst_in bytes.now used) }
 {

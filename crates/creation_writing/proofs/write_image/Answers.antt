@@ -1,6 +1,7 @@
 -- `creation_writing::write_image` meets its contract: the front where both fit, and the routes' section behind it. Assumes nothing.
-use mathlib.Core.Path.{◌≡◌, sym, subst, ◌∙◌}
-use Prim.Native.Nat.{◌+◌, ◌-◌}
+use mathlib.Core.Path.{◌≡◌, sym, ap, subst, ◌∙◌}
+use mathlib.Core.Bool.{Bool}
+use Prim.Native.Nat.{ℕ, ◌+◌, ◌-◌}
 use Rattle.std.proofs.Common.{rules}
 use lib.ListN.{length}
 use borrow.Rule.Slice.PartMut.{put_mid}
@@ -16,14 +17,11 @@ use Rattle.creation_writing.specs.NewParts.{parts_for}
 use Rattle.creation_writing.proofs.ImageLaws.{parts_same, Begun, front_refused, front_begun, image_done}
 use Rattle.creation_writing.proofs.write_image.Goals as goal
 use Rattle.creation_writing.proofs.write_image.Given.{Over}
-use Rattle.creation_writing.proofs.write_image.Goals.{After-write_front, In_ok-n}
+use Rattle.creation_writing.proofs.write_image.Goals.{After-write_front}
 
 -- the parts of the image as the front was written from them, and that they are those of the contract
 abbrev parts : (g : Over) → After-write_front g → Parts
 parts g c = record { numbers = meaning c.args.numbers; we_are_uac = c.WE_ARE_UAC.result; secure = c.is_secure.result; ids = ids_given c.args.id; uris = uris_given c.args.uris; routes = section_in g.S.Side.WE_ARE_UAC (routes_of rust_limits c.args.peer.block.now) }
-
-abbrev parts-at-In_ok-n : (g : Over) → In_ok-n g → Parts
-parts-at-In_ok-n g c = record { numbers = meaning c.args.numbers; we_are_uac = c.WE_ARE_UAC.result; secure = c.is_secure.result; ids = ids_given c.args.id; uris = uris_given c.args.uris; routes = section_in g.S.Side.WE_ARE_UAC (routes_of rust_limits c.args.peer.block.now) }
 
 abbrev asked : (g : Over) → After-write_front g → Parts
 asked g c = parts_for g.S.Side.WE_ARE_UAC (meaning c.args.numbers) c.args.id c.args.uris (section_in g.S.Side.WE_ARE_UAC (routes_of rust_limits c.args.peer.block.now))
@@ -32,8 +30,8 @@ same : (g : Over) (c : After-write_front g) → parts g c ≡ asked g c
 same g c = parts_same g.S.Side.WE_ARE_UAC (meaning c.args.numbers) c.args.id c.args.uris (section_in g.S.Side.WE_ARE_UAC (routes_of rust_limits c.args.peer.block.now)) c.WE_ARE_UAC.ensures c.is_secure.ensures
 
 -- the front was written
-begun : (g : Over) (c : In_ok-n g) → Begun (parts-at-In_ok-n g c) c.args.peer.size c.requires.size_value c.args.out.now c.in_ok-n.n c.write_front.new.free
-begun g c = front_begun (parts-at-In_ok-n g c) c.args.peer.size c.requires.size_value c.args.out.now c.write_front.ensures.value (c.write_front.ensures.free_after) c.in_ok-n.was
+begun : (g : Over) (c : After-write_front g) {n : ℕ} → c.write_front.result ≡ Ok n → Begun (parts g c) c.args.peer.size c.requires.size_value c.args.out.now n c.write_front.new.free
+begun g c e = front_begun (parts g c) c.args.peer.size c.requires.size_value c.args.out.now c.write_front.ensures.value c.write_front.ensures.free_after e
 
 pub returns-in_err-n : goal.returns-in_err-n
 returns-in_err-n g c =
@@ -54,5 +52,5 @@ returns g c =
     let n = c.in_ok-n.n in
     let k = c.args.peer.size in
     let old : _ × _ = subst (λ (p : Parts). (Ok (n + k) ≡ written_from (fitted (length o) (image_of p))) × (put_mid n (n + k - n) c.write_front.new.free c.write_routes.new.out ≡ leaves (fitted (length o) (image_of p)) o)) (same g (goal.at.returns g c).After-write_front)
-    (image_done (parts g (goal.at.returns g c).After-write_front) k c.requires.size_value o n c.write_routes.new.out (begun g (goal.at.returns g c).In_ok-n) c.write_routes.ensures) in
+    (image_done (parts g (goal.at.returns g c).After-write_front) k c.requires.size_value o n c.write_routes.new.out (begun g (goal.at.returns g c).After-write_front c.in_ok-n.was) (c.write_routes.ensures ∙ ap (λ (b : Bool). section_in b (routes_of rust_limits c.args.peer.block.now)) g.met.S.Side.order)) in
     record { value = old.0; out_after = old.1 }

@@ -12,7 +12,7 @@ use Rattle.dialog_rules.specs.Creation.{state_by}
 use Rattle.creation_readings.specs.Steps.{first_state}
 use Rattle.output.specs.Output.{leaves, written_from}
 use Rattle.route_section.proofs.SectionLaws.{measured_size}
-use Rattle.dialog_creation.proofs.MadeLaws.{refusal, Named, named, id_fits, id_short, peer_short, target_short, no_identifier, no_state, over_estimate_lem, rest_refused, image_is, given_part, absent_part}
+use Rattle.dialog_creation.proofs.MadeLaws.{refusal, Named, named, id_fits, peer_short, target_short, no_identifier, no_state, over_estimate_lem, rest_refused, image_is, given_part, absent_part}
 use Rattle.dialog_creation.proofs.make.Goals as goal
 use Rattle.dialog_creation.proofs.make.Given.{Over}
 use Rattle.dialog_creation.proofs.make.Goals.{After-peer_block-peer, In_ok-id, In_ok-state}
@@ -57,17 +57,11 @@ texts-id-requires g c =
     let a = c.args in
     id_fits g.S.Side.WE_ARE_UAC a.c.response.now c.in_ok-id.id (id_named g (goal.at.texts-id-requires g c).In_ok-id)
 
-pub write_image-requires-clause-id_short : goal.write_image-requires-clause-id_short
-write_image-requires-clause-id_short g c = id_short c.args.c.response.now c.in_ok-id.id c.texts-id.result c.texts-id.ensures c.requires.1
-
 pub invariant_of-uris : goal.invariant_of-uris
 invariant_of-uris g c =
     let h = c.requires in
     let t = target_short c.args.c.remote_uri.now c.peer_block-peer.result.now (c.target-target.ensures.result_value) h.3 (peer_fits g (goal.at.invariant_of-uris g c).After-peer_block-peer) in
     record { short = (omega arith, omega arith, omega arith) }
-
-pub write_image-requires-clause-peer_len_bound : goal.write_image-requires-clause-peer_len_bound
-write_image-requires-clause-peer_len_bound g c = c.in_ok-numbers.ensures.measured.1.0
 
 pub write_image-requires-clause-size_value : goal.write_image-requires-clause-size_value
 write_image-requires-clause-size_value g c =

@@ -14,9 +14,6 @@ use Rattle.dialog_id.proofs.tag_at.Goals.{In_ok-v}
 fits : (c : In_ok-v) → c.in_ok-v.v.start + c.in_ok-v.v.length ≤ length c.args.block.now
 fits c = at_fits c.args.line _ _ c.in_ok-v.was _ c.requires
 
-pub text-requires : goal.text-requires
-text-requires c = fits (goal.at.text-requires c).In_ok-v
-
 pub moved-requires : goal.moved-requires
 moved-requires c =
     let h = fits (goal.at.moved-requires c).In_ok-v in

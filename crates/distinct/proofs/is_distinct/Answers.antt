@@ -8,10 +8,6 @@ sort-requires-clause-each_at c =
     let a = c.args in
     places_each a.bytes.now (bytes_all c.args.bytes.now (λ i. (c.type_inv.bytes i).fits)) a.places.now c.requires.places
 
-pub sort-requires-clause-scratch_len : goal.sort-requires-clause-scratch_len
-sort-requires-clause-scratch_len c =
-    c.requires.scratch_len
-
 pub returns : goal.returns
 returns c =
     let a = c.args in

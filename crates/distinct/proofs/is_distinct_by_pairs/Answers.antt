@@ -3,7 +3,7 @@ use mathlib.Core.Path.{◌≡◌, sym, ap, subst, ◌∙◌}
 use borrow.Author.Tests.{not-true, not-false}
 use Rattle.codec.proofs.CodecLaws.{bytes_all}
 use Rattle.record_walk.specs.Walk.{end_at}
-use Rattle.record_walk.proofs.Walks.{Given, given, ended, given_is}
+use Rattle.record_walk.proofs.Walks.{Given, given, ended}
 use Rattle.distinct.specs.Pairs.{alone_from}
 use Rattle.distinct.proofs.Alones.{Left, left_start, left_end, left_met, left_next}
 use Rattle.distinct.proofs.is_distinct_by_pairs.Goals as goal
@@ -23,16 +23,10 @@ answered c =
     let g : Given c.args.bytes.now c.loop-p.records c.in-Some.p c.next.new.self = given c.args.bytes.now c.loop-p.records c.loop-p.invariant.0 c.in-Some.ensures.steps in
     c.is_alone.ensures ∙ ap (alone_from c.args.bytes.now c.in-Some.p) g.ends
 
-pub new-records-requires : goal.new-records-requires
-new-records-requires c = given_is _ c.requires.1
-
 pub loop-p-init : goal.loop-p-init
 loop-p-init c =
     let e = c.new-records.ensures in
     (e.bytes, subst (Left c.args.bytes.now) (sym e.at) (left_start c.args.bytes.now c.requires))
-
-pub is_alone-requires : goal.is_alone-requires
-is_alone-requires c = ((taken c).here, (taken c).same)
 
 pub returns-then-not-is_alone : goal.returns-then-not-is_alone
 returns-then-not-is_alone c =

@@ -7,14 +7,15 @@ use lib.ListN.{length}
 use Rattle.listing_lines.specs.Listing.{columns_of, line_of}
 use Rattle.record.specs.NumbersForm.{meaning}
 use Rattle.listing_text.proofs.ListLaws.{Left, start_at, begun, Given, given, ended, turn, done}
+use Rattle.listing_text.proofs.StoreLaws.{records_stored}
 use Rattle.std.specs.declared.iter.Enumerate.{Enumerate}
 use Rattle.listing_text.specs.declared.listed.Walk.{Walk}
 use Rattle.listing_text.proofs.lines_length.Goals as goal
 use Rattle.listing_text.proofs.lines_length.Goals.{In-Some}
 
 -- the walk's turn
-taken : (c : In-Some) → Given c.args.bytes.now c.loop-i.i-iterator.iter c.in-Some.r c.next.new.self.iter
-taken c = given c.args.bytes.now c.loop-i.i-iterator.iter c.loop-i.invariant.1.0 c.in-Some.ensures.steps.0
+taken : (c : In-Some) → Given c.args.held.bytes.now c.loop-i.i-iterator.iter c.in-Some.r c.next.new.self.iter
+taken c = given c.args.held.bytes.now c.loop-i.i-iterator.iter c.loop-i.invariant.1.0 c.in-Some.ensures.steps.0
 
 -- the line of the turn
 abbrev its-line : In-Some → List ℕ
@@ -22,17 +23,17 @@ its-line c = let x = c.in-Some.r in line_of (columns_of (c.in-Some.i + 1) (meani
 
 -- the lines so far with it, at the walk's next place
 next : (c : In-Some) {n : ℕ} → n ≡ length (its-line c) → n ≤ 192
-    → Left c.args.bytes.now c.next.new.self.iter.at (c.next.new.self.count + 1) (c.loop-i.size + n) (c.loop-i.invariant.1.1.0 ++ its-line c)
+    → Left c.args.held.bytes.now c.next.new.self.iter.at (c.next.new.self.count + 1) (c.loop-i.size + n) (c.loop-i.invariant.1.1.0 ++ its-line c)
 next c h u =
     let w = c.in-Some.ensures.steps in
-    turn c.args.bytes.now c.loop-i.i-iterator.iter c.in-Some.r c.next.new.self.iter (taken c) w.1 w.2 c.loop-i.size c.loop-i.invariant.1.1.0 c.loop-i.invariant.1.1.1 h u
+    turn c.args.held.bytes.now c.loop-i.i-iterator.iter c.in-Some.r c.next.new.self.iter (taken c) w.1 w.2 c.loop-i.size c.loop-i.invariant.1.1.0 c.loop-i.invariant.1.1.1 h u
 
 pub loop-i-init : goal.loop-i-init
 loop-i-init c =
-    let s = c.args.bytes.now in
+    let s = c.args.held.bytes.now in
     let b = begun s _ _ (ap (λ (e : Enumerate Walk). e.iter) c.into_iter-i-iterator.ensures.into_iter_gives ∙ c.enumerate-i-items.ensures.source) c.new.ensures.bytes c.new.ensures.at in
     let k = ap (λ (e : Enumerate Walk). e.count) c.into_iter-i-iterator.ensures.into_iter_gives ∙ c.enumerate-i-items.ensures.count in
-    (search rules, (b.0, ([], start_at s b.1 k c.requires.0)))
+    (search rules, (b.0, ([], start_at s b.1 k (records_stored s c.args.held.stored))))
 
 pub loop-i-preserved : goal.loop-i-preserved
 loop-i-preserved c =
@@ -46,5 +47,5 @@ returns-clause-value c =
     let w = c.loop-i.i-iterator.iter in
     let p = c.loop-i.i-iterator.count + 1 in
     let t = c.loop-i.invariant.1.1.0 in
-    let h = ended c.args.bytes.now w c.loop-i.invariant.1.0 c.next.new.self.iter l c.in-None.ensures.steps.0 in
-    l.sized ∙ sym (ap length (done c.args.bytes.now w.at p c.loop-i.size t l h))
+    let h = ended c.args.held.bytes.now w c.loop-i.invariant.1.0 c.next.new.self.iter l c.in-None.ensures.steps.0 in
+    l.sized ∙ sym (ap length (done c.args.held.bytes.now w.at p c.loop-i.size t l h))

@@ -18,32 +18,21 @@ use Rattle.listing_text.proofs.list_store.Goals as goal
 use Rattle.listing_text.proofs.list_store.Goals.{After-lines_length, After-put, After-write_lines-end, In_ok-count}
 
 -- the records that were read
-abbrev store : (c : In_ok-count) → Decoded c.args.bytes.now c.in_ok-count.count
+store : (c : In_ok-count) → Decoded c.args.bytes.now c.in_ok-count.count
 store c = decoded c.args.bytes.now c.in_ok-count.count (sym c.read_store.ensures ∙ c.ok_or.ensures.ok_part ∙ ap result_ok c.in_ok-count.was)
 
-abbrev store-at-After-lines_length : (c : After-lines_length) → Decoded c.args.bytes.now c.in_ok-count.count
-store-at-After-lines_length c = decoded c.args.bytes.now c.in_ok-count.count (sym c.read_store.ensures ∙ c.ok_or.ensures.ok_part ∙ ap result_ok c.in_ok-count.was)
-
-abbrev store-at-After-put : (c : After-put) → Decoded c.args.bytes.now c.in_ok-count.count
-store-at-After-put c = decoded c.args.bytes.now c.in_ok-count.count (sym c.read_store.ensures ∙ c.ok_or.ensures.ok_part ∙ ap result_ok c.in_ok-count.was)
-
 -- the length of the listing
-sizes : (c : After-lines_length) → c.lines_length.result + c.write_words-n.result ≡ length (listing_of (store-at-After-lines_length c).records)
-sizes c =
+sizes : (c : After-lines_length) (d : Decoded c.args.bytes.now c.in_ok-count.count) → c.lines_length.result + c.write_words-n.result ≡ length (listing_of d.records)
+sizes c d =
     let s = c.args.bytes.now in
     let n = c.in_ok-count.count in
     let h : c.lines_length.result ≡ length (listed_lines s) = c.lines_length.ensures.value in
     let k : c.write_words-n.result ≡ length (total_line n) = c.write_words-n.ensures.value in
-    omega (arith, h, k, length-append (listed_lines s) (total_line n), ap length (listing_parts s n (store-at-After-lines_length c)))
+    omega (arith, h, k, length-append (listed_lines s) (total_line n), ap length (listing_parts s n d))
 
 -- the last line is the front of the buffer, and there is room for it
 front : (c : After-write_lines-end) → take c.write_words-n.result c.write_words-n.new.out ≡ total_line c.in_ok-count.count
 front c =
-    let w = c.write_words-n.ensures in
-    ap (take c.write_words-n.result) w.out_after ∙ take_at (total_line c.in_ok-count.count) _ c.write_words-n.result (sym w.value)
-
-front-at-After-put : (c : After-put) → take c.write_words-n.result c.write_words-n.new.out ≡ total_line c.in_ok-count.count
-front-at-After-put c =
     let w = c.write_words-n.ensures in
     ap (take c.write_words-n.result) w.out_after ∙ take_at (total_line c.in_ok-count.count) _ c.write_words-n.result (sym w.value)
 
@@ -54,69 +43,49 @@ fits c =
     let k : length c.write_lines-end.new.out ≡ length c.args.out.now = c.write_lines-end.auto.out in
     omega (arith, h, g, k, c.if-out-size.false, ap length (front c), c.write_words-n.ensures.value)
 
-written : (c : After-put) → c.put.new.bytes ≡ over (listing_of (store-at-After-put c).records) c.args.out.now
-written c =
+written : (c : After-put) → take c.write_words-n.result c.write_words-n.new.out ≡ total_line c.in_ok-count.count
+    → (d : Decoded c.args.bytes.now c.in_ok-count.count) → c.put.new.bytes ≡ over (listing_of d.records) c.args.out.now
+written c f d =
     let a = c.args in
     let n = c.in_ok-count.count in
     c.put.ensures
-    ∙ ap (λ (s : List ℕ). put_at c.write_lines-end.result s c.write_lines-end.new.out) (front-at-After-put c)
+    ∙ ap (λ (s : List ℕ). put_at c.write_lines-end.result s c.write_lines-end.new.out) f
     ∙ ap (put_at c.write_lines-end.result (total_line n)) (c.write_lines-end.ensures.out_after)
     ∙ put_next (listed_lines a.bytes.now) (total_line n) a.out.now c.write_lines-end.result (sym c.write_lines-end.ensures.value)
-    ∙ ap (λ (s : List ℕ). over s a.out.now) (listing_parts a.bytes.now n (store-at-After-put c))
+    ∙ ap (λ (s : List ℕ). over s a.out.now) (listing_parts a.bytes.now n d)
 
-pub returns-then-bytes-gt-MAX_LISTED_STORE-clause-value : goal.returns-then-bytes-gt-MAX_LISTED_STORE-clause-value
-returns-then-bytes-gt-MAX_LISTED_STORE-clause-value c =
+pub returns-then-bytes-gt-MAX_LISTED_STORE : goal.returns-then-bytes-gt-MAX_LISTED_STORE
+returns-then-bytes-gt-MAX_LISTED_STORE c =
     let a = c.args in
-    ((kept a.out.now (too_long rust_limits a.bytes.now (length a.out.now) c.if-bytes-gt-MAX_LISTED_STORE.true)).0)
+    let old : _ × _ = kept a.out.now (too_long rust_limits a.bytes.now (length a.out.now) c.if-bytes-gt-MAX_LISTED_STORE.true) in
+    record { value = old.0; out_after = old.1 }
 
-pub returns-then-bytes-gt-MAX_LISTED_STORE-clause-out_after : goal.returns-then-bytes-gt-MAX_LISTED_STORE-clause-out_after
-returns-then-bytes-gt-MAX_LISTED_STORE-clause-out_after c =
-    let a = c.args in
-    ((kept a.out.now (too_long rust_limits a.bytes.now (length a.out.now) c.if-bytes-gt-MAX_LISTED_STORE.true)).1)
-
-pub returns-in_err-count-clause-value : goal.returns-in_err-count-clause-value
-returns-in_err-count-clause-value c =
+pub returns-in_err-count : goal.returns-in_err-count
+returns-in_err-count c =
     let a = c.args in
     let n = unread c.read_store.result c.ok_or.ensures.value c.in_err-count.was in
-    err_is c.from_residual.result _ c.from_residual.ensures.1 ∙ ap Err n.1 ∙ ((kept a.out.now (bad_store rust_limits a.bytes.now (length a.out.now) (omega (arith, c.if-bytes-gt-MAX_LISTED_STORE.false)) (broken_none a.bytes.now (sym c.read_store.ensures ∙ n.0)))).0)
+    let old : _ × _ = kept a.out.now (bad_store rust_limits a.bytes.now (length a.out.now) (omega (arith, c.if-bytes-gt-MAX_LISTED_STORE.false)) (broken_none a.bytes.now (sym c.read_store.ensures ∙ n.0))) in
+    record { value = err_is c.from_residual.result _ c.from_residual.ensures.1 ∙ ap Err n.1 ∙ old.0; out_after = old.1 }
 
-pub returns-in_err-count-clause-out_after : goal.returns-in_err-count-clause-out_after
-returns-in_err-count-clause-out_after c =
+pub invariant_of-held : goal.invariant_of-held
+invariant_of-held c = record { fit = λ i. (c.type_inv.bytes i).fits; stored = whole_given _ _ (store (goal.at.invariant_of-held c).In_ok-count) }
+
+pub returns-then-out-size : goal.returns-then-out-size
+returns-then-out-size c =
     let a = c.args in
-    let n = unread c.read_store.result c.ok_or.ensures.value c.in_err-count.was in
-    ((kept a.out.now (bad_store rust_limits a.bytes.now (length a.out.now) (omega (arith, c.if-bytes-gt-MAX_LISTED_STORE.false)) (broken_none a.bytes.now (sym c.read_store.ensures ∙ n.0)))).1)
-
-pub lines_length-requires : goal.lines_length-requires
-lines_length-requires c = (whole_given _ _ (store (goal.at.lines_length-requires c).In_ok-count), omega (arith, c.if-bytes-gt-MAX_LISTED_STORE.false))
-
-pub returns-then-out-size-clause-value : goal.returns-then-out-size-clause-value
-returns-then-out-size-clause-value c =
-    let a = c.args in
-    let d = store (goal.at.returns-then-out-size-clause-value c).In_ok-count in
+    let d = store (goal.at.returns-then-out-size c).In_ok-count in
     let k = ap length (listing_parts a.bytes.now c.in_ok-count.count d) in
-    ((kept a.out.now (no_room rust_limits a.bytes.now (length a.out.now) (omega (arith, c.if-bytes-gt-MAX_LISTED_STORE.false)) d (omega (arith, c.if-out-size.true, sizes (goal.at.returns-then-out-size-clause-value c).After-lines_length)))).0)
-
-pub returns-then-out-size-clause-out_after : goal.returns-then-out-size-clause-out_after
-returns-then-out-size-clause-out_after c =
-    let a = c.args in
-    let d = store (goal.at.returns-then-out-size-clause-out_after c).In_ok-count in
-    let k = ap length (listing_parts a.bytes.now c.in_ok-count.count d) in
-    ((kept a.out.now (no_room rust_limits a.bytes.now (length a.out.now) (omega (arith, c.if-bytes-gt-MAX_LISTED_STORE.false)) d (omega (arith, c.if-out-size.true, sizes (goal.at.returns-then-out-size-clause-out_after c).After-lines_length)))).1)
-
-pub write_lines-end-requires-clause-bytes_value : goal.write_lines-end-requires-clause-bytes_value
-write_lines-end-requires-clause-bytes_value c = (whole_given _ _ (store (goal.at.write_lines-end-requires-clause-bytes_value c).In_ok-count), omega (arith, c.if-bytes-gt-MAX_LISTED_STORE.false))
+    let old : _ × _ = kept a.out.now (no_room rust_limits a.bytes.now (length a.out.now) (omega (arith, c.if-bytes-gt-MAX_LISTED_STORE.false)) d (omega (arith, c.if-out-size.true, sizes (goal.at.returns-then-out-size c).After-lines_length d))) in
+    record { value = old.0; out_after = old.1 }
 
 pub put-requires : goal.put-requires
 put-requires c = fits (goal.at.put-requires c).After-write_lines-end
 
-pub returns-clause-value : goal.returns-clause-value
-returns-clause-value c =
+pub returns : goal.returns
+returns c =
     let a = c.args in
-    let d = store (goal.at.returns-clause-value c).In_ok-count in
-    ((wrote a.out.now (listed_all rust_limits a.bytes.now (length a.out.now) (omega (arith, c.if-bytes-gt-MAX_LISTED_STORE.false)) d (omega (arith, c.if-out-size.false, sizes (goal.at.returns-clause-value c).After-lines_length))) (sizes (goal.at.returns-clause-value c).After-lines_length) (written (goal.at.returns-clause-value c).After-put)).0)
-
-pub returns-clause-out_after : goal.returns-clause-out_after
-returns-clause-out_after c =
-    let a = c.args in
-    let d = store (goal.at.returns-clause-out_after c).In_ok-count in
-    ((wrote a.out.now (listed_all rust_limits a.bytes.now (length a.out.now) (omega (arith, c.if-bytes-gt-MAX_LISTED_STORE.false)) d (omega (arith, c.if-out-size.false, sizes (goal.at.returns-clause-out_after c).After-lines_length))) (sizes (goal.at.returns-clause-out_after c).After-lines_length) (written (goal.at.returns-clause-out_after c).After-put)).1)
+    let p = goal.at.returns c in
+    let d = store p.In_ok-count in
+    let z = sizes p.After-lines_length d in
+    let old : _ × _ = wrote a.out.now (listed_all rust_limits a.bytes.now (length a.out.now) (omega (arith, c.if-bytes-gt-MAX_LISTED_STORE.false)) d (omega (arith, c.if-out-size.false, z))) z (written p.After-put (front p.After-write_lines-end) d) in
+    record { value = old.0; out_after = old.1 }

@@ -8,4 +8,4 @@ use Rattle.listing_text.proofs.write_lines.Given as goal
 
 abbrev pub invariant-loop-i : goal.invariant-loop-i
 invariant-loop-i l =
-    (192 ≡ length l.text) × ((l.i-iterator.iter.bytes.now ≡ l.bytes) × ((t : List ℕ) × (Left l.bytes l.i-iterator.iter.at (l.i-iterator.count + 1) l.end t × ((l.out ≡ over t l.initial.out) × (length l.out ≡ length l.initial.out)))))
+    (192 ≡ length l.text) × ((l.i-iterator.iter.bytes.now ≡ l.held.bytes.now) × ((t : List ℕ) × (Left l.held.bytes.now l.i-iterator.iter.at (l.i-iterator.count + 1) l.end t × ((l.out ≡ over t l.initial.out) × (length l.out ≡ length l.initial.out)))))

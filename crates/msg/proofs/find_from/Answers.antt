@@ -1,13 +1,8 @@
 -- `msg::find_from` meets its contract: at each turn the first line of the name is the first in the lines left. Assumes nothing.
 use mathlib.Core.Path.{sym, ap, ◌∙◌}
-use Rattle.msg.specs.Block.{first_named, found_of}
-use Rattle.msg.specs.Lines.{lines_ahead}
-use Rattle.msg.specs.declared.lines.Lines.{Lines}
+use Rattle.msg.specs.Block.{found_of}
 use Rattle.msg.proofs.LookupLaws.{first_miss, first_here, first_none}
 use Rattle.msg.proofs.find_from.Goals as goal
-
-pub loop-line-init : goal.loop-line-init
-loop-line-init c = ap (λ (s : Lines). first_named c.args.name.now (lines_ahead s)) (sym c.into_iter-line-iterator.ensures.into_iter_gives)
 
 pub returns-then-is_named : goal.returns-then-is_named
 returns-then-is_named c = c.found.ensures ∙ ap found_of (sym (c.loop-line.invariant ∙ first_here _ _ _ _ c.in-Some.ensures.steps (sym c.is_named.ensures ∙ c.if-is_named.true)))

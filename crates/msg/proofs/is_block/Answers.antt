@@ -1,6 +1,5 @@
 -- `msg::is_block` meets its contract: at each turn the block is one exactly where the rest is. Assumes nothing.
-use native.Mathlib.Omega.{arith}
-use mathlib.Core.Path.{refl, sym, ap, ◌∙◌}
+use mathlib.Core.Path.{sym, ◌∙◌}
 use Rattle.msg.specs.Lines.{line_in, lines_ahead}
 use Rattle.msg.proofs.LookupLaws.{Turn, turned, block_end, block_next}
 use Rattle.msg.proofs.is_block.Goals as goal
@@ -9,9 +8,6 @@ use Rattle.msg.proofs.is_block.Goals.{In-Some}
 -- the line of this turn is the first that is left
 turn : (c : In-Some) → Turn c.args.block.now c.loop-line.end (line_in c.in-Some.line) (lines_ahead c.next.new.self)
 turn c = turned _ _ _ _ (c.loop-line.invariant.1 ∙ c.in-Some.ensures.steps)
-
-pub loop-line-init : goal.loop-line-init
-loop-line-init c = (omega arith, ap lines_ahead (sym c.into_iter-line-iterator.ensures.into_iter_gives), refl)
 
 pub loop-line-preserved : goal.loop-line-preserved
 loop-line-preserved c =

@@ -1,6 +1,5 @@
 -- `msg::line_since` meets its contract: at each turn the lines from a place on are among the lines left. Assumes nothing.
-use native.Mathlib.Omega.{arith}
-use mathlib.Core.Path.{refl, sym, ap, ◌∙◌}
+use mathlib.Core.Path.{sym, ◌∙◌}
 use Rattle.msg.specs.Lines.{line_in, lines_ahead}
 use Rattle.msg.proofs.LookupLaws.{Turn, turned, since_none, since_next, since_reached}
 use Rattle.msg.proofs.line_since.Goals as goal
@@ -10,16 +9,10 @@ use Rattle.msg.proofs.line_since.Goals.{In-Some}
 turn : (c : In-Some) → Turn c.args.block.now c.loop-line.at (line_in c.in-Some.line) (lines_ahead c.next.new.self)
 turn c = turned _ _ _ _ (c.loop-line.invariant.1 ∙ c.in-Some.ensures.steps)
 
-pub loop-line-init : goal.loop-line-init
-loop-line-init c = (omega arith, ap lines_ahead (sym c.into_iter-line-iterator.ensures.into_iter_gives), refl)
-
 pub returns-then-from-at-clause-block_value : goal.returns-then-from-at-clause-block_value
 returns-then-from-at-clause-block_value c =
     let l = c.loop-line in
     sym (l.invariant.2 ∙ since_reached _ _ l.at c.if-from-at.true)
-
-pub returns-then-from-at-clause-upper_bound : goal.returns-then-from-at-clause-upper_bound
-returns-then-from-at-clause-upper_bound c = c.loop-line.invariant.0
 
 pub loop-line-preserved : goal.loop-line-preserved
 loop-line-preserved c =
@@ -34,6 +27,3 @@ pub returns-clause-block_value : goal.returns-clause-block_value
 returns-clause-block_value c =
     let l = c.loop-line in
     since_none _ _ l.at (l.invariant.1 ∙ c.in-None.ensures.steps.0) ∙ sym l.invariant.2
-
-pub returns-clause-upper_bound : goal.returns-clause-upper_bound
-returns-clause-upper_bound c = c.loop-line.invariant.0

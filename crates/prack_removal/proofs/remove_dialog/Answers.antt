@@ -42,9 +42,6 @@ returns-in_err-t c =
     let old : _ × (_ × _) = written_kept c.args.bytes.now c.args.used (by_store c.args.bytes.now c.args.used (remove_dialog c.args.id.now) (clear (goal.at.returns-in_err-t c).After-find) c.args.id.now (sym c.find.ensures ∙ c.in_err-t.was)) in
     record { value = e ∙ old.0; bytes_after = old.1.0; used_value = ap (λ (r : Result ℕ Refusal). used_written r c.args.used) e ∙ old.1.1 }
 
-pub overflow_sub-at : goal.overflow_sub-at
-overflow_sub-at c = (F (goal.at.overflow_sub-at c).In-Ok).start_past
-
 pub replace-requires : goal.replace-requires
 replace-requires c =
     let i = (goal.at.replace-requires c).In-Ok in

@@ -70,9 +70,6 @@ returns-in_err-slot c =
     let old : _ × (_ × (_ × _)) = listed_kept c.args.bytes.now c.args.used (by_store c.args.bytes.now c.args.used a (clear (goal.at.returns-in_err-slot c).After-find) c.args.id.now (sym c.find.ensures ∙ c.in_err-slot.was)) c.args.out.now in
     record { value = e ∙ old.0; bytes_after = old.1.0; used_value = ap (λ (r : Result (ℕ × ℕ) Refusal). used_listed r c.args.used) e ∙ old.1.1.0; out_after = old.1.1.1 }
 
-pub slice_bounds-clean_copy-end : goal.slice_bounds-clean_copy-end
-slice_bounds-clean_copy-end c = (S (goal.at.slice_bounds-clean_copy-end c).In_ok-slot).within
-
 pub clean_copy-n-requires : goal.clean_copy-n-requires
 clean_copy-n-requires c = (omega arith, (c.args.id.now, cut (S (goal.at.clean_copy-n-requires c).In_ok-slot)))
 

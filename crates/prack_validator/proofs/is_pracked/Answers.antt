@@ -52,9 +52,6 @@ returns-in_err-t c =
     let old : _ × (_ × _) = pracked_kept c.args.bytes.now c.args.used (by_store c.args.bytes.now c.args.used (is_pracked c.args.id.now c.args.rseq) (clear (goal.at.returns-in_err-t c).After-find) c.args.id.now (sym c.find.ensures ∙ c.in_err-t.was)) in
     record { value = e ∙ old.0; bytes_value = old.1.0; used_value = old.1.1 }
 
-pub end-requires : goal.end-requires
-end-requires c = let i = (goal.at.end-requires c).In-Ok in omega (arith, (F i).text_inside, (F i).end_within, (S i).within)
-
 pub slice_bounds-body-end : goal.slice_bounds-body-end
 slice_bounds-body-end c = let i = (goal.at.slice_bounds-body-end c).In-Ok in omega (arith, (F i).text_inside, (F i).end_within, (S i).within, c.end.ensures)
 

@@ -82,9 +82,6 @@ returns-in_err-slot c =
     let old : _ × _ = validated_kept c.args.bytes.now c.args.used (by_store c.args.bytes.now c.args.used a (clear (goal.at.returns-in_err-slot c).In_ok-check_block) c.args.id.now (sym c.find.ensures ∙ c.in_err-slot.was)) in
     record { value = ap (λ (r : Result Validated Refusal). validated_or r c.args.used) e ∙ old.0; bytes_after = old.1 }
 
-pub slice_bounds-clean_copy-end : goal.slice_bounds-clean_copy-end
-slice_bounds-clean_copy-end c = (S (goal.at.slice_bounds-clean_copy-end c).In_ok-slot).within
-
 pub clean_copy-n-requires : goal.clean_copy-n-requires
 clean_copy-n-requires c = (omega arith, (c.args.id.now, cut (S (goal.at.clean_copy-n-requires c).In_ok-slot)))
 

@@ -72,9 +72,6 @@ returns-in_err-slot c =
     let old : _ × (_ × _) = written_kept c.args.bytes.now c.args.used (by_store c.args.bytes.now c.args.used a (clear (goal.at.returns-in_err-slot c).Else-not-is_method) c.args.id.now (sym c.find.ensures ∙ c.in_err-slot.was)) in
     record { value = e ∙ old.0; bytes_after = old.1.0; used_value = ap (λ (r : Result ℕ Refusal). used_written r c.args.used) e ∙ old.1.1 }
 
-pub slice_bounds-clean_copy-end : goal.slice_bounds-clean_copy-end
-slice_bounds-clean_copy-end c = (S (goal.at.slice_bounds-clean_copy-end c).In_ok-slot).within
-
 pub clean_copy-n-requires : goal.clean_copy-n-requires
 clean_copy-n-requires c = (omega arith, (c.args.id.now, cut (S (goal.at.clean_copy-n-requires c).In_ok-slot)))
 

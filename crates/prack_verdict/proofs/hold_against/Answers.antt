@@ -22,11 +22,8 @@ use Rattle.prack_verdict.proofs.hold_against.Goals.{After-read_rack, In_ok-e, In
 read : (c : After-read_rack) → c.read_rack.result ≡ rack_from (rack_in (c.args.block.now))
 read c = c.read_rack.ensures ∙ ap (λ (s : List ℕ). rack_from (read_rack s)) ((c.header_value.ensures.result_value) ∙ value_text_lem rack_name (c.args.block.now))
 
-read-at-In-Some : (c : In-Some) → c.read_rack.result ≡ rack_from (rack_in (c.args.block.now))
-read-at-In-Some c = c.read_rack.ensures ∙ ap (λ (s : List ℕ). rack_from (read_rack s)) ((c.header_value.ensures.result_value) ∙ value_text_lem rack_name (c.args.block.now))
-
-rack : (c : In-Some) → rack_in (c.args.block.now) ≡ Some (c.in-Some.k)
-rack c = some_rack (rack_in (c.args.block.now)) (read-at-In-Some c) c.in-Some.is
+rack : (c : In-Some) → c.read_rack.result ≡ rack_from (rack_in (c.args.block.now)) → rack_in (c.args.block.now) ≡ Some (c.in-Some.k)
+rack c r = some_rack (rack_in (c.args.block.now)) r c.in-Some.is
 
 found : (c : In_ok-e) (t : Tracked) → Holds c.args.body.now (length c.args.body.now) t
     → FoundIn (c.in-Some.k).rseq t.list (c.in_ok-e.e.place) c.in_ok-e.e.cseq c.in_ok-e.e.method c.in_ok-e.e.acknowledged
@@ -48,17 +45,20 @@ returns-in_default c =
 
 pub returns-then-e-k : goal.returns-then-e-k
 returns-then-e-k c =
-    let old : _ × _ = refuses (goal.at.returns-then-e-k c).In-Some (λ t h. other_cseq (rack_in (c.args.block.now)) t.list (c.in-Some.k) (rack (goal.at.returns-then-e-k c).In-Some) (found (goal.at.returns-then-e-k c).In_ok-e t h) c.if-e-k.true) in
+    let p = goal.at.returns-then-e-k c in
+    let old : _ × _ = refuses p.In-Some (λ t h. other_cseq (rack_in (c.args.block.now)) t.list (c.in-Some.k) (rack p.In-Some (read p.After-read_rack)) (found p.In_ok-e t h) c.if-e-k.true) in
     record { value = old.0; holds = old.1 }
 
 pub returns-then-e-k-2 : goal.returns-then-e-k-2
 returns-then-e-k-2 c =
-    let old : _ × _ = refuses (goal.at.returns-then-e-k-2 c).In-Some (λ t h. other_method (rack_in (c.args.block.now)) t.list (c.in-Some.k) (rack (goal.at.returns-then-e-k-2 c).In-Some) (found (goal.at.returns-then-e-k-2 c).In_ok-e t h) c.if-e-k.false c.if-e-k-2.true) in
+    let p = goal.at.returns-then-e-k-2 c in
+    let old : _ × _ = refuses p.In-Some (λ t h. other_method (rack_in (c.args.block.now)) t.list (c.in-Some.k) (rack p.In-Some (read p.After-read_rack)) (found p.In_ok-e t h) c.if-e-k.false c.if-e-k-2.true) in
     record { value = old.0; holds = old.1 }
 
 pub returns-then-e : goal.returns-then-e
 returns-then-e c =
-    let old : _ × _ = refuses (goal.at.returns-then-e c).In-Some (λ t h. repeated (rack_in (c.args.block.now)) t.list (c.in-Some.k) (rack (goal.at.returns-then-e c).In-Some) (found (goal.at.returns-then-e c).In_ok-e t h) c.if-e-k.false c.if-e-k-2.false c.if-e.true) in
+    let p = goal.at.returns-then-e c in
+    let old : _ × _ = refuses p.In-Some (λ t h. repeated (rack_in (c.args.block.now)) t.list (c.in-Some.k) (rack p.In-Some (read p.After-read_rack)) (found p.In_ok-e t h) c.if-e-k.false c.if-e-k-2.false c.if-e.true) in
     record { value = old.0; holds = old.1 }
 
 pub mark-requires : goal.mark-requires
@@ -68,15 +68,17 @@ mark-requires c =
 
 pub returns : goal.returns
 returns c =
+    let p = goal.at.returns c in
     let old : _ × _ = marks (rack_in (c.args.block.now)) c.args.body.now (length c.args.body.now) (λ t h.
-    let w = found (goal.at.returns c).In_ok-e t h in (
-      accepted (rack_in (c.args.block.now)) t.list (c.in-Some.k) (rack (goal.at.returns c).In-Some) w c.if-e-k.false c.if-e-k-2.false c.if-e.false,
+    let w = found p.In_ok-e t h in (
+      accepted (rack_in (c.args.block.now)) t.list (c.in-Some.k) (rack p.In-Some (read p.After-read_rack)) w c.if-e-k.false c.if-e-k-2.false c.if-e.false,
       (w.list, (w.stands, c.mark.ensures (length c.args.body.now) (c.in-Some.k).rseq t w.list w.entry h w.stands w.first w.at)),
     )) in
     record { value = old.0; holds = old.1 }
 
 pub returns-in_err-e : goal.returns-in_err-e
 returns-in_err-e c =
+    let p = goal.at.returns-in_err-e c in
     let q = err_is c.from_residual.result _ c.from_residual.ensures.1 in
-    let old : _ × _ = refuses (goal.at.returns-in_err-e c).In-Some (λ t h. no_entry (rack_in (c.args.block.now)) t.list (c.in-Some.k) (rack (goal.at.returns-in_err-e c).In-Some) (sym (c.first_of.ensures t h) ∙ c.in_err-e.was)) in
+    let old : _ × _ = refuses p.In-Some (λ t h. no_entry (rack_in (c.args.block.now)) t.list (c.in-Some.k) (rack p.In-Some (read p.After-read_rack)) (sym (c.first_of.ensures t h) ∙ c.in_err-e.was)) in
     record { value = λ t h. q ∙ old.0 t h; holds = old.1 }

@@ -1,6 +1,5 @@
 -- `record_walk::record_end` meets its contract: each step goes past one field of the image. Assumes nothing.
 use Prim.Native.Nat.{ℕ, ◌+◌, ◌≤◌}
-use native.Mathlib.Omega.{arith}
 use mathlib.Core.Path.{◌≡◌, ◌∙◌}
 use mathlib.Core.List.{List}
 use mathlib.Core.Bool.{true}
@@ -42,13 +41,6 @@ past-remote_uri-requires c = let a = c.args in local_uri_here a.bytes.now a.p (b
 
 pub past-numbers-requires : goal.past-numbers-requires
 past-numbers-requires c = let a = c.args in remote_uri_here a.bytes.now a.p (bytes_all a.bytes.now (λ i. (c.type_inv.bytes i).fits)) c.requires c.ids_end-target.result c.ids_end-target.ensures.0 c.past-local_uri.result c.past-remote_uri.result c.past-local_uri.ensures c.past-remote_uri.ensures
-
-pub overflow_add-routes : goal.overflow_add-routes
-overflow_add-routes c =
-    let a = c.args in
-    let k = bytes_all a.bytes.now (λ i. (c.type_inv.bytes i).fits) in
-    let n = at_numbers a.bytes.now a.p k c.requires c.ids_end-target.result c.ids_end-target.ensures.0 c.past-local_uri.result c.past-remote_uri.result c.past-numbers.result c.past-local_uri.ensures c.past-remote_uri.ensures c.past-numbers.ensures in
-    omega (arith, Tails.routes_here a.bytes.now a.p k c.requires c.two-m.result c.past-numbers.result c.two-m.ensures.0 n)
 
 pub returns-then-m-eq0 : goal.returns-then-m-eq0
 returns-then-m-eq0 c =

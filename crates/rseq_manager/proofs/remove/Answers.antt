@@ -7,7 +7,7 @@ use Rattle.ordered_store.specs.Answers.{used_written}
 use Rattle.dialog_id.specs.IdTexts.{ident_of}
 use Rattle.rseq_entries.specs.Entries.{key_of_ident}
 use Rattle.rseq_entries.specs.Places.{slot_for}
-use Rattle.rseq_entries.proofs.SlotLaws.{holds, begins}
+use Rattle.rseq_entries.proofs.SlotLaws.{holds}
 use Rattle.rseq_manager.proofs.OperationLaws.{end_within, number_within}
 use Rattle.rseq_manager.proofs.AnswerLaws.{remove_refused, remove_broken, remove_cut, remove_nothing}
 use Rattle.rseq_manager.proofs.remove.Goals as goal
@@ -31,9 +31,6 @@ returns-in_err-e c =
     let old : _ × (_ × _) = remove_broken (ident_of c.args.id) c.args.bytes.now c.args.used (known (goal.at.returns-in_err-e c).After-check_lengths) (sym c.check_lengths.ensures ∙ c.in_ok-check_lengths.was) (sym c.find.ensures ∙ c.in_err-e.was) in
     let e = err_is c.from_residual-in_err-e.result _ c.from_residual-in_err-e.ensures.1 in
     record { value = e ∙ old.0; bytes_after = old.1.0; used_value = ap (λ (r : Result ℕ Refusal). used_written r c.args.used) e ∙ old.1.1 }
-
-pub overflow_sub-at : goal.overflow_sub-at
-overflow_sub-at c = begins (key_of_ident (ident_of c.args.id)) c.args.bytes.now c.args.used (slot (goal.at.overflow_sub-at c).In-Ok)
 
 pub replace-requires : goal.replace-requires
 replace-requires c =

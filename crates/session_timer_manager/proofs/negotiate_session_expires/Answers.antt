@@ -10,14 +10,8 @@ returns-then-requested-least c =
     let least = c.joint_minimum-least in
     rw (← least.ensures, lt-ltb c.args.requested least.result (omega arith))
 
-pub returns-in_default : goal.returns-in_default
-unfolding negotiated
-returns-in_default c =
-    let least = c.joint_minimum-least in
-    rw (← least.ensures, le-ltb c.args.requested least.result (omega arith), c.in_default.is)
-
 pub returns : goal.returns
 unfolding negotiated
 returns c =
     let least = c.joint_minimum-least in
-    rw (c.min.ensures, c.max.ensures, ← least.ensures, le-ltb c.args.requested least.result (omega arith), c.in-Some.is)
+    rw (c.reduced.ensures, ← least.ensures, le-ltb c.args.requested least.result (omega arith))

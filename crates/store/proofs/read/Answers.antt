@@ -1,18 +1,12 @@
 -- `store::read` meets its contract: 3, or the used bytes, which were counted. Assumes nothing.
-use mathlib.Core.Path.{refl, sym, subst, ◌∙◌}
+use mathlib.Core.Path.{refl, sym, ◌∙◌}
 use lib.Seq.{length-take-le}
-use Rattle.std.proofs.result.Match.{err_is}
-use Rattle.store.specs.Counting.{ReadAs}
 use Rattle.store.proofs.HeldLaws.{Used, counted_used, front_fits}
 use Rattle.store.proofs.read.Goals as goal
 use Rattle.store.proofs.read.Goals.{In_ok-count}
 
 counted : (c : In_ok-count) → Used c.args.bytes.now c.args.used
 counted c = counted_used c.args.bytes.now c.args.used (sym c.count.ensures ∙ c.in_ok-count.was)
-
-pub returns-in_err-count : goal.returns-in_err-count
-returns-in_err-count c =
-    subst (ReadAs c.args.bytes.now c.args.used) (sym (err_is c.from_residual.result _ c.from_residual.ensures.1)) (sym c.count.ensures ∙ c.in_err-count.was)
 
 pub slice_bounds-result-end : goal.slice_bounds-result-end
 slice_bounds-result-end c = sym (length-take-le c.args.used c.args.bytes.now (counted c).within)

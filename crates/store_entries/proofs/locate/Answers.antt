@@ -10,9 +10,9 @@ use Rattle.dialog_id.specs.Ident.{Ident, ident}
 use Rattle.record.specs.Store.{decode_all}
 use Rattle.store.specs.Counting.{ReadAs}
 use Rattle.book.specs.Book.{is_of}
-use Rattle.dialog_manager.specs.Search.{found_in, Stands}
+use Rattle.dialog_manager.specs.Search.{found_in}
 use Rattle.dialog_manager.proofs.LookupLaws.{Kept, kept_by, refused}
-use Rattle.store_entries.proofs.LocateLaws.{ready, unread, nothing, one}
+use Rattle.store_entries.proofs.LocateLaws.{unread, nothing, one}
 use Rattle.store_entries.proofs.locate.Goals as goal
 use Rattle.store_entries.proofs.locate.Goals.{In_ok-at, In_ok-held, Start}
 
@@ -49,9 +49,3 @@ returns-clause-value c =
     let at = c.in_ok-at.at in
     let r = c.in_ok-at.record in
     one c.args.bytes.now c.args.used (name (goal.at.returns-clause-value c).Start) (store (goal.at.returns-clause-value c).In_ok-held) at r (sym (found (goal.at.returns-clause-value c).In_ok-at) ∙ c.search_id.ensures.value ∙ same (goal.at.returns-clause-value c).In_ok-held (name (goal.at.returns-clause-value c).Start))
-
-pub returns-clause-ready : goal.returns-clause-ready
-returns-clause-ready c =
-    let at = c.in_ok-at.at in
-    let r = c.in_ok-at.record in
-    ready c.args.bytes.now c.args.used (store (goal.at.returns-clause-ready c).In_ok-held) at r (subst (Stands (take c.args.used c.args.bytes.now)) (found (goal.at.returns-clause-ready c).In_ok-at) (subst (λ (s : List ℕ). Stands s c.search_id.result) (opened (goal.at.returns-clause-ready c).In_ok-held).1 c.search_id.ensures.stands))

@@ -34,40 +34,21 @@ ids c = ids_in (decode_all (take c.args.used (c.args.bytes.now)))
 same : (c : In_ok-held) → ids_in (decode_all c.in_ok-held.held.bytes.now) ≡ ids c
 same c = ap (λ (s : List ℕ). ids_in (decode_all s)) (opened c).1
 
-pub returns-in_err-held-clause-value : goal.returns-in_err-held-clause-value
-returns-in_err-held-clause-value c =
+pub returns-in_err-held : goal.returns-in_err-held
+returns-in_err-held c =
     let a = c.args in
     let e = unread rust_limits (length (c.args.bytes.now)) (length a.out.now) (c.args.bytes.now) a.used (bytes_all (c.args.bytes.now) (λ i. (c.type_inv.bytes i).fits)) (subst (ReadAs c.args.bytes.now c.args.used) c.in_err-held.was c.read.ensures) in
-    (err_is c.from_residual.result _ c.from_residual.ensures.1) ∙ ap ids_written e
+    record { value = (err_is c.from_residual.result _ c.from_residual.ensures.1) ∙ ap ids_written e; out_after = ap (λ (x : Answer). output_after x a.out.now) e }
 
-pub returns-in_err-held-clause-out_after : goal.returns-in_err-held-clause-out_after
-returns-in_err-held-clause-out_after c =
+pub returns-then-out-n : goal.returns-then-out-n
+returns-then-out-n c =
     let a = c.args in
-    let e = unread rust_limits (length (c.args.bytes.now)) (length a.out.now) (c.args.bytes.now) a.used (bytes_all (c.args.bytes.now) (λ i. (c.type_inv.bytes i).fits)) (subst (ReadAs c.args.bytes.now c.args.used) c.in_err-held.was c.read.ensures) in
-    ap (λ (x : Answer). output_after x a.out.now) e
+    let h : length a.out.now < length (ids (goal.at.returns-then-out-n c).In_ok-held) = omega (arith, c.if-out-n.true, c.ids_size-n.ensures, ap length (same (goal.at.returns-then-out-n c).In_ok-held)) in
+    let e = too_long rust_limits (length (c.args.bytes.now)) (length a.out.now) (c.args.bytes.now) a.used (bytes_all (c.args.bytes.now) (λ i. (c.type_inv.bytes i).fits)) (store (goal.at.returns-then-out-n c).In_ok-held) h in
+    record { value = ap ids_written e; out_after = ap (λ (x : Answer). output_after x a.out.now) e }
 
-pub returns-then-out-n-clause-value : goal.returns-then-out-n-clause-value
-returns-then-out-n-clause-value c =
+pub returns : goal.returns
+returns c =
     let a = c.args in
-    let h : length a.out.now < length (ids (goal.at.returns-then-out-n-clause-value c).In_ok-held) = omega (arith, c.if-out-n.true, c.ids_size-n.ensures, ap length (same (goal.at.returns-then-out-n-clause-value c).In_ok-held)) in
-    let e = too_long rust_limits (length (c.args.bytes.now)) (length a.out.now) (c.args.bytes.now) a.used (bytes_all (c.args.bytes.now) (λ i. (c.type_inv.bytes i).fits)) (store (goal.at.returns-then-out-n-clause-value c).In_ok-held) h in
-    ap ids_written e
-
-pub returns-then-out-n-clause-out_after : goal.returns-then-out-n-clause-out_after
-returns-then-out-n-clause-out_after c =
-    let a = c.args in
-    let h : length a.out.now < length (ids (goal.at.returns-then-out-n-clause-out_after c).In_ok-held) = omega (arith, c.if-out-n.true, c.ids_size-n.ensures, ap length (same (goal.at.returns-then-out-n-clause-out_after c).In_ok-held)) in
-    let e = too_long rust_limits (length (c.args.bytes.now)) (length a.out.now) (c.args.bytes.now) a.used (bytes_all (c.args.bytes.now) (λ i. (c.type_inv.bytes i).fits)) (store (goal.at.returns-then-out-n-clause-out_after c).In_ok-held) h in
-    ap (λ (x : Answer). output_after x a.out.now) e
-
-pub returns-clause-value : goal.returns-clause-value
-returns-clause-value c =
-    let a = c.args in
-    let e = fitting rust_limits (length (c.args.bytes.now)) (length a.out.now) (c.args.bytes.now) a.used (bytes_all (c.args.bytes.now) (λ i. (c.type_inv.bytes i).fits)) (store (goal.at.returns-clause-value c).In_ok-held) (omega (arith, c.if-out-n.false, c.ids_size-n.ensures, ap length (same (goal.at.returns-clause-value c).In_ok-held))) in
-    ap Ok (c.ids_size-n.ensures ∙ ap length (same (goal.at.returns-clause-value c).In_ok-held)) ∙ ap ids_written e
-
-pub returns-clause-out_after : goal.returns-clause-out_after
-returns-clause-out_after c =
-    let a = c.args in
-    let e = fitting rust_limits (length (c.args.bytes.now)) (length a.out.now) (c.args.bytes.now) a.used (bytes_all (c.args.bytes.now) (λ i. (c.type_inv.bytes i).fits)) (store (goal.at.returns-clause-out_after c).In_ok-held) (omega (arith, c.if-out-n.false, c.ids_size-n.ensures, ap length (same (goal.at.returns-clause-out_after c).In_ok-held))) in
-    c.write_all.ensures ∙ ap (λ (l : List ℕ). over l a.out.now) (same (goal.at.returns-clause-out_after c).In_ok-held) ∙ ap (λ (x : Answer). output_after x a.out.now) e
+    let e = fitting rust_limits (length (c.args.bytes.now)) (length a.out.now) (c.args.bytes.now) a.used (bytes_all (c.args.bytes.now) (λ i. (c.type_inv.bytes i).fits)) (store (goal.at.returns c).In_ok-held) (omega (arith, c.if-out-n.false, c.ids_size-n.ensures, ap length (same (goal.at.returns c).In_ok-held))) in
+    record { value = ap Ok (c.ids_size-n.ensures ∙ ap length (same (goal.at.returns c).In_ok-held)) ∙ ap ids_written e; out_after = c.write_all.ensures ∙ ap (λ (l : List ℕ). over l a.out.now) (same (goal.at.returns c).In_ok-held) ∙ ap (λ (x : Answer). output_after x a.out.now) e }

@@ -30,9 +30,6 @@ loop-at-init c =
     let b = begun s _ _ c.into_iter-at-iterator.ensures.into_iter_gives c.records-at-items.ensures.bytes c.records-at-items.ensures.at in
     (b.0, subst (λ (at : ℕ). Measured s at 0) (sym b.1) (measure s (bytes_all s c.args.held.fit) (stored_held c.args.held)))
 
-pub ids_at-ids-requires : goal.ids_at-ids-requires
-ids_at-ids-requires c = (taken c).here
-
 pub id_size-n-requires : goal.id_size-n-requires
 id_size-n-requires c = (adds (goal.at.id_size-n-requires c).In-Some c.ids_at-ids.result c.ids_at-ids.ensures).short
 

@@ -35,9 +35,6 @@ loop-at-init c =
     let b = begun s _ _ c.into_iter-at-iterator.ensures.into_iter_gives c.records-at-items.ensures.bytes c.records-at-items.ensures.at in
     (b.0, subst (λ (at : ℕ). Filled s out at 0 out) (sym b.1) (fill s out (bytes_all s c.args.held.fit) (stored_held c.args.held)))
 
-pub ids_at-ids-requires : goal.ids_at-ids-requires
-ids_at-ids-requires c = (taken c).here
-
 pub texts-id-requires : goal.texts-id-requires
 texts-id-requires c = (adds (goal.at.texts-id-requires c).In-Some c.ids_at-ids.result c.ids_at-ids.ensures).within
 

@@ -2,17 +2,7 @@
 use native.Mathlib.Omega.{arith}
 use Rattle.edit.proofs.EditLaws.{wrote_three}
 use Rattle.codec.specs.Codec.{text}
-use Rattle.store_ids.proofs.IdentifierLaws.{bytes_size}
-use Rattle.dialog_id.specs.IdTexts.{ident_of}
 use Rattle.store_ids.proofs.write_id.Goals as goal
-
-pub write_text-a-requires : goal.write_text-a-requires
-write_text-a-requires c = let r = c.requires in (r.texts_short.0, omega (arith, r.texts_in_bounds, bytes_size (ident_of c.args.id)))
-
-pub returns-clause-value : goal.returns-clause-value
-returns-clause-value c =
-    let a = c.args in
-    (wrote_three a.to (text.write a.id.call_id.now) (text.write a.id.local_tag.now) (text.write a.id.remote_tag.now) a.out.now (omega arith) (c.write_text-a.ensures.value, c.write_text-a.ensures.out_after) (c.write_text-b.ensures.value, c.write_text-b.ensures.out_after) (c.write_text.ensures.value, c.write_text.ensures.out_after)).0
 
 pub returns-clause-out_after : goal.returns-clause-out_after
 returns-clause-out_after c =

@@ -35,23 +35,13 @@ checked c = ap check_of (good c)
 table : (c : In_ok-t) → c.in_ok-t.t ≡ table_of (lines_of c.args.block.now)
 table c = (read c).1
 
-pub returns-in_err-check_length-clause-value : goal.returns-in_err-check_length-clause-value
-returns-in_err-check_length-clause-value c =
+pub returns-in_err-check_length : goal.returns-in_err-check_length
+returns-in_err-check_length c =
     let a = c.args in
     let q = length_stopped rust_limits c.args.method.now (sym c.check_length.ensures ∙ c.in_err-check_length.was) in
-    err_is c.from_residual.result _ c.from_residual.ensures.1 ∙ ap Err q.1 ∙ (request_long a.method.now a.block.now a.bytes.now a.used q.0).0
-
-pub returns-in_err-check_length-clause-bytes_after : goal.returns-in_err-check_length-clause-bytes_after
-returns-in_err-check_length-clause-bytes_after c =
-    let a = c.args in
-    let q = length_stopped rust_limits c.args.method.now (sym c.check_length.ensures ∙ c.in_err-check_length.was) in
-    (request_long a.method.now a.block.now a.bytes.now a.used q.0).1.0
-
-pub returns-in_err-check_length-clause-used_value : goal.returns-in_err-check_length-clause-used_value
-returns-in_err-check_length-clause-used_value c =
-    let a = c.args in
-    let q = length_stopped rust_limits c.args.method.now (sym c.check_length.ensures ∙ c.in_err-check_length.was) in
-    ap (λ (r : Result ℕ Refusal). used_after r a.used) (err_is c.from_residual.result _ c.from_residual.ensures.1 ∙ ap Err q.1) ∙ (request_long a.method.now a.block.now a.bytes.now a.used q.0).1.1
+    let e = err_is c.from_residual.result _ c.from_residual.ensures.1 ∙ ap Err q.1 in
+    let t = request_long a.method.now a.block.now a.bytes.now a.used q.0 in
+    record { value = e ∙ t.0; bytes_after = t.1.0; used_value = ap (λ (r : Result ℕ Refusal). used_after r a.used) e ∙ t.1.1 }
 
 pub request_by-requires-clause-stands : goal.request_by-requires-clause-stands
 request_by-requires-clause-stands c = subst (Ready c.args.bytes.now) c.in_ok-p.was c.locate_named.ensures.ready
@@ -61,47 +51,22 @@ request_by-requires-clause-block_value c =
     let a = c.args in
     (short_block rust_limits a.block.now (checked (goal.at.request_by-requires-clause-block_value c).In_ok-t), ap (λ (x : HeaderTable). x.cseq) (table (goal.at.request_by-requires-clause-block_value c).In_ok-t), ap (λ (x : HeaderTable). x.contact) (table (goal.at.request_by-requires-clause-block_value c).In_ok-t))
 
-pub returns-clause-value : goal.returns-clause-value
-returns-clause-value c =
+pub returns : goal.returns
+returns c =
     let a = c.args in
-    (request_done a.method.now a.block.now a.bytes.now a.used (short (goal.at.returns-clause-value c).In_ok-t) (good (goal.at.returns-clause-value c).In_ok-t) (bytes_all a.bytes.now (λ i. (c.slice_known-1.given i).fits)) c.in_ok-p.p (sym c.in_ok-p.was ∙ c.locate_named.ensures.value) c.request_by.result c.request_by.new.bytes (c.request_by.ensures.value, c.request_by.ensures.bytes_after)).0
+    let t = request_done a.method.now a.block.now a.bytes.now a.used (short (goal.at.returns c).In_ok-t) (good (goal.at.returns c).In_ok-t) (bytes_all a.bytes.now (λ i. (c.slice_known-1.given i).fits)) c.in_ok-p.p (sym c.in_ok-p.was ∙ c.locate_named.ensures.value) c.request_by.result c.request_by.new.bytes (c.request_by.ensures.value, c.request_by.ensures.bytes_after) in
+    record { value = t.0; bytes_after = t.1.0; used_value = t.1.1 }
 
-pub returns-clause-bytes_after : goal.returns-clause-bytes_after
-returns-clause-bytes_after c =
+pub returns-in_err-p : goal.returns-in_err-p
+returns-in_err-p c =
     let a = c.args in
-    (request_done a.method.now a.block.now a.bytes.now a.used (short (goal.at.returns-clause-bytes_after c).In_ok-t) (good (goal.at.returns-clause-bytes_after c).In_ok-t) (bytes_all a.bytes.now (λ i. (c.slice_known-1.given i).fits)) c.in_ok-p.p (sym c.in_ok-p.was ∙ c.locate_named.ensures.value) c.request_by.result c.request_by.new.bytes (c.request_by.ensures.value, c.request_by.ensures.bytes_after)).1.0
+    let e = err_is c.from_residual-in_err-p.result _ c.from_residual-in_err-p.ensures.1 in
+    let t = request_turned a.method.now a.block.now a.bytes.now a.used (short (goal.at.returns-in_err-p c).In_ok-t) (good (goal.at.returns-in_err-p c).In_ok-t) (sym c.in_err-p.was ∙ c.locate_named.ensures.value) in
+    record { value = e ∙ t.0; bytes_after = t.1.0; used_value = ap (λ (r : Result ℕ Refusal). used_after r a.used) e ∙ t.1.1 }
 
-pub returns-clause-used_value : goal.returns-clause-used_value
-returns-clause-used_value c =
+pub returns-in_err-t : goal.returns-in_err-t
+returns-in_err-t c =
     let a = c.args in
-    (request_done a.method.now a.block.now a.bytes.now a.used (short (goal.at.returns-clause-used_value c).In_ok-t) (good (goal.at.returns-clause-used_value c).In_ok-t) (bytes_all a.bytes.now (λ i. (c.slice_known-1.given i).fits)) c.in_ok-p.p (sym c.in_ok-p.was ∙ c.locate_named.ensures.value) c.request_by.result c.request_by.new.bytes (c.request_by.ensures.value, c.request_by.ensures.bytes_after)).1.1
-
-pub returns-in_err-p-clause-value : goal.returns-in_err-p-clause-value
-returns-in_err-p-clause-value c =
-    let a = c.args in
-    err_is c.from_residual-in_err-p.result _ c.from_residual-in_err-p.ensures.1 ∙ (request_turned a.method.now a.block.now a.bytes.now a.used (short (goal.at.returns-in_err-p-clause-value c).In_ok-t) (good (goal.at.returns-in_err-p-clause-value c).In_ok-t) (sym c.in_err-p.was ∙ c.locate_named.ensures.value)).0
-
-pub returns-in_err-p-clause-bytes_after : goal.returns-in_err-p-clause-bytes_after
-returns-in_err-p-clause-bytes_after c =
-    let a = c.args in
-    (request_turned a.method.now a.block.now a.bytes.now a.used (short (goal.at.returns-in_err-p-clause-bytes_after c).In_ok-t) (good (goal.at.returns-in_err-p-clause-bytes_after c).In_ok-t) (sym c.in_err-p.was ∙ c.locate_named.ensures.value)).1.0
-
-pub returns-in_err-p-clause-used_value : goal.returns-in_err-p-clause-used_value
-returns-in_err-p-clause-used_value c =
-    let a = c.args in
-    ap (λ (r : Result ℕ Refusal). used_after r a.used) (err_is c.from_residual-in_err-p.result _ c.from_residual-in_err-p.ensures.1) ∙ (request_turned a.method.now a.block.now a.bytes.now a.used (short (goal.at.returns-in_err-p-clause-used_value c).In_ok-t) (good (goal.at.returns-in_err-p-clause-used_value c).In_ok-t) (sym c.in_err-p.was ∙ c.locate_named.ensures.value)).1.1
-
-pub returns-in_err-t-clause-value : goal.returns-in_err-t-clause-value
-returns-in_err-t-clause-value c =
-    let a = c.args in
-    err_is c.from_residual-in_err-t.result _ c.from_residual-in_err-t.ensures.1 ∙ (request_bad a.method.now a.block.now a.bytes.now a.used (length_passed rust_limits c.args.method.now (sym c.check_length.ensures ∙ c.in_ok-check_length.was)) (headers_bad (block_cause rust_limits a.block.now) _ _ (sym c.read_headers.ensures ∙ c.in_err-t.was))).0
-
-pub returns-in_err-t-clause-bytes_after : goal.returns-in_err-t-clause-bytes_after
-returns-in_err-t-clause-bytes_after c =
-    let a = c.args in
-    (request_bad a.method.now a.block.now a.bytes.now a.used (length_passed rust_limits c.args.method.now (sym c.check_length.ensures ∙ c.in_ok-check_length.was)) (headers_bad (block_cause rust_limits a.block.now) _ _ (sym c.read_headers.ensures ∙ c.in_err-t.was))).1.0
-
-pub returns-in_err-t-clause-used_value : goal.returns-in_err-t-clause-used_value
-returns-in_err-t-clause-used_value c =
-    let a = c.args in
-    ap (λ (r : Result ℕ Refusal). used_after r a.used) (err_is c.from_residual-in_err-t.result _ c.from_residual-in_err-t.ensures.1) ∙ (request_bad a.method.now a.block.now a.bytes.now a.used (length_passed rust_limits c.args.method.now (sym c.check_length.ensures ∙ c.in_ok-check_length.was)) (headers_bad (block_cause rust_limits a.block.now) _ _ (sym c.read_headers.ensures ∙ c.in_err-t.was))).1.1
+    let e = err_is c.from_residual-in_err-t.result _ c.from_residual-in_err-t.ensures.1 in
+    let t = request_bad a.method.now a.block.now a.bytes.now a.used (length_passed rust_limits c.args.method.now (sym c.check_length.ensures ∙ c.in_ok-check_length.was)) (headers_bad (block_cause rust_limits a.block.now) _ _ (sym c.read_headers.ensures ∙ c.in_err-t.was)) in
+    record { value = e ∙ t.0; bytes_after = t.1.0; used_value = ap (λ (r : Result ℕ Refusal). used_after r a.used) e ∙ t.1.1 }

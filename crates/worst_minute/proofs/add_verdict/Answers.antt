@@ -19,14 +19,11 @@ use Rattle.worst_minute.proofs.add_verdict.Goals.{In_ok-run, In_ok-last}
 lent : (c : In_ok-run) → (c.args.used ≤ length c.args.bytes.now) × (c.in_ok-run.run'.now ≡ take c.args.used c.args.bytes.now)
 lent c = lent_some c.args.bytes.now c.args.used _ _ c.get.ensures.lookup c.ok_or.ensures.value c.in_ok-run.was
 
-lent-at-In_ok-last : (c : In_ok-last) → (c.args.used ≤ length c.args.bytes.now) × (c.in_ok-run.run'.now ≡ take c.args.used c.args.bytes.now)
-lent-at-In_ok-last c = lent_some c.args.bytes.now c.args.used _ _ c.get.ensures.lookup c.ok_or.ensures.value c.in_ok-run.was
-
 -- the run was read, and has this last time
-read : (c : In_ok-last) → LastIs (take c.args.used c.args.bytes.now) c.in_ok-last.last
-read c =
+read : (c : In_ok-last) → c.in_ok-run.run'.now ≡ take c.args.used c.args.bytes.now → LastIs (take c.args.used c.args.bytes.now) c.in_ok-last.last
+read c e =
     last_read (take c.args.used c.args.bytes.now) c.in_ok-last.last
-    (ap (λ s. last_of (decode_run s)) (sym (lent-at-In_ok-last c).1) ∙ sym c.last_time.ensures ∙ c.ok_or-2.ensures.ok_part ∙ ap result_ok c.in_ok-last.was)
+    (ap (λ s. last_of (decode_run s)) (sym e) ∙ sym c.last_time.ensures ∙ c.ok_or-2.ensures.ok_part ∙ ap result_ok c.in_ok-last.was)
 
 pub returns-in_err-run : goal.returns-in_err-run
 returns-in_err-run c =
@@ -50,19 +47,22 @@ returns-then-used-eq-RUN_ROOM c =
     let b : Bytes c.args.bytes.now = λ i. search rules in
     let old : _ × _ = let a = c.args in
     let v : Verdict = record { time = a.time; number = a.number } in
-    let h = (lent (goal.at.returns-then-used-eq-RUN_ROOM c).In_ok-run).0 in
+    let u = lent (goal.at.returns-then-used-eq-RUN_ROOM c).In_ok-run in
+    let h = u.0 in
+    let l = read (goal.at.returns-then-used-eq-RUN_ROOM c).In_ok-last u.1 in
     let p = c.max-t.ensures in
     let f = c.if-used-eq-RUN_ROOM.true in
-    wrote a.bytes.now (drops v a.bytes.now a.used h b (read (goal.at.returns-then-used-eq-RUN_ROOM c).In_ok-last) p f) (drops_length v a.bytes.now a.used h b (read (goal.at.returns-then-used-eq-RUN_ROOM c).In_ok-last) p f)
-    (drops_bytes v a.bytes.now a.used h b (read (goal.at.returns-then-used-eq-RUN_ROOM c).In_ok-last) p f c.shift.ensures c.write_entry.ensures) in
+    wrote a.bytes.now (drops v a.bytes.now a.used h b l p f) (drops_length v a.bytes.now a.used h b l p f)
+    (drops_bytes v a.bytes.now a.used h b l p f c.shift.ensures c.write_entry.ensures) in
     record { value = old.0; bytes_after = old.1 }
 
 pub returns-then-bytes-used-lt-ENTRY_SIZE : goal.returns-then-bytes-used-lt-ENTRY_SIZE
 returns-then-bytes-used-lt-ENTRY_SIZE c =
     let b : Bytes c.args.bytes.now = λ i. search rules in
     let old : _ × _ = let a = c.args in
-    let h = (lent (goal.at.returns-then-bytes-used-lt-ENTRY_SIZE c).In_ok-run).0 in
-    let l = read (goal.at.returns-then-bytes-used-lt-ENTRY_SIZE c).In_ok-last in
+    let u = lent (goal.at.returns-then-bytes-used-lt-ENTRY_SIZE c).In_ok-run in
+    let h = u.0 in
+    let l = read (goal.at.returns-then-bytes-used-lt-ENTRY_SIZE c).In_ok-last u.1 in
     kept a.bytes.now (no_room (record { time = a.time; number = a.number }) a.bytes.now a.used h b l c.max-t.ensures (not_full a.bytes.now a.used h l c.if-used-eq-RUN_ROOM.false) c.if-bytes-used-lt-ENTRY_SIZE.true) in
     record { value = old.0; bytes_after = old.1 }
 
@@ -71,8 +71,9 @@ returns c =
     let b : Bytes c.args.bytes.now = λ i. search rules in
     let old : _ × _ = let a = c.args in
     let v : Verdict = record { time = a.time; number = a.number } in
-    let h = (lent (goal.at.returns c).In_ok-run).0 in
-    let l = read (goal.at.returns c).In_ok-last in
+    let u = lent (goal.at.returns c).In_ok-run in
+    let h = u.0 in
+    let l = read (goal.at.returns c).In_ok-last u.1 in
     let p = c.max-t.ensures in
     let f = not_full a.bytes.now a.used h l c.if-used-eq-RUN_ROOM.false in
     let q = c.if-bytes-used-lt-ENTRY_SIZE.false in

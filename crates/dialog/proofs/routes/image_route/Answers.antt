@@ -11,11 +11,8 @@ use Rattle.dialog.proofs.routes.image_route.Goals.{Else-r-index, In_ok-r}
 the_read : (c : In_ok-r) → Read c.args.bytes.now c.in_ok-r.r
 the_read c = image_read c.args.bytes.now c.in_ok-r.r (λ i. (c.type_inv.bytes i).fits) (sym c.in_ok-r.was ∙ c.read_image.ensures)
 
-the_read-at-Else-r-index : (c : Else-r-index) → Read c.args.bytes.now c.in_ok-r.r
-the_read-at-Else-r-index c = image_read c.args.bytes.now c.in_ok-r.r (λ i. (c.type_inv.bytes i).fits) (sym c.in_ok-r.was ∙ c.read_image.ensures)
-
-first_left : (c : Else-r-index) → Left c.args.bytes.now c.args.index (c.in_ok-r.r.routes + 1) c.args.index
-first_left c = start c.args.bytes.now c.args.index c.in_ok-r.r (the_read-at-Else-r-index c) c.if-r-index.false
+first_left : (c : Else-r-index) → Read c.args.bytes.now c.in_ok-r.r → Left c.args.bytes.now c.args.index (c.in_ok-r.r.routes + 1) c.args.index
+first_left c r = start c.args.bytes.now c.args.index c.in_ok-r.r r c.if-r-index.false
 
 pub returns-in_err-r : goal.returns-in_err-r
 returns-in_err-r c = err_is c.from_residual.result _ c.from_residual.ensures.1 ∙ no_route c.args.bytes.now c.args.index (sym c.in_err-r.was ∙ c.read_image.ensures)
@@ -24,13 +21,13 @@ pub returns-then-r-index : goal.returns-then-r-index
 returns-then-r-index c = nothing_there c.args.bytes.now c.args.index c.in_ok-r.r (the_read (goal.at.returns-then-r-index c).In_ok-r) c.if-r-index.true
 
 pub overflow_add-at : goal.overflow_add-at
-overflow_add-at c = omega (arith, length_within c.args.bytes.now c.args.index (c.in_ok-r.r.routes + 1) c.args.index (first_left (goal.at.overflow_add-at c).Else-r-index))
+overflow_add-at c = omega (arith, length_within c.args.bytes.now c.args.index (c.in_ok-r.r.routes + 1) c.args.index (first_left (goal.at.overflow_add-at c).Else-r-index (the_read (goal.at.overflow_add-at c).In_ok-r)))
 
 pub loop-i-init : goal.loop-i-init
 loop-i-init c =
     let a = c.args in
     let all : a.index ≡ a.index - 0 = omega arith in
-    subst (λ (n : ℕ). Left a.bytes.now a.index (c.in_ok-r.r.routes + 1) n) all (first_left (goal.at.loop-i-init c).Else-r-index)
+    subst (λ (n : ℕ). Left a.bytes.now a.index (c.in_ok-r.r.routes + 1) n) all (first_left (goal.at.loop-i-init c).Else-r-index (the_read (goal.at.loop-i-init c).In_ok-r))
 
 pub overflow_add-at-in-loop-i : goal.overflow_add-at-in-loop-i
 overflow_add-at-in-loop-i c = omega (arith, length_within c.args.bytes.now c.args.index c.loop-i.at (c.args.index - c.loop-i.i) c.loop-i.invariant)

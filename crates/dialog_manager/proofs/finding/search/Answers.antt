@@ -3,10 +3,10 @@ use mathlib.Core.Path.{◌≡◌, sym, ap, subst, ◌∙◌}
 use Rattle.codec.proofs.CodecLaws.{Bytes, bytes_all}
 use Rattle.image.specs.declared.RecordAt.{RecordAt}
 use Rattle.image.specs.declared.sections.IdsAt.{IdsAt}
-use Rattle.image.proofs.AnswerLaws.{record_got, record_not}
+use Rattle.image.proofs.AnswerLaws.{record_got}
 use Rattle.record_walk.proofs.Walks.{Given, begun, given, ended}
 use Rattle.dialog_manager.specs.Search.{IdsWithin, TextsOf}
-use Rattle.dialog_manager.proofs.SearchLaws.{Left, start, stored_held, nothing, unbroken, met, passed_by, Turn, turn, one_record_lem, places, standing, its_end, ids_within, texts_of}
+use Rattle.dialog_manager.proofs.SearchLaws.{Left, start, stored_held, nothing, met, passed_by, Turn, turn, one_record_lem, places, standing, its_end, ids_within, texts_of}
 use Rattle.dialog_manager.proofs.finding.search.Goals as goal
 use Rattle.dialog_manager.proofs.finding.search.Given.{Over}
 use Rattle.dialog_manager.proofs.finding.search.Goals.{In-Some, After-ids_at-ids}
@@ -39,22 +39,11 @@ loop-at-init g c =
     let b = begun s _ _ c.into_iter-at-iterator.ensures.into_iter_gives c.records-at-items.ensures.bytes c.records-at-items.ensures.at in
     (b.0, subst (Left f s) (sym b.1) (start f s (stored_held c.args.held)))
 
-pub ids_at-ids-requires : goal.ids_at-ids-requires
-ids_at-ids-requires g c = (taken g c).here
-
 pub is_at-requires : goal.is_at-requires
 is_at-requires g c =
     let i = (goal.at.is_at-requires g c).In-Some in
     let s = c.args.held.bytes.now in
     subst (IdsWithin s) (sym (placed g c)) (ids_within s c.in-Some.at (parts g i) (held g i))
-
-pub read_record-requires : goal.read_record-requires
-read_record-requires g c = (left g (goal.at.read_record-requires g c).In-Some).here
-
-pub returns-in_err-r-clause-value : goal.returns-in_err-r-clause-value
-returns-in_err-r-clause-value g c =
-    let i = (goal.at.returns-in_err-r-clause-value g c).In-Some in
-    absurd (unbroken (g.W.Wanted.test c.args.wanted.now) c.args.held.bytes.now c.in-Some.at (left g i) (taken g i).more (record_not c.in-Some.at _ (sym c.read_record.ensures ∙ c.in_err-r.was)))
 
 pub returns-then-is_at-clause-value : goal.returns-then-is_at-clause-value
 returns-then-is_at-clause-value g c =

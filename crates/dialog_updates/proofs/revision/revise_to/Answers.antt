@@ -2,7 +2,7 @@
 use mathlib.Core.Path.{sym, ap, ◌∙◌}
 use mathlib.Core.List.{List}
 use Prim.Native.Nat.{ℕ}
-use lib.ListN.{length, take, drop, length-take}
+use lib.ListN.{length, take}
 use Rattle.output.specs.Output.{fitted}
 use Rattle.record.specs.Changes.{with_target}
 use Rattle.record.specs.Record.{Record}
@@ -11,7 +11,6 @@ use Rattle.image_edit.proofs.ImageCuts.{stands_held}
 use Rattle.dialog_rules.specs.Updates.{retargeted}
 use Rattle.dialog_updates.proofs.ContactLaws.{no_contact, contact_within, contact_target}
 use Rattle.store_steps.proofs.PlaceLaws.{changed_as, result_as}
-use native.Mathlib.Omega.{arith}
 use Rattle.dialog_updates.proofs.revision.revise_to.Goals as goal
 
 pub returns-in_default : goal.returns-in_default
@@ -28,11 +27,6 @@ returns-in_default g c =
 
 pub text-requires : goal.text-requires
 text-requires g c = contact_within c.args.block.now c.in-Some.c (sym c.requires.block_value.1 ∙ c.in-Some.is)
-
-pub revise_numbers_and_target-requires-clause-target_bound : goal.revise_numbers_and_target-requires-clause-target_bound
-revise_numbers_and_target-requires-clause-target_bound g c =
-    let p = c.in-Some.c in
-    omega (arith, ap length c.text.ensures, length-take p.length (drop p.start c.args.block.now), contact_within c.args.block.now p (sym c.requires.block_value.1 ∙ c.in-Some.is), c.requires.block_value.0)
 
 pub returns : goal.returns
 returns g c =

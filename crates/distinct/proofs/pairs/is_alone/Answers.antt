@@ -6,7 +6,6 @@ use Rattle.std.specs.Cmp.{Equal-is}
 use Rattle.std.specs.declared.cmp.Ordering.TheVariants.{Equal}
 use Rattle.codec.proofs.CodecLaws.{Bytes, bytes_all}
 use Rattle.record_walk.proofs.Walks.{Given, given, ended}
-use Rattle.record_walk.specs.declared.records.Records.{Records}
 use Rattle.distinct.specs.Pairs.{alone_from}
 use Rattle.distinct.proofs.Alones.{Step, step, whole_here, alone_end, alone_met, alone_next}
 use Rattle.distinct.proofs.pairs.is_alone.Goals as goal
@@ -24,14 +23,6 @@ turn : (c : In-Some) → Step c.args.bytes.now (known c) c.in-Some.q
 turn c =
     let g = taken c in
     subst (Step c.args.bytes.now (known c)) (sym g.from) (step c.args.bytes.now (known c) c.loop-q.q-iterator.at (omega (arith, g.more, g.from)) (whole_here c.args.bytes.now (known c) c.loop-q.q-iterator c.loop-q.invariant.0))
-
-pub loop-q-init : goal.loop-q-init
-loop-q-init c =
-    let e = c.into_iter-q-iterator.ensures.into_iter_gives in
-    (ap (λ (r : Records). r.bytes.now) e ∙ c.requires.1, ap (λ (r : Records). alone_from c.args.bytes.now c.args.p r.at) (sym e))
-
-pub compare-requires : goal.compare-requires
-compare-requires c = ((taken c).here, c.requires.0)
 
 pub returns-then-is_eq : goal.returns-then-is_eq
 returns-then-is_eq c =

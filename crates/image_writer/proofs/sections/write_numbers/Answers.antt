@@ -1,11 +1,10 @@
 -- `image_writer::write_numbers` meets its contract: the five numbers one after another. Assumes nothing.
 use native.Mathlib.Omega.{arith}
-use mathlib.Core.Path.{◌≡◌, ap}
-use lib.ListN.{length}
+use mathlib.Core.Path.{◌≡◌}
 use lib.Dec.{ltb}
 use Rattle.std.proofs.Common.{rules}
 use Rattle.edit.proofs.EditLaws.{wrote_as}
-use Rattle.image_writer.proofs.FieldLaws.{side_as_number, numbers_parts, wrote_five}
+use Rattle.image_writer.proofs.FieldLaws.{side_as_number, wrote_five}
 use Rattle.record.specs.Record.{is_given, number, optional, refresher_field}
 use Rattle.record.specs.NumbersForm.{number_in, side_in, meaning}
 use Rattle.image_writer.proofs.sections.write_numbers.Goals as goal
@@ -14,9 +13,6 @@ use Rattle.image_writer.proofs.sections.write_numbers.Goals.{After-map-who}
 -- who refreshes is written as the number that it has
 same : (c : After-map-who) → (optional (is_given (number_in c.map-who.result))).write (number_in c.map-who.result) ≡ (refresher_field (is_given (side_in c.args.x.refresher))).write (side_in c.args.x.refresher)
 same c = side_as_number c.args.x.refresher c.map-who.result c.map-who.ensures.cases (λ s k q. search rules)
-
-pub write_optional-requires : goal.write_optional-requires
-write_optional-requires c = omega (arith, numbers_parts (meaning c.args.x), ap length (same (goal.at.write_optional-requires c).After-map-who))
 
 pub returns : goal.returns
 returns c =

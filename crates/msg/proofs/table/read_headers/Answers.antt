@@ -1,7 +1,7 @@
 -- `msg::read_headers` meets its contract: at each turn the block is one exactly where the rest is, and its table is that of the
 -- lines read, completed by the lines left. Assumes nothing.
 use native.Mathlib.Omega.{arith}
-use mathlib.Core.Path.{◌≡◌, refl, sym, ap, ◌∙◌}
+use mathlib.Core.Path.{◌≡◌, sym, ap, ◌∙◌}
 use lib.ListN.{length, length-set}
 use lib.Dec.{eqb}
 use borrow.Author.Tests.{eq-eqb, ne_eqb}
@@ -12,7 +12,7 @@ use Rattle.text.proofs.Lengths.{length_passed, length_stopped}
 use Rattle.msg.specs.Block.{block_cause, is_block}
 use Rattle.msg.specs.Lines.{line_in, lines_ahead}
 use Rattle.msg.proofs.LookupLaws.{Turn, turned, block_end, block_next}
-use Rattle.msg.proofs.TableLaws.{table_in, table_after, table_start, table_end, table_noted, table_put, table_skip}
+use Rattle.msg.proofs.TableLaws.{table_in, table_after, table_end, table_noted, table_put, table_skip}
 use Rattle.msg.proofs.table.read_headers.Goals as goal
 use Rattle.msg.proofs.table.read_headers.Goals.{In-Some, In-None, in-Some-slot_of, in_default}
 
@@ -31,16 +31,6 @@ unfolding block_cause
 returns-in_err-check_length c =
     let q = length_stopped rust_limits c.args.block.now (sym c.check_length.ensures ∙ c.in_err-check_length.was) in
     err_is c.from_residual.result _ c.from_residual.ensures.1 ∙ ap Err q.1 ∙ rw q.0
-
-pub loop-line-init : goal.loop-line-init
-loop-line-init c =
-    let e = c.into_iter-line-iterator.ensures.into_iter_gives in (
-      omega arith,
-      ap lines_ahead (sym e),
-      refl,
-      refl,
-      rw e (sym (table_start _)),
-    )
 
 pub loop-line-preserved : goal.loop-line-preserved
 loop-line-preserved c =

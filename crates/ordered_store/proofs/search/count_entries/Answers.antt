@@ -1,10 +1,10 @@
 -- `search::count_entries` meets its contract: what is asked of the store is asked of the entries after the last one read. Assumes nothing.
-use Rattle.std.proofs.Common.{◌≡◌, ◌+◌, refl, ap, ◌∙◌, arith, length}
+use Rattle.std.proofs.Common.{◌+◌, ap, ◌∙◌}
 use Rattle.codec.proofs.CodecLaws.{bytes_all}
 use Rattle.ordered_store.specs.Steps.{goes_on}
 use Rattle.ordered_store.proofs.PlaceLaws.{Got, got}
 use Rattle.ordered_store.proofs.CountLaws.{Counting}
-use Rattle.ordered_store.proofs.WalkLaws.{given, over_at, few, broken, first_counted, last_is, unordered, next_counted, counted_all}
+use Rattle.ordered_store.proofs.WalkLaws.{given, over_at, broken, first_counted, last_is, unordered, next_counted, counted_all}
 use Rattle.ordered_store.proofs.search.count_entries.Given.{Over}
 use Rattle.ordered_store.proofs.search.count_entries.Goals as goal
 use Rattle.ordered_store.proofs.search.count_entries.Goals.{In_ok-e, in-Some-last+else-not-ascends, in_default}
@@ -15,26 +15,10 @@ entry g c =
     let w = given g.E.Entry.layout c.args.bytes.now c.loop-entry.invariant.same c.in-Some.ensures.steps in
     got g.E.Entry.layout g.met.E.Entry.lawful c.args.bytes.now c.loop-entry.entry-iterator.at (bytes_all c.args.bytes.now (λ i. (c.type_inv.bytes i).fits)) (w.reads ∙ c.in_ok-e.was)
 
-pub loop-entry-init : goal.loop-entry-init
-loop-entry-init g c =
-    let e = c.into_iter-entry-iterator.ensures.into_iter_gives in
-    record { same = ap (λ i. i.bytes.now) e ∙ c.new-entry-items.ensures.bytes; so_far = (ap (λ i. i.at) e ∙ c.new-entry-items.ensures.at, refl) }
-
 pub returns-in_err-e : goal.returns-in_err-e
 returns-in_err-e g c =
     let w = given g.E.Entry.layout c.args.bytes.now c.loop-entry.invariant.same c.in-Some.ensures.steps in
     c.from_residual.ensures ∙ broken g.E.Entry.layout c.args.bytes.now c.loop-entry.entry-iterator.at c.loop-entry.last c.loop-entry.n c.loop-entry.invariant.so_far w.more (w.reads ∙ c.in_err-e.was)
-
-pub loop-entry-smaller : goal.loop-entry-smaller
-loop-entry-smaller g c =
-    let w = given g.E.Entry.layout c.args.bytes.now c.loop-entry.invariant.same c.in-Some.ensures.steps in
-    let t = (entry g (goal.at.loop-entry-smaller g c).In_ok-e).is in
-    let e : c.next.new.self.at ≡ g.E.Entry.layout.end_of c.in_ok-e.e = w.ends ∙ ap (goes_on g.E.Entry.layout c.args.bytes.now) c.in_ok-e.was in
-    omega (arith, e, t.moves, t.within, ap length w.same, ap length c.loop-entry.invariant.same)
-
-pub ascends-requires-clause-within : goal.ascends-requires-clause-within
-ascends-requires-clause-within g c =
-    (last_is g.E.Entry.layout c.args.bytes.now c.loop-entry.entry-iterator.at c.loop-entry.last c.loop-entry.n c.loop-entry.invariant.so_far c.in-Some-last.is).0.is.inside
 
 pub ascends-requires-clause-within_2 : goal.ascends-requires-clause-within_2
 ascends-requires-clause-within_2 g c = (entry g (goal.at.ascends-requires-clause-within_2 g c).In_ok-e).is.inside
@@ -43,10 +27,6 @@ pub returns-then-not-ascends : goal.returns-then-not-ascends
 returns-then-not-ascends g c =
     let b = last_is g.E.Entry.layout c.args.bytes.now c.loop-entry.entry-iterator.at c.loop-entry.last c.loop-entry.n c.loop-entry.invariant.so_far c.in-Some-last.is in
     unordered g.E.Entry.layout c.args.bytes.now b (given g.E.Entry.layout c.args.bytes.now c.loop-entry.invariant.same c.in-Some.ensures.steps).more (entry g (goal.at.returns-then-not-ascends g c).In_ok-e) c.ascends.ensures c.if-not-ascends.true
-
-pub overflow_add-n : goal.overflow_add-n
-overflow_add-n g c =
-    omega (arith, few g.E.Entry.layout c.args.bytes.now c.loop-entry.entry-iterator.at c.loop-entry.last c.loop-entry.n c.loop-entry.invariant.so_far, (given g.E.Entry.layout c.args.bytes.now c.loop-entry.invariant.same c.in-Some.ensures.steps).more)
 
 pub loop-entry-preserved : goal.loop-entry-preserved
 loop-entry-preserved g c =

@@ -43,13 +43,6 @@ returns-in_err-e g c =
     let i = (goal.at.returns-in_err-e g c).In-Some in
     absurd (unbroken g.E.Entry.layout (g.E.KeyedBy.texts c.args.key) c.args.bytes.now c.loop-at.at-iterator.at g.met.E.Entry.lawful (first g i) ((now g i).reads ∙ absent c.in-Some.entry BadStore c.ok_or.ensures.value c.in_err-e.was))
 
-pub loop-at-smaller : goal.loop-at-smaller
-loop-at-smaller g c =
-    let w = now g (goal.at.loop-at-smaller g c).In-Some in
-    let h = lies g (goal.at.loop-at-smaller g c).In_ok-e w (first g (goal.at.loop-at-smaller g c).In-Some) in
-    let e : c.next.new.self.at ≡ g.E.Entry.layout.end_of c.in_ok-e.e = w.ends ∙ ap (goes_on g.E.Entry.layout c.args.bytes.now) (c.ok_or.ensures.ok_part ∙ ap result_ok c.in_ok-e.was) in
-    omega (arith, e, h.moves, h.within, ap length w.same, ap length c.loop-at.invariant.same)
-
 pub compare-requires : goal.compare-requires
 compare-requires g c =
     let i = (goal.at.compare-requires g c).In-Some in

@@ -1,6 +1,5 @@
 -- `holding::clean_copy` meets its contract: what is held loaded and cleaned, or a time without a list. Assumes nothing.
-use Prim.Native.Nat.{ℕ}
-use mathlib.Core.List.{List, []}
+use mathlib.Core.List.{[]}
 use lib.ListN.{length}
 use Rattle.codec.proofs.CodecLaws.{bytes_all}
 use Rattle.prack_body.proofs.BodyLaws.{holds_size}

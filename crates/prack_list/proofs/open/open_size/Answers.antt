@@ -1,26 +1,13 @@
 -- `open::open_size` meets its contract: at each turn the size is that of the entries left beside those counted. Assumes nothing.
 use mathlib.Core.Path.{ap, sym, ◌∙◌}
 use lib.ListN.{length}
-use Rattle.std.proofs.lemmas.List.{take_rest}
 use Rattle.prack_body.specs.Lists.{entries_of}
-use Rattle.prack_list.proofs.OpenLaws.{entry_count, open_end, counting, count_fits, counted_one, left_out, all_counted}
+use Rattle.prack_list.proofs.OpenLaws.{entry_count, open_end, counted_one, left_out, all_counted}
 use native.Mathlib.Omega.{arith}
 use Rattle.prack_list.proofs.open.open_size.Goals as goal
 
 pub returns-then-body-lt-ENTRIES_AT : goal.returns-then-body-lt-ENTRIES_AT
 returns-then-body-lt-ENTRIES_AT c = λ t h. sym (ap length (open_end 0 (entries_of t.list) (omega (arith, entry_count h, c.if-body-lt-ENTRIES_AT.true))))
-
-pub loop-entry-init : goal.loop-entry-init
-loop-entry-init c =
-    let e = c.into_iter-entry-iterator.ensures.into_iter_gives in
-    let f = c.chunks_exact-entry-items.ensures in
-    record { size = ap (λ i. i.size) e ∙ f.size; counted = counting c.args.body.now (ap (λ i. i.rest.now) e ∙ f.rest ∙ take_rest c.args.body.now 10) }
-
-pub overflow_add-size : goal.overflow_add-size
-overflow_add-size c =
-    let i = c.loop-entry.invariant in
-    let e = c.in-Some.ensures.steps.1 in
-    omega (arith, count_fits i.counted _ _ e.0 (e.1 ∙ i.size))
 
 pub loop-entry-preserved-then-entry-eq0 : goal.loop-entry-preserved-then-entry-eq0
 loop-entry-preserved-then-entry-eq0 c =

@@ -5,4 +5,5 @@ use Rattle.prack_staying.proofs.TestLaws.{young}
 use Rattle.prack_staying.proofs.YoungStaying.stays.Goals as goal
 
 pub returns-then-waits : goal.returns-then-waits
-returns-then-waits c = let a = c.args in λ p rest f e. rw (c.elapsed.ensures, time_at_lem a.body.now a.at p rest e f c.read_eight-since.ensures) (young a.self.time p (λ z. c.if-waits.true (flag_at a.body.now a.at p rest e ∙ z)))
+returns-then-waits c = let s = c.args.entry.now in λ p rest f e.
+    rw (c.elapsed.ensures, time_at_lem s 0 p rest e f c.read_eight-since.ensures) (young c.args.self.time p (λ z. c.if-waits.true (flag_at s 0 p rest e ∙ z)))

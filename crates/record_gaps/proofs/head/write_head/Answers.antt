@@ -9,7 +9,7 @@ use Rattle.codec.specs.Codec.{two, text}
 use Rattle.record.specs.Record.{state_byte_number}
 use Rattle.record.specs.NumbersForm.{meaning}
 use Rattle.image_edit.specs.Maps.{map_from}
-use Rattle.record_gaps.proofs.MoveLaws.{put_before}
+use Rattle.edit.proofs.EditLaws.{put_before}
 use Rattle.record_gaps.proofs.head.write_head.Goals as goal
 
 pub returns : goal.returns

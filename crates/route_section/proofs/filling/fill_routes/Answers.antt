@@ -6,6 +6,7 @@ use mathlib.Core.Bool.{true≢false}
 use mathlib.Core.List.{List, ◌++◌}
 use lib.ListN.{length}
 use Rattle.std.specs.Prelude.{Ok}
+use Rattle.std.proofs.lemmas.Result.{err_from_is_err_and}
 use Rattle.limits.specs.Limits.{rust_limits}
 use Rattle.text.specs.Text.{Piece}
 use Rattle.text.specs.Pieces.{piece_of}
@@ -16,7 +17,7 @@ use Rattle.route_set.specs.Parts.{header_values}
 use Rattle.route_set.specs.Routes.{record_route_name}
 use Rattle.route_set.proofs.ScanLaws.{answer_none, answer_some, answer_err, elements_among, elements_by, open_value}
 use Rattle.route_section.specs.Filling.{Filling, filled}
-use Rattle.route_section.proofs.FillingLaws.{fill_full, fill_unread, fill_long, fill_route, value_done, any_place, lines_done, AllShort, shorter, short_first, short_uri, short_elements, short_values, held_answered, refused_answered}
+use Rattle.route_section.proofs.FillingLaws.{fill_full, fill_unread, fill_long, fill_route, any_place, lines_done, AllShort, shorter, short_first, short_uri, short_elements, short_values, held_answered, refused_answered}
 use Rattle.route_section.proofs.filling.fill_routes.Goals as goal
 use Rattle.route_section.proofs.filling.fill_routes.Goals.{in-None, in-Some+in-Some-e+then-count-ge-MAX_ROUTE_SET_SIZE}
 
@@ -48,28 +49,24 @@ loop-e-init g c =
       s.1,
     )
 
-pub lines-preserved : goal.lines-preserved
-lines-preserved g c =
-    let l = c.loop-e in
-    (l.invariant.0 ∙ ap (filled rust_limits g.O.Order.reversed (record { count = l.count; size = l.size; bytes = l.out })) (value_done _ _ c.in-None-e.ensures.steps.0), l.invariant.1, l.invariant.2, l.invariant.3, l.invariant.5)
-
-pub returns-in_default-clause-answered : goal.returns-in_default-clause-answered
-returns-in_default-clause-answered g c =
-    refused_answered _ _ _ (c.loop-e.invariant.0 ∙ fill_long _ _ _ _ _ _ c.in-Some-e.ensures.steps (omega arith) _ (answer_err _ _ _ c.read_element.ensures c.in_default.is))
+pub returns-in_err-u-clause-answered : goal.returns-in_err-u-clause-answered
+returns-in_err-u-clause-answered g c =
+    let p = err_from_is_err_and c.from_residual.result c.from_residual.ensures.1 in
+    rw (p.1, p.2) (refused_answered _ _ _ (c.loop-e.invariant.0 ∙ fill_long _ _ _ _ _ _ c.in-Some-e.ensures.steps (omega arith) _ (answer_err _ _ _ c.read_element.ensures c.in_err-u.was)))
 
 pub put_text-requires : goal.put_text-requires
 put_text-requires g c = (
-  omega (arith, (short_first 8192 _ _ _ c.in-Some-e.ensures.steps c.loop-e.invariant.4).0, short_uri _ _ (piece_of c.in-Some-route.u) (answer_some _ _ _ c.read_element.ensures (c.in-Ok.is ∙ ap Ok c.in-Some-route.is))),
+  omega (arith, (short_first 8192 _ _ _ c.in-Some-e.ensures.steps c.loop-e.invariant.4).0, short_uri _ _ (piece_of c.in-Some-2.u) (answer_some _ _ _ c.read_element.ensures (c.in_ok-u.was ∙ ap Ok c.in-Some-2.is))),
   omega (arith, c.loop-e.invariant.2, c.loop-e.invariant.3),
 )
 
-pub loop-e-preserved-in-Some-route : goal.loop-e-preserved-in-Some-route
-loop-e-preserved-in-Some-route g c =
+pub loop-e-preserved-in-Some-2 : goal.loop-e-preserved-in-Some-2
+loop-e-preserved-in-Some-2 g c =
     let l = c.loop-e in
-    let u = c.in-Some-route.u in
+    let u = c.in-Some-2.u in
     let f : Filling = record { count = l.count; size = l.size; bytes = l.out } in
     let left = elements_ahead c.next-in-loop-e.new.self ++ elements_among (values_ahead c.next.new.self) in
-    let is = answer_some _ _ _ c.read_element.ensures (c.in-Ok.is ∙ ap Ok c.in-Some-route.is) in
+    let is = answer_some _ _ _ c.read_element.ensures (c.in_ok-u.was ∙ ap Ok c.in-Some-2.is) in
     let s = short_first 8192 _ _ _ c.in-Some-e.ensures.steps l.invariant.4 in
     let n : length u.text.now ≤ 8192 = omega (arith, s.0, short_uri _ _ (piece_of u) is) in (
       l.invariant.0
@@ -85,7 +82,7 @@ loop-e-preserved-in-Some-route g c =
 pub loop-e-preserved : goal.loop-e-preserved
 loop-e-preserved g c =
     let l = c.loop-e in (
-      l.invariant.0 ∙ fill_unread _ _ _ _ _ _ c.in-Some-e.ensures.steps (omega arith) (answer_none _ _ c.read_element.ensures (c.in-Ok.is ∙ ap Ok c.in_default-route.is)),
+      l.invariant.0 ∙ fill_unread _ _ _ _ _ _ c.in-Some-e.ensures.steps (omega arith) (answer_none _ _ c.read_element.ensures (c.in_ok-u.was ∙ ap Ok c.in_default.is)),
       l.invariant.1,
       l.invariant.2,
       l.invariant.3,
@@ -104,12 +101,5 @@ pub returns-clause-answered : goal.returns-clause-answered
 returns-clause-answered g c =
     elim c.match-next.branch [
       | in-None w ↦ rw (w.out-is, w.count-is, w.size-is) (held_answered _ _ (c.lines.invariant.0 ∙ lines_done _ _ _ w.in-None.ensures.steps.0))
-      | in-Some+in-Some-e+then-count-ge-MAX_ROUTE_SET_SIZE w ↦ absurd (true≢false (sym w.full-is ∙ c.if-full.false))
-    ]
-
-pub returns-clause-bounded : goal.returns-clause-bounded
-returns-clause-bounded g c =
-    elim c.match-next.branch [
-      | in-None w ↦ rw (w.count-is, w.size-is) (c.lines.invariant.2, c.lines.invariant.3)
       | in-Some+in-Some-e+then-count-ge-MAX_ROUTE_SET_SIZE w ↦ absurd (true≢false (sym w.full-is ∙ c.if-full.false))
     ]

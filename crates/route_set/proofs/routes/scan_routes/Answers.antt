@@ -9,7 +9,7 @@ use Rattle.text.specs.Text.{Piece}
 use Rattle.text.specs.Pieces.{piece_of}
 use Rattle.msg.specs.Lines.{values_ahead}
 use Rattle.route_set.specs.Scan.{scan}
-use Rattle.route_set.proofs.ScanLaws.{answer_none, answer_some, answer_err, ahead, scan_full, scan_unread, scan_long, scan_hit, scan_more, value_done, elements_among, elements_by, open_value, no_more}
+use Rattle.route_set.proofs.ScanLaws.{answer_none, answer_some, answer_err, ahead, scan_full, scan_unread, scan_long, scan_hit, scan_more, elements_among, elements_by, open_value, no_more}
 use Rattle.route_set.proofs.routes.scan_routes.Goals as goal
 use Rattle.route_set.proofs.routes.scan_routes.Goals.{in-None, in-Some+in-Some-e+then-held-ge-MAX_ROUTE_SET_SIZE}
 
@@ -33,18 +33,10 @@ loop-e-init c =
       l.invariant.2,
     )
 
-pub lines-preserved : goal.lines-preserved
-lines-preserved c =
-    let l = c.loop-e in
-    (l.invariant.0 ∙ ap (scan rust_limits c.args.wanted l.held) (value_done _ _ _ c.in-None-e.ensures.steps.0), l.invariant.1, l.invariant.2)
-
 pub returns-in_err-u : goal.returns-in_err-u
 returns-in_err-u c =
     let p = err_from_is_err_and c.from_residual.result c.from_residual.ensures.1 in
     rw (p.1, p.2) (sym (c.loop-e.invariant.0 ∙ scan_long _ _ _ _ _ _ _ c.in-Some-e.ensures.steps (omega arith) _ (answer_err _ _ _ c.read_element.ensures c.in_err-u.was)))
-
-pub moved-requires : goal.moved-requires
-moved-requires c = omega (arith, c.in-Some.v.fits)
 
 pub returns-then-held-wanted : goal.returns-then-held-wanted
 returns-then-held-wanted c =

@@ -3,25 +3,9 @@ use lib.ListN.{length}
 use Rattle.c_prack_answers.proofs.ReturnLaws.{listed_returns}
 use Rattle.sip_dialog.proofs.prack_lists.sip_dialog_prack_get_pending.Goals as goal
 
-pub returns-clause-returns : goal.returns-clause-returns
-returns-clause-returns c =
-    let k = c.get_pending.ensures in
-    let a = c.args in
-    let g = listed_returns a.id.now a.time (length a.out.now) a.store.now a.used.now _ _ _ _ _ k.value k.bytes_after k.used_value c.give_with_used.ensures in
-    g.0
-
-pub returns-clause-out_after : goal.returns-clause-out_after
-returns-clause-out_after c =
-    let k = c.get_pending.ensures in
-    k.out_after
-
 pub returns-clause-written_after : goal.returns-clause-written_after
 returns-clause-written_after c =
     let k = c.get_pending.ensures in
     let a = c.args in
     let g = listed_returns a.id.now a.time (length a.out.now) a.store.now a.used.now _ _ _ _ _ k.value k.bytes_after k.used_value c.give_with_used.ensures in
     g.1
-
-pub returns-clause-typed : goal.returns-clause-typed
-returns-clause-typed c =
-    c.ranges.time.fits

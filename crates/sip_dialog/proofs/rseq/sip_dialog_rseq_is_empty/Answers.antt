@@ -6,18 +6,12 @@ use Rattle.limits.specs.Outcome.{number_in}
 use Rattle.c_rseq_answers.proofs.ReturnLaws.{empty_number, empty_given}
 use Rattle.sip_dialog.proofs.rseq.sip_dialog_rseq_is_empty.Goals as goal
 
-pub returns-clause-returns : goal.returns-clause-returns
-returns-clause-returns c =
-    let a = c.args in
-    let l = ran rust_limits len a.store.now a.used in
-    let e = c.is_empty.ensures.value in
+pub returns : goal.returns
+returns c =
+    let l = ran rust_limits len c.args.store.now c.args.used in
+    let e = c.is_empty.ensures in
     let g = c.give_flag.ensures in
-    record { bytes_are = c.is_empty.ensures.bytes_value; used_is = c.is_empty.ensures.used_value; number_is = g.number_is ∙ (ap number_in e ∙ empty_number l.answer) }
-
-pub returns-clause-empty_after : goal.returns-clause-empty_after
-returns-clause-empty_after c =
-    let a = c.args in
-    let l = ran rust_limits len a.store.now a.used in
-    let e = c.is_empty.ensures.value in
-    let g = c.give_flag.ensures in
-    empty_given l.answer _ _ _ e g.left_is
+    record {
+      returns = record { bytes_are = e.bytes_value; used_is = e.used_value; number_is = g.number_is ∙ (ap number_in e.value ∙ empty_number l.answer) };
+      empty_after = empty_given l.answer _ _ _ e.value g.left_is;
+    }

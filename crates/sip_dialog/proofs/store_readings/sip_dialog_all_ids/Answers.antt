@@ -14,10 +14,6 @@ returns-clause-returns c =
     let g = ids_answers rust_limits (length a.store.now) (length a.out.now) a.store.now a.used _ _ _ _ c.all_ids.ensures.value c.give.ensures in
     reading_returns rust_limits (length a.store.now) (all_ids (length a.out.now)) a.store.now a.used h _ g.0
 
-pub returns-clause-out_after : goal.returns-clause-out_after
-returns-clause-out_after c =
-    (c.all_ids.ensures.out_after)
-
 pub returns-clause-written_after : goal.returns-clause-written_after
 returns-clause-written_after c =
     let a = c.args in

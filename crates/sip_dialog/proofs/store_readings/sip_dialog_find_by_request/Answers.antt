@@ -6,22 +6,13 @@ use Rattle.book.specs.Calls.{find_by_request}
 use Rattle.c_store_answers.proofs.ReturnLaws.{reading_returns}
 use Rattle.sip_dialog.proofs.store_readings.sip_dialog_find_by_request.Goals as goal
 
-pub returns-clause-returns : goal.returns-clause-returns
-returns-clause-returns c =
+pub returns : goal.returns
+returns c =
     let a = c.args in
-    let h = bytes_all a.store.now (λ i. (c.type_inv.store i).fits) in
     let e = c.find_by_request.ensures in
     let g = c.give_place.ensures in
-    reading_returns rust_limits (length a.store.now) (find_by_request a.block.now) a.store.now a.used h _ (rw (← e) g.value)
-
-pub returns-clause-place_after : goal.returns-clause-place_after
-returns-clause-place_after c =
-    let e = c.find_by_request.ensures in
-    let g = c.give_place.ensures in
-    rw (← e) g.place_after
-
-pub returns-clause-length_after : goal.returns-clause-length_after
-returns-clause-length_after c =
-    let e = c.find_by_request.ensures in
-    let g = c.give_place.ensures in
-    rw (← e) g.length_after
+    record {
+      returns = reading_returns rust_limits (length a.store.now) (find_by_request a.block.now) a.store.now a.used (bytes_all a.store.now (λ i. (c.type_inv.store i).fits)) _ (rw (← e) g.value);
+      place_after = rw (← e) g.place_after;
+      length_after = rw (← e) g.length_after;
+    }

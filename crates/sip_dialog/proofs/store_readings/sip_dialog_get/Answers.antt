@@ -14,15 +14,3 @@ returns-clause-returns c =
     let e = c.get.ensures in
     let g = c.give_place.ensures in
     reading_returns rust_limits (length a.store.now) (get (ident a.call_id.now a.local_tag.now a.remote_tag.now)) a.store.now a.used h _ (rw (← e) g.value)
-
-pub returns-clause-place_after : goal.returns-clause-place_after
-returns-clause-place_after c =
-    let e = c.get.ensures in
-    let g = c.give_place.ensures in
-    rw (← e) g.place_after
-
-pub returns-clause-length_after : goal.returns-clause-length_after
-returns-clause-length_after c =
-    let e = c.get.ensures in
-    let g = c.give_place.ensures in
-    rw (← e) g.length_after

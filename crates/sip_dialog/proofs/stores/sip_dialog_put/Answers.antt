@@ -19,12 +19,6 @@ returns-clause-returns c =
     let g = counted_returns rust_limits (put (length a.store.now) a.image.now) a.store.now a.used.now _ _ _ _ _ c.put.ensures.value (c.put.ensures.bytes_after) c.give_counted.ensures in
     g.0
 
-pub returns-clause-created_after : goal.returns-clause-created_after
-returns-clause-created_after c =
-    let a = c.args in
-    let g = counted_returns rust_limits (put (length a.store.now) a.image.now) a.store.now a.used.now _ _ _ _ _ c.put.ensures.value (c.put.ensures.bytes_after) c.give_counted.ensures in
-    g.1
-
 pub returns-clause-all : goal.returns-clause-all
 returns-clause-all c =
     let a = c.args in

@@ -3,7 +3,6 @@ use Prim.Native.Nat.{◌+◌}
 use native.Mathlib.Omega.{arith}
 use Rattle.record.specs.Record.{fields_of}
 use Rattle.record_walk.specs.Walk.{EndsOf}
-use Rattle.store.proofs.IdLaws.{three}
 use Rattle.store.proofs.ids.ids_at.Goals as goal
 use Rattle.store.proofs.ids.ids_at.Goals.{After-id_ends-ends}
 
@@ -19,10 +18,3 @@ span_to-requires-2 c = let e = known (goal.at.span_to-requires-2 c).After-id_end
 
 pub span_to-requires-3 : goal.span_to-requires-3
 span_to-requires-3 c = let e = known (goal.at.span_to-requires-3 c).After-id_ends-ends in omega (arith, e.2)
-
-pub returns : goal.returns
-returns c x e =
-    let i = (fields_of x.value).first in
-    let q : EndsOf (c.args.p + 2) i c.id_ends-ends.result = c.id_ends-ends.ensures.ends x e in
-    let d = c.id_ends-ends.result in
-    three (c.args.p + 2) i d.call_id d.local_tag d.remote_tag c.span_to.result c.span_to-2.result c.span_to-3.result q.0 q.1 q.2 c.span_to.ensures c.span_to-2.ensures c.span_to-3.ensures

@@ -16,26 +16,15 @@ replace-requires c =
     let w = removes rust_limits (length a.bytes.now) a.id.call_id.now a.id.local_tag.now a.id.remote_tag.now a.bytes.now a.used (bytes_all a.bytes.now (λ i. (c.slice_known-1.given i).fits)) c.in_ok-at.at c.in_ok-at.n (ap answer_in (sym c.in_ok-at.was) ∙ c.get.ensures) in
     (w.inside, w.within, omega (arith, w.within))
 
-pub returns-clause-value : goal.returns-clause-value
-returns-clause-value c =
+pub returns : goal.returns
+returns c =
     let a = c.args in
     let w = removes rust_limits (length a.bytes.now) a.id.call_id.now a.id.local_tag.now a.id.remote_tag.now a.bytes.now a.used (bytes_all a.bytes.now (λ i. (c.slice_known-1.given i).fits)) c.in_ok-at.at c.in_ok-at.n (ap answer_in (sym c.in_ok-at.was) ∙ c.get.ensures) in
     let r = c.replace.ensures in
-    ap Ok r.value ∙ w.answer
+    record { value = ap Ok r.value ∙ w.answer; bytes_after = r.bytes_after ∙ w.bytes }
 
-pub returns-clause-bytes_after : goal.returns-clause-bytes_after
-returns-clause-bytes_after c =
+pub returns-in_err-at : goal.returns-in_err-at
+returns-in_err-at c =
     let a = c.args in
-    let w = removes rust_limits (length a.bytes.now) a.id.call_id.now a.id.local_tag.now a.id.remote_tag.now a.bytes.now a.used (bytes_all a.bytes.now (λ i. (c.slice_known-1.given i).fits)) c.in_ok-at.at c.in_ok-at.n (ap answer_in (sym c.in_ok-at.was) ∙ c.get.ensures) in
-    let r = c.replace.ensures in
-    (r.bytes_after) ∙ w.bytes
-
-pub returns-in_err-at-clause-value : goal.returns-in_err-at-clause-value
-returns-in_err-at-clause-value c =
-    let a = c.args in
-    err_is c.from_residual.result _ c.from_residual.ensures.1 ∙ (turned_back (refuses rust_limits (length a.bytes.now) a.id.call_id.now a.id.local_tag.now a.id.remote_tag.now a.bytes.now a.used (bytes_all a.bytes.now (λ i. (c.slice_known-1.given i).fits)) _ (ap answer_in (sym c.in_err-at.was) ∙ c.get.ensures))).0
-
-pub returns-in_err-at-clause-bytes_after : goal.returns-in_err-at-clause-bytes_after
-returns-in_err-at-clause-bytes_after c =
-    let a = c.args in
-    (turned_back (refuses rust_limits (length a.bytes.now) a.id.call_id.now a.id.local_tag.now a.id.remote_tag.now a.bytes.now a.used (bytes_all a.bytes.now (λ i. (c.slice_known-1.given i).fits)) _ (ap answer_in (sym c.in_err-at.was) ∙ c.get.ensures))).1
+    let t = turned_back (refuses rust_limits (length a.bytes.now) a.id.call_id.now a.id.local_tag.now a.id.remote_tag.now a.bytes.now a.used (bytes_all a.bytes.now (λ i. (c.slice_known-1.given i).fits)) _ (ap answer_in (sym c.in_err-at.was) ∙ c.get.ensures)) in
+    record { value = err_is c.from_residual.result _ c.from_residual.ensures.1 ∙ t.0; bytes_after = t.1 }

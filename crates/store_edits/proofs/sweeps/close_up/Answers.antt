@@ -1,30 +1,35 @@
 -- `sweeps::close_up` meets its contract: the front is the images that stay, the bytes after it are what they were. Assumes nothing.
-use Prim.Native.Nat.{ℕ, ◌-◌}
+use Prim.Native.Nat.{ℕ}
 use mathlib.Core.Path.{sym, ap, subst, ◌∙◌}
 use mathlib.Core.List.{List}
 use lib.ListN.{length}
+use lib.Seq.{take-length}
 use Rattle.edit.specs.Edit.{over}
 use Rattle.codec.proofs.CodecLaws.{bytes_all}
-use Rattle.store_edits.specs.Edits.{TerminatedAt}
-use Rattle.store_edits.proofs.SweepLaws.{start, stands, Next, next, done, same_long}
+use Rattle.record.specs.Store.{decode_all}
+use Rattle.dialog_manager.specs.Search.{Stored}
+use Rattle.store_edits.specs.Edits.{living_in, TerminatedAt}
+use Rattle.store_edits.proofs.SweepLaws.{start, stands, Next, next, done, same_long, more}
 use native.Mathlib.Omega.{arith}
 use Rattle.store_edits.proofs.sweeps.close_up.Goals as goal
 use Rattle.store_edits.proofs.sweeps.close_up.Goals.{After-record_end-end}
 
 -- the turn
-turn : (c : After-record_end-end) → let l = c.loop-at in Next c.args.bytes.now c.args.used l.bytes l.at l.to c.record_end-end.result
-turn c = let l = c.loop-at in next c.args.bytes.now c.args.used l.bytes l.at l.to l.invariant c.loop-at-test.true c.record_end-end.result c.record_end-end.ensures
+turn : (c : After-record_end-end) → let l = c.loop-at in Next c.args.bytes.now (length c.args.bytes.now) l.bytes l.at l.to c.record_end-end.result
+turn c = let l = c.loop-at in next c.args.bytes.now (length c.args.bytes.now) l.bytes l.at l.to l.invariant (more c.args.bytes.now l.bytes l.at l.to l.invariant c.loop-at-test.true) c.record_end-end.result c.record_end-end.ensures
 
 pub loop-at-init : goal.loop-at-init
-loop-at-init c = let a = c.args in start a.bytes.now a.used (bytes_all a.bytes.now (λ i. (c.type_inv.bytes i).fits)) c.requires.used_in_bounds c.requires.stored
+loop-at-init c =
+    let s = c.args.bytes.now in
+    start s (length s) (bytes_all s (λ i. (c.type_inv.bytes i).fits)) (omega arith) (subst Stored (sym (take-length s)) c.requires)
 
 pub record_end-end-requires : goal.record_end-end-requires
 record_end-end-requires c =
-    let l = c.loop-at in stands c.args.bytes.now c.args.used l.bytes l.at l.to l.invariant c.loop-at-test.true
+    let l = c.loop-at in stands c.args.bytes.now (length c.args.bytes.now) l.bytes l.at l.to l.invariant (more c.args.bytes.now l.bytes l.at l.to l.invariant c.loop-at-test.true)
 
 pub is_terminated-requires : goal.is_terminated-requires
 is_terminated-requires c =
-    let l = c.loop-at in stands c.args.bytes.now c.args.used l.bytes l.at l.to l.invariant c.loop-at-test.true
+    let l = c.loop-at in stands c.args.bytes.now (length c.args.bytes.now) l.bytes l.at l.to l.invariant (more c.args.bytes.now l.bytes l.at l.to l.invariant c.loop-at-test.true)
 
 pub overflow_sub-n : goal.overflow_sub-n
 overflow_sub-n c = let t = turn (goal.at.overflow_sub-n c).After-record_end-end in omega (arith, t.moves)
@@ -33,14 +38,8 @@ pub shift-requires : goal.shift-requires
 shift-requires c =
     let l = c.loop-at in
     let t = turn (goal.at.shift-requires c).After-record_end-end in
-    let m = same_long c.args.bytes.now c.args.used l.bytes l.at l.to l.invariant in
+    let m = same_long c.args.bytes.now (length c.args.bytes.now) l.bytes l.at l.to l.invariant in
     (omega (arith, t.moves, t.fits, l.invariant.within, m), omega (arith, t.moves, t.fits, l.invariant.below, l.invariant.within, m))
-
-pub overflow_add-to : goal.overflow_add-to
-overflow_add-to c =
-    let l = c.loop-at in
-    let t = turn (goal.at.overflow_add-to c).After-record_end-end in
-    omega (arith, t.moves, t.fits, l.invariant.below, c.requires.used_in_bounds)
 
 pub loop-at-smaller : goal.loop-at-smaller
 loop-at-smaller c = let t = turn (goal.at.loop-at-smaller c).After-record_end-end in omega (arith, t.moves, t.fits)
@@ -62,16 +61,10 @@ loop-at-preserved c =
     let t = turn (goal.at.loop-at-preserved c).After-record_end-end in
     t.goes (subst (TerminatedAt l.bytes l.at) c.if-not-is_terminated.false c.is_terminated.ensures)
 
-pub returns-clause-value : goal.returns-clause-value
-returns-clause-value c =
+pub returns : goal.returns
+returns c =
     let g = c.loop-at in
     let a = c.args in
-    let d = done a.bytes.now a.used g.bytes g.at g.to g.invariant c.loop-at-test.false in
-    g.invariant.to_is ∙ ap length (sym d)
-
-pub returns-clause-bytes_after : goal.returns-clause-bytes_after
-returns-clause-bytes_after c =
-    let g = c.loop-at in
-    let a = c.args in
-    let d = done a.bytes.now a.used g.bytes g.at g.to g.invariant c.loop-at-test.false in
-    g.invariant.are ∙ ap (λ (t : List ℕ). over t a.bytes.now) (sym d)
+    let m = same_long a.bytes.now (length a.bytes.now) g.bytes g.at g.to g.invariant in
+    let d = ap (λ (s : List ℕ). living_in (decode_all s)) (sym (take-length a.bytes.now)) ∙ done a.bytes.now (length a.bytes.now) g.bytes g.at g.to g.invariant (omega (arith, m, c.loop-at-test.false)) in
+    record { value = g.invariant.to_is ∙ ap length (sym d); bytes_after = g.invariant.are ∙ ap (λ (t : List ℕ). over t a.bytes.now) (sym d) }

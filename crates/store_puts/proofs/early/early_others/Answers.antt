@@ -33,17 +33,8 @@ loop-at-init c =
     let b = begun s _ _ c.into_iter-at-iterator.ensures.into_iter_gives c.records-at-items.ensures.bytes c.records-at-items.ensures.at in
     (b.0, subst (λ (at : ℕ). Counting (ident_of a.id) s at 0) (sym b.1) (start (ident_of a.id) s (bytes_all s a.held.fit) (stored_held a.held)))
 
-pub ids_at-ids-requires : goal.ids_at-ids-requires
-ids_at-ids-requires c = (taken c).here
-
 pub is_early_other-requires : goal.is_early_other-requires
 is_early_other-requires c = (turn (goal.at.is_early_other-requires c).In-Some c.ids_at-ids.result c.ids_at-ids.ensures).within
-
-pub overflow_add-n : goal.overflow_add-n
-overflow_add-n c =
-    let t = turn (goal.at.overflow_add-n c).In-Some c.ids_at-ids.result c.ids_at-ids.ensures in
-    let e : true ≡ c.is_early_other.result = sym c.if-is_early_other.true in
-    omega (arith, t.fits, (t.again (e ∙ c.is_early_other.ensures)).few)
 
 -- one that is counted
 pub loop-at-preserved-then-is_early_other : goal.loop-at-preserved-then-is_early_other

@@ -29,39 +29,25 @@ one c = sym c.in_ok-r.was ∙ c.read_image.ensures
 texts : (c : In_ok-r) → IdsWithin c.args.image.now (c.in_ok-r.r).ids
 texts c = texts_within c.args.image.now (c.in_ok-r.r) (one c)
 
-pub returns-in_err-n-clause-value : goal.returns-in_err-n-clause-value
-returns-in_err-n-clause-value c =
+pub returns-in_err-n : goal.returns-in_err-n
+returns-in_err-n c =
     let a = c.args in
-    err_is c.from_residual.result _ c.from_residual.ensures.1 ∙ (turned_back (store_unread rust_limits (length a.bytes.now) a.image.now a.bytes.now a.used (sym c.count.ensures ∙ c.in_err-n.was))).0
+    let t = turned_back (store_unread rust_limits (length a.bytes.now) a.image.now a.bytes.now a.used (sym c.count.ensures ∙ c.in_err-n.was)) in
+    record { value = err_is c.from_residual.result _ c.from_residual.ensures.1 ∙ t.0; bytes_after = t.1 }
 
-pub returns-in_err-n-clause-bytes_after : goal.returns-in_err-n-clause-bytes_after
-returns-in_err-n-clause-bytes_after c =
+pub returns-in_err-r : goal.returns-in_err-r
+returns-in_err-r c =
     let a = c.args in
-    (turned_back (store_unread rust_limits (length a.bytes.now) a.image.now a.bytes.now a.used (sym c.count.ensures ∙ c.in_err-n.was))).1
+    let t = turned_back (not_one rust_limits (length a.bytes.now) a.image.now a.bytes.now a.used (sym c.in_err-r.was ∙ c.read_image.ensures)) in
+    record { value = err_is c.from_residual-in_err-r.result _ c.from_residual-in_err-r.ensures.1 ∙ t.0; bytes_after = t.1 }
 
-pub returns-in_err-r-clause-value : goal.returns-in_err-r-clause-value
-returns-in_err-r-clause-value c =
+pub returns-then-n-ge-MAX_CONFIRMED_DIALOGS : goal.returns-then-n-ge-MAX_CONFIRMED_DIALOGS
+returns-then-n-ge-MAX_CONFIRMED_DIALOGS c =
     let a = c.args in
-    err_is c.from_residual-in_err-r.result _ c.from_residual-in_err-r.ensures.1 ∙ (turned_back (not_one rust_limits (length a.bytes.now) a.image.now a.bytes.now a.used (sym c.in_err-r.was ∙ c.read_image.ensures))).0
-
-pub returns-in_err-r-clause-bytes_after : goal.returns-in_err-r-clause-bytes_after
-returns-in_err-r-clause-bytes_after c =
-    let a = c.args in
-    (turned_back (not_one rust_limits (length a.bytes.now) a.image.now a.bytes.now a.used (sym c.in_err-r.was ∙ c.read_image.ensures))).1
-
-pub returns-then-n-ge-MAX_CONFIRMED_DIALOGS-clause-value : goal.returns-then-n-ge-MAX_CONFIRMED_DIALOGS-clause-value
-returns-then-n-ge-MAX_CONFIRMED_DIALOGS-clause-value c =
-    let a = c.args in
-    let f = full rust_limits a.bytes.now a.used c.in_ok-n.n (store (goal.at.returns-then-n-ge-MAX_CONFIRMED_DIALOGS-clause-value c).In_ok-n) (counted (goal.at.returns-then-n-ge-MAX_CONFIRMED_DIALOGS-clause-value c).In_ok-n) (omega (arith, c.if-n-ge-MAX_CONFIRMED_DIALOGS.true)) in
-    let t = image_named a.image.now (c.in_ok-r.r) (one (goal.at.returns-then-n-ge-MAX_CONFIRMED_DIALOGS-clause-value c).In_ok-r) (λ i. (c.type_inv.image i).fits) in
-    (turned_back (too_many rust_limits (length a.bytes.now) a.image.now a.bytes.now a.used (store (goal.at.returns-then-n-ge-MAX_CONFIRMED_DIALOGS-clause-value c).In_ok-n) t.value t.one f)).0
-
-pub returns-then-n-ge-MAX_CONFIRMED_DIALOGS-clause-bytes_after : goal.returns-then-n-ge-MAX_CONFIRMED_DIALOGS-clause-bytes_after
-returns-then-n-ge-MAX_CONFIRMED_DIALOGS-clause-bytes_after c =
-    let a = c.args in
-    let f = full rust_limits a.bytes.now a.used c.in_ok-n.n (store (goal.at.returns-then-n-ge-MAX_CONFIRMED_DIALOGS-clause-bytes_after c).In_ok-n) (counted (goal.at.returns-then-n-ge-MAX_CONFIRMED_DIALOGS-clause-bytes_after c).In_ok-n) (omega (arith, c.if-n-ge-MAX_CONFIRMED_DIALOGS.true)) in
-    let t = image_named a.image.now (c.in_ok-r.r) (one (goal.at.returns-then-n-ge-MAX_CONFIRMED_DIALOGS-clause-bytes_after c).In_ok-r) (λ i. (c.type_inv.image i).fits) in
-    (turned_back (too_many rust_limits (length a.bytes.now) a.image.now a.bytes.now a.used (store (goal.at.returns-then-n-ge-MAX_CONFIRMED_DIALOGS-clause-bytes_after c).In_ok-n) t.value t.one f)).1
+    let f = full rust_limits a.bytes.now a.used c.in_ok-n.n (store (goal.at.returns-then-n-ge-MAX_CONFIRMED_DIALOGS c).In_ok-n) (counted (goal.at.returns-then-n-ge-MAX_CONFIRMED_DIALOGS c).In_ok-n) (omega (arith, c.if-n-ge-MAX_CONFIRMED_DIALOGS.true)) in
+    let i = image_named a.image.now (c.in_ok-r.r) (one (goal.at.returns-then-n-ge-MAX_CONFIRMED_DIALOGS c).In_ok-r) (λ i. (c.type_inv.image i).fits) in
+    let t = turned_back (too_many rust_limits (length a.bytes.now) a.image.now a.bytes.now a.used (store (goal.at.returns-then-n-ge-MAX_CONFIRMED_DIALOGS c).In_ok-n) i.value i.one f) in
+    record { value = t.0; bytes_after = t.1 }
 
 pub texts-id-requires : goal.texts-id-requires
 texts-id-requires c = texts (goal.at.texts-id-requires c).In_ok-r

@@ -14,29 +14,14 @@ use Rattle.store_updates.proofs.calls.terminate.Goals.{Start}
 abbrev name : Start → Ident
 name c = ident c.args.id.call_id.now c.args.id.local_tag.now c.args.id.remote_tag.now
 
-pub returns-clause-value : goal.returns-clause-value
+pub returns : goal.returns
 unfolding revised
-returns-clause-value c =
-    (call_done (terminates (name (goal.at.returns-clause-value c).Start)) c.args.bytes.now c.args.used c.find_record.ensures.value c.in_ok-p.was (bytes_all c.args.bytes.now (λ i. (c.slice_known-1.given i).fits)) (c.terminate_at.ensures.value, c.terminate_at.ensures.bytes_after)).0
+returns c =
+    let t = call_done (terminates (name (goal.at.returns c).Start)) c.args.bytes.now c.args.used c.find_record.ensures.value c.in_ok-p.was (bytes_all c.args.bytes.now (λ i. (c.slice_known-1.given i).fits)) (c.terminate_at.ensures.value, c.terminate_at.ensures.bytes_after) in
+    record { value = t.0; bytes_after = t.1.0; used_value = t.1.1 }
 
-pub returns-clause-bytes_after : goal.returns-clause-bytes_after
-unfolding revised
-returns-clause-bytes_after c =
-    (call_done (terminates (name (goal.at.returns-clause-bytes_after c).Start)) c.args.bytes.now c.args.used c.find_record.ensures.value c.in_ok-p.was (bytes_all c.args.bytes.now (λ i. (c.slice_known-1.given i).fits)) (c.terminate_at.ensures.value, c.terminate_at.ensures.bytes_after)).1.0
-
-pub returns-clause-used_value : goal.returns-clause-used_value
-unfolding revised
-returns-clause-used_value c =
-    (call_done (terminates (name (goal.at.returns-clause-used_value c).Start)) c.args.bytes.now c.args.used c.find_record.ensures.value c.in_ok-p.was (bytes_all c.args.bytes.now (λ i. (c.slice_known-1.given i).fits)) (c.terminate_at.ensures.value, c.terminate_at.ensures.bytes_after)).1.1
-
-pub returns-in_err-p-clause-value : goal.returns-in_err-p-clause-value
-returns-in_err-p-clause-value c =
-    err_is c.from_residual.result _ c.from_residual.ensures.1 ∙ (call_refused (terminates (name (goal.at.returns-in_err-p-clause-value c).Start)) c.args.bytes.now c.args.used c.find_record.ensures.value c.in_err-p.was).0
-
-pub returns-in_err-p-clause-bytes_after : goal.returns-in_err-p-clause-bytes_after
-returns-in_err-p-clause-bytes_after c =
-    (call_refused (terminates (name (goal.at.returns-in_err-p-clause-bytes_after c).Start)) c.args.bytes.now c.args.used c.find_record.ensures.value c.in_err-p.was).1.0
-
-pub returns-in_err-p-clause-used_value : goal.returns-in_err-p-clause-used_value
-returns-in_err-p-clause-used_value c =
-    ap (λ (r : Result ℕ Refusal). used_after r c.args.used) (err_is c.from_residual.result _ c.from_residual.ensures.1) ∙ (call_refused (terminates (name (goal.at.returns-in_err-p-clause-used_value c).Start)) c.args.bytes.now c.args.used c.find_record.ensures.value c.in_err-p.was).1.1
+pub returns-in_err-p : goal.returns-in_err-p
+returns-in_err-p c =
+    let e = err_is c.from_residual.result _ c.from_residual.ensures.1 in
+    let t = call_refused (terminates (name (goal.at.returns-in_err-p c).Start)) c.args.bytes.now c.args.used c.find_record.ensures.value c.in_err-p.was in
+    record { value = e ∙ t.0; bytes_after = t.1.0; used_value = ap (λ (r : Result ℕ Refusal). used_after r c.args.used) e ∙ t.1.1 }

@@ -1,30 +1,33 @@
 -- `worst_minute::counting::count` meets its contract: the worst over the starts before the window, and the refusals of the window. Assumes nothing.
-use Prim.Native.Nat.{◌+◌, ◌*◌, ◌<◌}
+use Prim.Native.Nat.{ℕ, ◌+◌, ◌≤◌, ◌<◌}
 use native.Mathlib.Omega.{arith}
 use mathlib.Core.Path.{◌≡◌, refl, ap, sym, ◌∙◌}
+use mathlib.Core.Bool.{true}
+use mathlib.Core.List.{List}
 use lib.ListN.{length}
 use Rattle.std.specs.Prelude.{Ok, Some}
 use Rattle.limits.specs.Outcome.{and_then, or_refuse}
 use Rattle.limits.specs.declared.Refusal.TheVariants.{BadStore}
 use Rattle.worst_minute.specs.Minute.{Minute, worst}
-use Rattle.worst_minute.specs.Layout.{decode_run}
+use Rattle.worst_minute.specs.Layout.{is_sized, decode_run}
 use Rattle.worst_minute.specs.Steps.{or_more}
 use Rattle.worst_minute.specs.Answers.{worst_of, worst_answer}
+use Rattle.worst_minute.specs.declared.counting.Window.{Window}
 use Rattle.worst_minute.proofs.ReadLaws.{sized}
-use Rattle.worst_minute.proofs.CountLaws.{Ready, started, room, falls, reached, stays, moved_on, finished, few_so_far, a_refusal, no_refusal, has_more, has_no_more, ready_as, counting_as}
+use Rattle.worst_minute.proofs.CountLaws.{Counting, Ready, started, falls, reached, stays, moved_on, finished, few_so_far, a_refusal, no_refusal, has_more, has_no_more, ready_as, counting_as, counting_with}
 use Rattle.worst_minute.proofs.counting.count.Goals as goal
-use Rattle.worst_minute.proofs.counting.count.Goals.{After-loop-k, Joined-t-w-ge-MINUTE, then-most-w, else-most-w, then-t-w-ge-MINUTE, else-t-w-ge-MINUTE, then-run-at-ne0, else-run-at-ne0}
+use Rattle.worst_minute.proofs.counting.count.Goals.{Left-loop-at, Joined-t-w-ge-MINUTE, then-most-w, else-most-w, then-t-w-ge-MINUTE, else-t-w-ge-MINUTE, then-run-at-ne0, else-run-at-ne0, else-loop-at-test, then-loop-at-test+else-t-last+else-at-end-at-gt9}
 
 -- the window is where the verdict at the place belongs to it
 ready : (c : Joined-t-w-ge-MINUTE)
-    → Ready c.args.run.now c.if-t-w-ge-MINUTE.w (record { start = c.if-t-w-ge-MINUTE.start; refusals = c.if-t-w-ge-MINUTE.most }) (c.loop-k.k * 9)
+    → Ready c.args.run.now c.if-t-w-ge-MINUTE.w (record { start = c.if-t-w-ge-MINUTE.start; refusals = c.if-t-w-ge-MINUTE.most }) c.loop-at.at
 ready c =
     let s = c.args.run.now in
     let p = c.requires in
-    let l = c.loop-k in
+    let l = c.loop-at in
     let best : Minute = record { start = l.start; refusals = l.most } in
     let m : Minute = record { start = l.w.start; refusals = l.w.refusals } in
-    let h : c.loop-k.k * 9 < length s = omega arith in
+    let h : l.at < length s = omega arith in
     let e = c.time_at-t.ensures in
     let f = c.if-t-last.false in
     elim c.if-t-w-ge-MINUTE.branch [
@@ -39,43 +42,60 @@ ready c =
     ]
 
 -- at the end the answer is the worst so far with the window
-ended : (c : After-loop-k) {m : Minute}
-    → m ≡ (let l = c.loop-k in or_more (record { start = l.start; refusals = l.most }) (record { start = l.w.start; refusals = l.w.refusals }))
-    → worst_of (Some m) ≡ worst_answer (and_then (or_refuse BadStore (decode_run c.args.run.now)) (λ vs. Ok (worst vs)))
-ended c e =
-    let p = c.requires in
-    let f = finished c.args.run.now p.1 p.0 c.loop-k.invariant (omega (arith, (sized (length c.args.run.now) p.1).0)) in
+finally : (s : List ℕ) (z : is_sized (length s) ≡ true) (full : 0 < length s) {w : Window} {best : Minute} {last at : ℕ} → Counting s w best last at → length s ≤ at → {m : Minute} → m ≡ or_more best (record { start = w.start; refusals = w.refusals })
+    → worst_of (Some m) ≡ worst_answer (and_then (or_refuse BadStore (decode_run s)) (λ vs. Ok (worst vs)))
+finally s z full r h e =
+    let f = finished s z full r h in
     ap (λ m. worst_of (Some m)) e ∙ ap worst_of (sym f.1) ∙ ap (λ o. worst_answer (and_then (or_refuse BadStore o) (λ vs. Ok (worst vs)))) (sym f.0)
 
-pub time_at-first-requires : goal.time_at-first-requires
-time_at-first-requires c = omega (arith, c.requires.0, (sized (length c.args.run.now) c.requires.1).0)
-
-pub loop-k-init : goal.loop-k-init
-loop-k-init c = started c.args.run.now c.requires.1 c.requires.0 c.time_at-first.ensures
-
-pub time_at-t-requires : goal.time_at-t-requires
-time_at-t-requires c =
+-- where no verdict is left, and in the last one's turn
+ended : (c : Left-loop-at) {m : Minute}
+    → m ≡ (let l = c.loop-at-test in or_more (record { start = l.start; refusals = l.most }) (record { start = l.w.start; refusals = l.w.refusals }))
+    → worst_of (Some m) ≡ worst_answer (and_then (or_refuse BadStore (decode_run c.args.run.now)) (λ vs. Ok (worst vs)))
+ended c {m} e =
+    let s = c.args.run.now in
     let p = c.requires in
-    omega (arith, room c.args.run.now p.1 p.0 c.loop-k.invariant (omega arith) refl)
+    let l = c.loop-at in
+    let best : Minute = record { start = l.start; refusals = l.most } in
+    elim c.loop-at-test.branch [
+      | else-loop-at-test k ↦ finally s p.1 p.0 (counting_with s best l.invariant k.w-is k.most-is k.start-is) (omega (arith, k.loop-at-test.false)) {m = m} e
+      | then-loop-at-test+else-t-last+else-at-end-at-gt9 k ↦
+          let t = k.time_at-t.ensures in
+          let f = k.if-t-last.false in
+          let h : l.at < length s = omega (arith, k.loop-at-test.true) in
+          let o : Minute = record { start = l.w.start; refusals = l.w.refusals } in
+          let now : Minute = record { start = k.if-t-w-ge-MINUTE.start; refusals = k.if-t-w-ge-MINUTE.most } in
+          let r : Ready s k.if-t-w-ge-MINUTE.w now l.at =
+          elim k.if-t-w-ge-MINUTE.branch [
+            | then-t-w-ge-MINUTE j ↦
+                let worse : ◌≡◌ {A = Minute} (record { start = j.if-most-w.start; refusals = j.if-most-w.most }) (or_more best o) =
+                elim j.if-most-w.branch [
+                  | then-most-w q ↦ has_more best o (omega (arith, q.if-most-w.true)) q.most-is q.start-is
+                  | else-most-w q ↦ has_no_more best o (omega (arith, q.if-most-w.false)) q.most-is q.start-is
+                ] in
+                ready_as s (record { start = j.if-most-w.start; refusals = j.if-most-w.most }) (moved_on s p.1 p.0 l.invariant h t f (omega (arith, j.if-t-w-ge-MINUTE.true)) j.moved-w.ensures worse) j.w-is j.most-is j.start-is
+            | else-t-w-ge-MINUTE j ↦ ready_as s best (stays s p.1 p.0 l.invariant h t f (omega (arith, j.if-t-w-ge-MINUTE.false))) j.w-is j.most-is j.start-is
+          ] in
+          let n : Counting s k.if-run-at-ne0.w now k.time_at-t.result (l.at + 9) =
+          elim k.if-run-at-ne0.branch [
+            | then-run-at-ne0 j ↦ counting_as s (a_refusal s p.1 p.0 r j.if-run-at-ne0.true t) j.w-is
+            | else-run-at-ne0 j ↦ counting_as s (no_refusal s p.1 p.0 r j.if-run-at-ne0.false t) j.w-is
+          ] in
+          finally s p.1 p.0 (counting_with s now n k.w-is k.most-is k.start-is) (omega arith) {m = m} e
+    ]
+
+pub loop-at-init : goal.loop-at-init
+loop-at-init c = started c.args.run.now c.requires.1 c.requires.0 c.time_at-first.ensures
 
 pub returns-then-t-last : goal.returns-then-t-last
 returns-then-t-last c =
     let p = c.requires in
-    ap (λ o. worst_answer (and_then (or_refuse BadStore o) (λ vs. Ok (worst vs)))) (sym (falls c.args.run.now p.1 p.0 c.loop-k.invariant (omega arith) c.time_at-t.ensures c.if-t-last.true))
-
-pub overflow_sub-t : goal.overflow_sub-t
-overflow_sub-t c = omega (arith, c.loop-k.invariant.low)
+    ap (λ o. worst_answer (and_then (or_refuse BadStore o) (λ vs. Ok (worst vs)))) (sym (falls c.args.run.now p.1 p.0 c.loop-at.invariant (omega arith) c.time_at-t.ensures c.if-t-last.true))
 
 pub moved-w-requires : goal.moved-w-requires
 moved-w-requires c =
     let p = c.requires in
-    reached c.args.run.now p.1 p.0 c.loop-k.invariant (omega arith) c.time_at-t.ensures c.if-t-last.false
-
-pub overflow_add-at : goal.overflow_add-at
-overflow_add-at c = omega (arith, (ready c).reach.entry)
-
-pub bounds-run-at : goal.bounds-run-at
-bounds-run-at c = omega (arith, (ready (goal.at.bounds-run-at c).Joined-t-w-ge-MINUTE).reach.entry)
+    reached c.args.run.now p.1 p.0 c.loop-at.invariant (omega arith) c.time_at-t.ensures c.if-t-last.false
 
 pub overflow_add-w : goal.overflow_add-w
 overflow_add-w c =
@@ -83,24 +103,23 @@ overflow_add-w c =
     let p = c.requires in
     omega (arith, few_so_far s p.1 p.0 (ready (goal.at.overflow_add-w c).Joined-t-w-ge-MINUTE), (sized (length s) p.1).1)
 
-pub loop-k-preserved : goal.loop-k-preserved
-loop-k-preserved c =
+pub loop-at-preserved : goal.loop-at-preserved
+loop-at-preserved c =
     let s = c.args.run.now in
     let p = c.requires in
     let e = c.time_at-t.ensures in
-    let r = ready (goal.at.loop-k-preserved c).Joined-t-w-ge-MINUTE in
-    let n : (c.loop-k.k + 1) * 9 ≡ c.loop-k.k * 9 + 9 = omega arith in
-    rw n (elim c.if-run-at-ne0.branch [
+    let r = ready (goal.at.loop-at-preserved c).Joined-t-w-ge-MINUTE in
+    elim c.if-run-at-ne0.branch [
       | then-run-at-ne0 k ↦ counting_as s (a_refusal s p.1 p.0 r k.if-run-at-ne0.true e) k.w-is
       | else-run-at-ne0 k ↦ counting_as s (no_refusal s p.1 p.0 r k.if-run-at-ne0.false e) k.w-is
-    ])
+    ]
 
 pub returns-then-w-most : goal.returns-then-w-most
 returns-then-w-most c =
-    ended (goal.at.returns-then-w-most c).After-loop-k
-    (has_no_more (record { start = c.loop-k.start; refusals = c.loop-k.most }) (record { start = c.loop-k.w.start; refusals = c.loop-k.w.refusals }) (omega (arith, c.if-w-most.true)) refl refl)
+    ended (goal.at.returns-then-w-most c).Left-loop-at
+    (has_no_more (record { start = c.loop-at-test.start; refusals = c.loop-at-test.most }) (record { start = c.loop-at-test.w.start; refusals = c.loop-at-test.w.refusals }) (omega (arith, c.if-w-most.true)) refl refl)
 
 pub returns : goal.returns
 returns c =
-    ended (goal.at.returns c).After-loop-k
-    (has_more (record { start = c.loop-k.start; refusals = c.loop-k.most }) (record { start = c.loop-k.w.start; refusals = c.loop-k.w.refusals }) (omega (arith, c.if-w-most.false)) refl refl)
+    ended (goal.at.returns c).Left-loop-at
+    (has_more (record { start = c.loop-at-test.start; refusals = c.loop-at-test.most }) (record { start = c.loop-at-test.w.start; refusals = c.loop-at-test.w.refusals }) (omega (arith, c.if-w-most.false)) refl refl)

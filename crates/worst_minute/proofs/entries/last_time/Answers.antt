@@ -6,7 +6,7 @@ use Rattle.std.proofs.Common.{rules}
 use lib.ListN.{length}
 use Rattle.worst_minute.specs.Layout.{is_sized}
 use Rattle.worst_minute.specs.Answers.{last_of}
-use Rattle.worst_minute.proofs.ReadLaws.{not_sized, none_read, one_falls, one_read, all_read}
+use Rattle.worst_minute.proofs.ReadLaws.{not_sized, one_falls, one_read, all_read}
 use Rattle.worst_minute.proofs.entries.last_time.Goals as goal
 use Rattle.worst_minute.proofs.entries.last_time.Goals.{Else-not-is_sized}
 
@@ -16,12 +16,6 @@ fits c = search rules
 
 pub returns-then-not-is_sized : goal.returns-then-not-is_sized
 returns-then-not-is_sized c = ap last_of (sym (not_sized c.args.run.now (search rules)))
-
-pub loop-entry-init : goal.loop-entry-init
-loop-entry-init c =
-    let e = c.into_iter-entry-iterator.ensures.into_iter_gives in
-    let f = c.chunks_exact-entry-items.ensures in
-    record { size = ap (λ i. i.size) e ∙ f.size; read = none_read c.args.run.now (ap (λ i. i.rest.now) e ∙ f.rest) }
 
 pub returns-then-t-last : goal.returns-then-t-last
 returns-then-t-last c =
