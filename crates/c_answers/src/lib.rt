@@ -276,15 +276,16 @@ pub fn give_rack(
     }
 }
 
-// That there is an interval, or with 13 the least.
+// 0 where the interval is taken, or with 13 the least.
 pub fn give_validated(answer: Result<u64, Refusal>, least: &mut u64) -> u8
     ensures { ValidatedGives answer least.old result least.new }
 {
-    let mut seconds = 0;
-    give_with_least(answer, &mut seconds, least)
+    let mut interval = 0;
+    give_with_least(answer, &mut interval, least)
 }
 
 // 0 none, 1 uac, 2 uas.
+// Kept (4): an `Option` of a library's enum: `From` can't be written for it here.
 pub fn refresher_number(r: Option<Refresher>) -> u8
     ensures { result ≡ refresher_number r }
 {

@@ -28,7 +28,8 @@ pub fn read_text(bytes: &[u8], at: usize) -> Option<Span>
 }
 
 // The two bytes at a place, as a number.
-// Kept (5): the next reading is at a place of the same bytes (`rest` in the clause); of a slice cut at `at` each caller would have to add it on.
+// Kept (5): each caller has the bytes and a place among them; lent a slice, each would cut it.
+// Kept (2): one line each: `from_be_bytes` is each number type's own, so that a function over the type would need a trait of ours for it.
 pub fn read_two(bytes: &[u8], at: usize) -> usize
     requires { at + 2 ≤ length bytes.now }
     ensures bytes_value { two.read (drop at bytes.now) ≡ Some (record { value = result; rest = drop (at + 2) bytes.now }) }
@@ -38,7 +39,7 @@ pub fn read_two(bytes: &[u8], at: usize) -> usize
 }
 
 // The four bytes at a place, as a number.
-// Kept (5): the next reading is at a place of the same bytes (`rest` in the clause); of a slice cut at `at` each caller would have to add it on.
+// Kept (5): each caller has the bytes and a place among them; lent a slice, each would cut it.
 // Kept (2): one line each: `from_be_bytes` is each number type's own, so that a function over the type would need a trait of ours for it.
 pub fn read_four(bytes: &[u8], at: usize) -> u32
     requires { at + 4 ≤ length bytes.now }
@@ -48,7 +49,7 @@ pub fn read_four(bytes: &[u8], at: usize) -> u32
 }
 
 // The eight bytes at a place, as a number.
-// Kept (5): the next reading is at a place of the same bytes (`rest` in the clause); of a slice cut at `at` each caller would have to add it on.
+// Kept (5): each caller has the bytes and a place among them; lent a slice, each would cut it.
 // Kept (2): one line each: `from_be_bytes` is each number type's own, so that a function over the type would need a trait of ours for it.
 pub fn read_eight(bytes: &[u8], at: usize) -> u64
     requires { at + 8 ≤ length bytes.now }

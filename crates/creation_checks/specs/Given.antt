@@ -5,10 +5,10 @@ use Rattle.creation_checks.specs.declared.NewDialog.{NewDialog}
 
 abbrev pub creation_of : NewDialog → Creation
 creation_of c = record {
-  method = c.method.now;
-  request = c.request.now;
-  status = c.status;
-  response = c.response.now;
+  method = c.request.method.now;
+  request = c.request.block.now;
+  status = c.response.status;
+  response = c.response.block.now;
   local_uri = c.local_uri.now;
   remote_uri = c.remote_uri.now;
 }
@@ -17,9 +17,9 @@ creation_of c = record {
 abbrev pub checked_of : NewDialog → Creation
 checked_of c = record {
   method = [];
-  request = c.request.now;
-  status = c.status;
-  response = c.response.now;
+  request = c.request.block.now;
+  status = c.response.status;
+  response = c.response.block.now;
   local_uri = c.local_uri.now;
   remote_uri = c.remote_uri.now;
 }

@@ -8,15 +8,14 @@ ghost use Rattle.dialog_rules.specs.Creation.{texts_cause, form_cause, uri_cause
 ghost use Rattle.creation_checks.specs.Given.{creation_of};
 
 use limits::Refusal;
+use msg::{Request, Response};
 use text::check_length;
 
-// What a creation is given: the method, the two messages with the response's status, and the two URIs.
+// What a creation is given: the request, the response to it, and the two URIs.
 #[derive(Clone, Copy)]
 pub struct NewDialog<'a> {
-    pub method: &'a [u8],
-    pub request: &'a [u8],
-    pub status: u16,
-    pub response: &'a [u8],
+    pub request: Request<'a>,
+    pub response: Response<'a>,
     pub local_uri: &'a [u8],
     pub remote_uri: &'a [u8],
 }
@@ -25,20 +24,22 @@ pub struct NewDialog<'a> {
 pub fn check_texts(c: NewDialog<'_>) -> Result<(), Refusal>
     ensures { result ≡ check_of (texts_cause rust_limits (creation_of c.entry)) }
 {
-    check_length(c.method)?;
-    check_length(c.request)?;
-    check_length(c.response)?;
+    check_length(c.request.method)?;
+    check_length(c.request.block)?;
+    check_length(c.response.block)?;
     check_length(c.local_uri)?;
     check_length(c.remote_uri)
 }
 
 // 2 of the two messages, which are not too long.
+// Kept (5): `NewDialog` is what is given, of any length, and 1 is answered for more; a second struct of what `check_texts` passed would be made for
+// these calls alone.
 pub fn check_forms(c: NewDialog<'_>) -> Result<(), Refusal>
-    requires { (length c.request.now ≤ 8192) × (length c.response.now ≤ 8192) }
+    requires { (length c.request.block.now ≤ 8192) × (length c.response.block.now ≤ 8192) }
     ensures { result ≡ check_of (form_cause (creation_of c.entry)) }
 {
-    msg::check_block(c.request)?;
-    msg::check_block(c.response)
+    msg::check_block(c.request.block)?;
+    msg::check_block(c.response.block)
 }
 
 // 6 of the two URIs.

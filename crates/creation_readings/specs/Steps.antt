@@ -1,6 +1,6 @@
 -- Steps of the code: which message a creation reads for what, the state, the numbers and the size of the routes' section. What a creation makes is in
 -- dialog_rules/specs/Creation.antt.
-use Rattle.std.specs.Prelude.{ℕ, ◌≡◌, Bool, true, false, List, length, Err, None, Ok, Option, Result, Some}
+use Rattle.std.specs.Prelude.{ℕ, Bool, true, false, List, length, Err, None, Ok, Option, Result, Some}
 use Rattle.limits.specs.Limits.{LimitSet}
 use Rattle.limits.specs.Outcome.{refuse_by, and_then}
 use Rattle.limits.specs.declared.Refusal.{Refusal}
@@ -18,7 +18,7 @@ use Rattle.dialog_rules.specs.Creation.{numbers_at, sequence_in, interval_cause}
 use Rattle.dialog_rules.specs.Updates.{interval_from}
 use Rattle.route_section.specs.Section.{section_of, route_texts}
 use Rattle.route_section.specs.Measured.{MeasuredIn}
-use Rattle.route_section.specs.declared.PeerRoutes.{PeerRoutes}
+use Rattle.route_section.specs.declared.peer.PeerRoutes.{PeerRoutes}
 
 -- ---- the side
 

@@ -55,7 +55,7 @@ pub fn read_rest<'a, S: Side>(
     peer: &'a [u8],
 ) -> Result<(Numbers, PeerRoutes<'a>), Refusal>
     requires { length peer.now ≤ 8192 }
-    ensures value { remainder_in result ≡ remainder_of rust_limits (side_for S.WE_ARE_UAC) (state_in state) c.entry.request.now c.entry.response.now peer.now }
+    ensures value { remainder_in result ≡ remainder_of rust_limits (side_for S.WE_ARE_UAC) (state_in state) c.entry.request.block.now c.entry.response.block.now peer.now }
     ensures measured { IfOk result (MeasuredOf peer.now) }
 {
     let routes = measure_routes(peer)?;
@@ -64,10 +64,10 @@ pub fn read_rest<'a, S: Side>(
 
 // The numbers: 4, 9, 10 of the request's CSeq, 13 and 14 of the response's interval.
 fn read_numbers<S: Side>(state: State, c: NewDialog<'_>) -> Result<Numbers, Refusal>
-    ensures { outcome_in result ≡ numbers_in rust_limits (side_for S.WE_ARE_UAC) (state_in state) c.entry.request.now c.entry.response.now }
+    ensures { outcome_in result ≡ numbers_in rust_limits (side_for S.WE_ARE_UAC) (state_in state) c.entry.request.block.now c.entry.response.block.now }
 {
-    let n = read_sequence(c.request)?;
-    let expires = headers::expires_named(c.response);
+    let n = read_sequence(c.request.block)?;
+    let expires = headers::expires_named(c.response.block);
     check_interval(expires)?;
     Ok(first_numbers::<S>(state, n, expires))
 }

@@ -14,7 +14,7 @@ pub trait Side {
 
     // The message with Contact and Record-Route: the response for uac, the request for uas.
     fn peer_block<'a>(c: NewDialog<'a>) -> &'a [u8]
-        ensures { result.now ≡ peer_of WE_ARE_UAC c.entry.request.now c.entry.response.now };
+        ensures { result.now ≡ peer_of WE_ARE_UAC c.entry.request.block.now c.entry.response.block.now };
 
     // The identifier of the response: From has the uac's tag.
     fn identifier(response: &[u8]) -> Option<DialogId>
@@ -39,7 +39,7 @@ impl Side for Uac {
     const WE_ARE_UAC: bool = true;
 
     fn peer_block<'a>(c: NewDialog<'a>) -> &'a [u8] {
-        c.response
+        c.response.block
     }
 
     fn identifier(response: &[u8]) -> Option<DialogId> {
@@ -64,7 +64,7 @@ impl Side for Uas {
     const WE_ARE_UAC: bool = false;
 
     fn peer_block<'a>(c: NewDialog<'a>) -> &'a [u8] {
-        c.request
+        c.request.block
     }
 
     fn identifier(response: &[u8]) -> Option<DialogId> {

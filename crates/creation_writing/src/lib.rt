@@ -1,11 +1,12 @@
 // A new record's image, written where it fits.
 #![tactic(auto)]
 
-ghost use Rattle.std.specs.Prelude.{◌≡◌, ◌||◌, ◌≤◌, length};
+ghost use Rattle.std.specs.Prelude.{◌≡◌, ◌||◌, length};
 ghost use Rattle.output.specs.Output.{fitted, leaves, written_from};
 ghost use Rattle.record.specs.Record.{is_sips};
 ghost use Rattle.record.specs.NumbersForm.{meaning};
-ghost use Rattle.image_writer.specs.Parts.{Short, ids_given, image_of};
+ghost use Rattle.dialog_id.specs.IdTexts.{ident_of, TextsShort};
+ghost use Rattle.image_writer.specs.Parts.{image_of};
 ghost use Rattle.route_section.specs.Section.{section_in};
 ghost use Rattle.route_section.specs.Measured.{given_by};
 ghost use Rattle.creation_writing.specs.NewParts.{parts_for};
@@ -18,6 +19,7 @@ use record::Numbers;
 use route_section::{PeerRoutes, write_routes};
 
 // The image over the front of `out`, by the side that we are: 18.
+// Kept (5): the texts of an `IdTexts` are of any length, as C gives them; `Front`, which is made here, has the fact as its ghost field.
 pub fn write_image<S: Side>(
     out: &mut [u8],
     numbers: Numbers,
@@ -25,9 +27,7 @@ pub fn write_image<S: Side>(
     uris: UriTexts<'_>,
     peer: PeerRoutes<'_>,
 ) -> Result<usize, Refusal>
-    requires id_short { Short (ids_given id) }
-    requires peer_len_bound { length peer.block.now ≤ 8192 }
-    requires size_value { peer.size ≡ length (section_in S.WE_ARE_UAC (given_by peer)) }
+    requires { TextsShort (ident_of id) }
     ensures value { result ≡ written_from (fitted (length out.old) (image_of (parts_for S.WE_ARE_UAC (meaning numbers) id.entry uris.entry (section_in S.WE_ARE_UAC (given_by peer.entry))))) }
     ensures out_after { out.new ≡ leaves (fitted (length out.old) (image_of (parts_for S.WE_ARE_UAC (meaning numbers) id.entry uris.entry (section_in S.WE_ARE_UAC (given_by peer.entry))))) out.old }
 {

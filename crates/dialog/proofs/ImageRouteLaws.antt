@@ -1,20 +1,23 @@
--- The routes of one image: their texts lie one after another behind the count byte, and each turn of the loop passes one. Assumes nothing.
-use Prim.Native.Nat.{ℕ, zero, suc, ◌+◌, ◌-◌, ◌*◌, ◌/◌, ◌%◌, ◌≤◌, ◌<◌}
+-- The routes of one image: their texts lie one after another behind the count byte, and the one at an index lies past so many texts. Assumes nothing.
+use Prim.Native.Nat.{ℕ, zero, suc, ◌+◌, ◌*◌, ◌/◌, ◌%◌, ◌≤◌, ◌<◌}
 use native.Mathlib.Omega.{arith}
 use mathlib.Core.Path.{◌≡◌, refl, sym, ap, subst, ◌∙◌}
+use mathlib.Core.Bool.{true}
 use mathlib.Core.List.{List, [], ◌∷◌, ◌++◌, append_assoc, append-nil}
-use lib.ListN.{length, drop, get_or, length-append, length-drop}
-use lib.Seq.{drop_at, drop-drop, get_or-drop}
+use lib.ListN.{length, drop, get_or, length-append}
+use lib.Seq.{drop_at}
 use Rattle.std.specs.Prelude.{Err, None, Ok, Option, Some}
 use Rattle.limits.specs.Outcome.{and_then, or_refuse}
 use Rattle.limits.specs.declared.Refusal.{Refusal}
 use Rattle.limits.specs.declared.Refusal.TheVariants.{BadStore}
+use Rattle.text.specs.Text.{Piece}
 use Rattle.text.specs.Answers.{lookup_of}
-use Rattle.codec.specs.Codec.{Reading, two, write_all}
+use Rattle.codec.specs.Codec.{Reading, two, text, write_all}
 use Rattle.record.specs.Record.{Record, is_filled, uri_text, routes_field, image}
 use Rattle.codec.proofs.CodecLaws.{bytes_all}
-use Rattle.codec.proofs.ReadLaws.{two_at}
 use Rattle.record.proofs.WellFormedLaws.{image_back}
+use Rattle.record_walk.specs.Walk.{past_text, texts_end}
+use Rattle.record_walk.proofs.Parts.{Lies, lies_length, lies_past, lies_text}
 use Rattle.image.specs.Places.{ids_of, uris_of, record_places}
 use Rattle.image.specs.declared.RecordAt.{RecordAt}
 use Rattle.image_writer.specs.Parts.{ids_bytes, uris_bytes, numbers_bytes, map_of_parts, state_byte_of, image_of}
@@ -80,32 +83,33 @@ front_length : (v : Record) → length (front v) ≡ (record_places 0 v).routes
 front_length v =
     omega (arith, front_size (two.write (map_of_parts (parts_in v))) (ids_bytes (ids_of v)) (state_byte_of (parts_in v) ∷ []) (uris_bytes (uris_of v)) (numbers_bytes v.numbers), ids_end_lem 2 (ids_of v), uris_size_lem (uris_of v), numbers_size_lem v.numbers)
 
--- the texts, from the place after the count byte on
-after_count : (l : List (List ℕ)) → 0 < length l → drop 1 ((routes_field (is_filled l)).write l) ≡ write_all uri_text l
-after_count [] h = absurd (omega arith)
-after_count (t ∷ l) h = refl
+-- a count byte, and the texts
+counted : (l : List (List ℕ)) → 0 < length l → (routes_field (is_filled l)).write l ≡ (length l ∷ []) ++ write_all uri_text l
+counted [] h = absurd (omega arith)
+counted (t ∷ l) h = refl
+
+-- what lies past the front of bytes
+past_front : (s a b : List ℕ) (n : ℕ) → s ≡ a ++ b → length a ≡ n → Lies s n b
+past_front s a b n e l = record { here = omega (arith, ap length e, length-append a b); are = ap (drop n) e ∙ drop_at a b n l }
 
 module _ (s : List ℕ) (p : RecordAt) (g : Read s p) where
-  routes_there : drop p.routes s ≡ routes_bytes g.value
-  routes_there =
-      ap (λ (q : RecordAt). drop q.routes s) g.placed
-      ∙ ap (drop (record_places 0 g.value).routes) (g.bytes ∙ image_front g.value)
-      ∙ drop_at (front g.value) (routes_bytes g.value) (record_places 0 g.value).routes (front_length g.value)
+  routes_there : Lies s p.routes (routes_bytes g.value)
+  routes_there = past_front s (front g.value) (routes_bytes g.value) p.routes (g.bytes ∙ image_front g.value) (front_length g.value ∙ ap (λ (q : RecordAt). q.routes) (sym g.placed))
 
-  texts_there : 0 < length g.value.routes → drop (p.routes + 1) s ≡ write_all uri_text g.value.routes
-  texts_there h = sym (drop-drop 1 p.routes s) ∙ ap (drop 1) routes_there ∙ after_count g.value.routes h
+  texts_there : 0 < length g.value.routes → Lies s (p.routes + 1) (write_all uri_text g.value.routes)
+  texts_there h = lies_past s p.routes (length g.value.routes ∷ []) (write_all uri_text g.value.routes) (subst (Lies s p.routes) (counted g.value.routes h) routes_there)
 
   count_is : p.route_count ≡ length g.value.routes
   count_is = ap (λ (q : RecordAt). q.route_count) g.placed
 
--- ---- the walk over the texts
+-- ---- the text at an index
 
--- the texts from a place on, and that the route asked for is the one so many texts further
-pub record Left (s : List ℕ) (index at left : ℕ) : Type 0 where
-  pub texts : List (List ℕ)
-  pub inside : left < length texts
-  pub there : drop at s ≡ write_all uri_text texts
-  pub whole : image_route s index ≡ Ok (text_at at left texts)
+-- a text that lies at a place, as the piece that is answered
+pub record Placed (s : List ℕ) (at : ℕ) (o : Option Piece) : Type 0 where
+  pub value : List ℕ
+  pub after : List ℕ
+  pub lies : Lies s at (text.write value ++ after)
+  pub is : o ≡ Some (record { place = at + 2; text = value })
 
 -- no text from the count on
 past : (ts : List (List ℕ)) (at index : ℕ) → length ts ≤ index → text_at at index ts ≡ None
@@ -114,16 +118,25 @@ past [] at index h = refl
 past (t ∷ ts) at zero h = absurd (omega arith)
 past (t ∷ ts) at (suc index) h = past ts (at + 2 + length t) index (omega arith)
 
--- one text passed, and none left to pass
-passed : (at left : ℕ) (t : List ℕ) (ts : List (List ℕ)) → 0 < left → text_at at left (t ∷ ts) ≡ text_at (at + 2 + length t) (left - 1) ts
-unfolding text_at
-passed at zero t ts h = absurd (omega arith)
-passed at (suc left) t ts h = let e : suc left - 1 ≡ left = omega arith in rw e
+-- of texts that lie one after another, the one at an index lies past so many of them
+text_past : (s : List ℕ) (l : List (List ℕ)) (at index : ℕ) → index < length l → Lies s at (write_all uri_text l) → Placed s (texts_end index s at) (text_at at index l)
+unfolding texts_end text_at write_all
+text_past s [] at index h e = absurd (omega arith)
+text_past s (t ∷ l) at zero h e = record { value = t; after = write_all uri_text l; lies = e; is = refl }
+text_past s (t ∷ l) at (suc index) h e =
+    let step : at + length (text.write t) ≡ past_text s at true = sym (lies_text s at t (write_all uri_text l) e) in
+    let m : Lies s (past_text s at true) (write_all uri_text l) = subst (λ (n : ℕ). Lies s n (write_all uri_text l)) step (lies_past s at (text.write t) (write_all uri_text l) e) in
+    let same : at + 2 + length t ≡ past_text s at true = omega (arith, step) in
+    rw same (text_past s l (past_text s at true) index (omega arith) m)
 
-here : (at left : ℕ) (t : List ℕ) (ts : List (List ℕ)) → left ≤ 0 → text_at at left (t ∷ ts) ≡ Some (record { place = at + 2; text = t })
-unfolding text_at
-here at zero t ts h = refl
-here at (suc left) t ts h = absurd (omega arith)
+-- the number that is read in front of a text is its length
+length_is : (k n : ℕ) (t : List ℕ) {w u : List ℕ} → w ≡ k / 256 ∷ k % 256 ∷ t → two.read w ≡ Some (record { value = n; rest = u }) → n ≡ k
+length_is k n t {w} {u} e r =
+    let a : Reading ℕ = record { value = k / 256 * 256 + k % 256; rest = t } in
+    let b : Reading ℕ = record { value = n; rest = u } in
+    let q : ◌≡◌ {A = Option (Reading ℕ)} (Some a) (Some b) = ap two.read (sym e) ∙ r in
+    let o : a ≡ b = cc in
+    omega (arith, ap (λ (x : Reading ℕ). x.value) o)
 
 module _ (s : List ℕ) (index : ℕ) (p : RecordAt) (g : Read s p) where
   route_is : image_route s index ≡ Ok (text_at (p.routes + 1) index g.value.routes)
@@ -132,74 +145,25 @@ module _ (s : List ℕ) (index : ℕ) (p : RecordAt) (g : Read s p) where
   pub nothing_there : p.route_count ≤ index → Ok None ≡ lookup_of (image_route s index)
   nothing_there h = let e : text_at (p.routes + 1) index g.value.routes ≡ None = past g.value.routes (p.routes + 1) index (omega (arith, count_is s p g)) in rw (route_is, e)
 
-  pub start : index < p.route_count → Left s index (p.routes + 1) index
-  start h = record { texts = g.value.routes; inside = omega (arith, count_is s p g); there = texts_there s p g (omega (arith, count_is s p g)); whole = route_is }
+  module _ (h : index < p.route_count) where
+    texts : Lies s (p.routes + 1) (write_all uri_text g.value.routes)
+    texts = texts_there s p g (omega (arith, count_is s p g))
 
--- the first text: where it ends, and its two length bytes
-pub record First (s : List ℕ) (at : ℕ) (t : List ℕ) (ts : List (List ℕ)) : Type 0 where
-  pub within : at + 2 + length t ≤ length s
-  pub counted : get_or s at 0 * 256 + get_or s (at + 1) 0 ≡ length t
-  pub after : drop (at + 2 + length t) s ≡ write_all uri_text ts
+    placed : Placed s (texts_end index s (p.routes + 1)) (text_at (p.routes + 1) index g.value.routes)
+    placed = text_past s g.value.routes (p.routes + 1) index (omega (arith, count_is s p g)) texts
 
-two_number : (n : ℕ) → n / 256 * 256 + n % 256 ≡ n
-two_number n = omega arith
+    -- the texts begin within
+    pub begin_within : p.routes + 1 ≤ length s
+    begin_within = texts.here
 
-first : (s : List ℕ) (at : ℕ) (t : List ℕ) (ts : List (List ℕ)) → drop at s ≡ write_all uri_text (t ∷ ts) → First s at t ts
-unfolding write_all
-first s at t ts e =
-    let u : List ℕ = length t / 256 ∷ length t % 256 ∷ (t ++ write_all uri_text ts) in
-    let f : drop at s ≡ u = e in
-    let n : length (drop at s) ≡ suc (suc (length (t ++ write_all uri_text ts))) = ap length f in
-    let a : get_or s at 0 ≡ length t / 256 = ap (λ (k : ℕ). get_or s k 0) (omega arith) ∙ sym (get_or-drop at s 0 0) ∙ ap (λ (l : List ℕ). get_or l 0 0) f in
-    let b : get_or s (at + 1) 0 ≡ length t % 256 = sym (get_or-drop at s 1 0) ∙ ap (λ (l : List ℕ). get_or l 1 0) f in
-    record {
-      within = omega (arith, n, length-drop at s, length-append t (write_all uri_text ts));
-      counted = rw (a, b) (two_number (length t));
-      after = sym (drop-drop (length t) (at + 2) s) ∙ ap (drop (length t)) (sym (drop-drop 2 at s) ∙ ap (drop 2) f) ∙ drop_at t (write_all uri_text ts) (length t) refl;
-    }
+    -- its two length bytes lie within
+    pub length_within : texts_end index s (p.routes + 1) + 2 ≤ length s
+    length_within = omega (arith, lies_length s (texts_end index s (p.routes + 1)) (text.write placed.value ++ placed.after) placed.lies)
 
-module _ (s : List ℕ) (index at left : ℕ) (w : Left s index at left) where
-  -- the two length bytes lie within
-  pub length_within : at + 2 ≤ length s
-  length_within = by w.texts w.inside w.there
-    where
-      by : (l : List (List ℕ)) → left < length l → drop at s ≡ write_all uri_text l → at + 2 ≤ length s
-      by [] h e = absurd (omega arith)
-      by (t ∷ ts) h e = omega (arith, (first s at t ts e).within)
-
-  module _ {n : ℕ} (r : two.read (drop at s) ≡ Some (record { value = n; rest = drop (at + 2) s })) where
-    c : n ≡ get_or s at 0 * 256 + get_or s (at + 1) 0
-    c =
-        let a : Reading ℕ = record { value = n; rest = drop (at + 2) s } in
-        let b : Reading ℕ = record { value = get_or s at 0 * 256 + get_or s (at + 1) 0; rest = drop (at + 2) s } in
-        let q : ◌≡◌ {A = Option (Reading ℕ)} (Some a) (Some b) = sym r ∙ two_at s at length_within in
-        let o : a ≡ b = cc in
-        ap (λ (x : Reading ℕ). x.value) o
-
-    pub text_within : at + 2 + n ≤ length s
-    text_within = by w.texts w.inside w.there
-      where
-        by : (l : List (List ℕ)) → left < length l → drop at s ≡ write_all uri_text l → at + 2 + n ≤ length s
-        by [] h e = absurd (omega arith)
-        by (t ∷ ts) h e = let f = first s at t ts e in omega (arith, c, f.within, f.counted)
-
-    -- a turn passes one text
-    pub turn : 0 < left → Left s index (at + 2 + n) (left - 1)
-    turn k = by w.texts w.inside w.there w.whole
-      where
-        by : (l : List (List ℕ)) → left < length l → drop at s ≡ write_all uri_text l → image_route s index ≡ Ok (text_at at left l) → Left s index (at + 2 + n) (left - 1)
-        by [] h e q = absurd (omega arith)
-        by (t ∷ ts) h e q =
-            let f = first s at t ts e in
-            let m : n ≡ length t = c ∙ f.counted in
-            subst (λ (i : ℕ). Left s index (at + 2 + i) (left - 1)) (sym m) (record { texts = ts; inside = omega arith; there = f.after; whole = q ∙ ap Ok (passed at left t ts k) })
-
-    -- the text at which none is left to pass
-    pub found : left ≤ 0 → Ok (Some (record { start = at + 2; length = n })) ≡ lookup_of (image_route s index)
-    found k = by w.texts w.inside w.there w.whole
-      where
-        by : (l : List (List ℕ)) → left < length l → drop at s ≡ write_all uri_text l → image_route s index ≡ Ok (text_at at left l) → Ok (Some (record { start = at + 2; length = n })) ≡ lookup_of (image_route s index)
-        by [] h e q = absurd (omega arith)
-        by (t ∷ ts) h e q =
-            let m : n ≡ length t = c ∙ (first s at t ts e).counted in
-            rw (q, here at left t ts k, m)
+    -- the answer at its place, with the length read there
+    pub found : (at n : ℕ) → at ≡ texts_end index s (p.routes + 1) → two.read (drop at s) ≡ Some (record { value = n; rest = drop (at + 2) s })
+        → Ok (Some (record { start = at + 2; length = n })) ≡ lookup_of (image_route s index)
+    found at n e r =
+        let f : Placed s at (text_at (p.routes + 1) index g.value.routes) = subst (λ (i : ℕ). Placed s i (text_at (p.routes + 1) index g.value.routes)) (sym e) placed in
+        let m : n ≡ length f.value = length_is (length f.value) n (f.value ++ f.after) f.lies.are r in
+        rw (route_is, f.is, m)

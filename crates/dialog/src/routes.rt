@@ -6,6 +6,7 @@ ghost use Rattle.dialog.specs.ImageRoutes.{image_route};
 use crate::readings::read_image;
 use codec::{LENGTH_SIZE, read_two};
 use limits::Refusal;
+use record_walk::texts_end;
 use text::Span;
 
 // Where the text of the route at an index from 0 lies in the image; nothing from the count on: 3.
@@ -16,10 +17,7 @@ pub fn image_route(bytes: &[u8], index: usize) -> Result<Option<Span>, Refusal>
     if r.route_count <= index {
         return Ok(None);
     }
-    let mut at = r.routes + 1;
-    for i in 0..index {
-        at = at + LENGTH_SIZE + read_two(bytes, at);
-    }
+    let at = texts_end(bytes, r.routes + 1, index);
     Ok(Some(Span {
         start: at + LENGTH_SIZE,
         length: read_two(bytes, at),

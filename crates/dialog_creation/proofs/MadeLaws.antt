@@ -24,7 +24,7 @@ use Rattle.dialog_id.specs.declared.DialogId.{DialogId}
 use Rattle.dialog_id.specs.declared.IdTexts.{IdTexts}
 use Rattle.route_set.specs.Routes.{contact_of, routes_of}
 use Rattle.route_section.specs.Section.{section_of, route_texts, section_in}
-use Rattle.route_section.specs.declared.PeerRoutes.{PeerRoutes}
+use Rattle.route_section.specs.declared.peer.PeerRoutes.{PeerRoutes}
 use Rattle.route_section.specs.Measured.{given_by}
 use Rattle.route_section.proofs.SectionLaws.{section_size}
 use Rattle.record.specs.Record.{State, early, confirmed, Side, Numbers, Record, Uris, is_sips, image}
@@ -228,17 +228,17 @@ module _ (u : Bool) (d : NewDialog) (room : ℕ) where
   abbrev g : Creation
   g = checked_of d
 
-  name_is : identifier_in (side_for u) g ≡ identifier_for u d.response.now
+  name_is : identifier_in (side_for u) g ≡ identifier_for u d.response.block.now
   name_is = by u
     where
-      by : (v : Bool) → identifier_in (side_for v) g ≡ identifier_for v d.response.now
+      by : (v : Bool) → identifier_in (side_for v) g ≡ identifier_for v d.response.block.now
       by true = refl
       by false = refl
 
-  peer_is : peer_block (side_for u) g ≡ peer_of u d.request.now d.response.now
+  peer_is : peer_block (side_for u) g ≡ peer_of u d.request.block.now d.response.block.now
   peer_is = by u
     where
-      by : (v : Bool) → peer_block (side_for v) g ≡ peer_of v d.request.now d.response.now
+      by : (v : Bool) → peer_block (side_for v) g ≡ peer_of v d.request.block.now d.response.block.now
       by true = refl
       by false = refl
 
@@ -249,14 +249,14 @@ module _ (u : Bool) (d : NewDialog) (room : ℕ) where
       by true = refl
       by false = refl
 
-  pub no_identifier : id_from (identifier_for u d.response.now) ≡ None → made_image rust_limits (side_for u) g room ≡ Err MissingHeader
-  no_identifier e = unnamed rust_limits (side_for u) g room (name_is ∙ unread (identifier_for u d.response.now) e)
+  pub no_identifier : id_from (identifier_for u d.response.block.now) ≡ None → made_image rust_limits (side_for u) g room ≡ Err MissingHeader
+  no_identifier e = unnamed rust_limits (side_for u) g room (name_is ∙ unread (identifier_for u d.response.block.now) e)
 
-  module _ (i : DialogId) (n : Named u d.response.now i) where
-    pub no_state : first_state (state_by d.status) ≡ None → made_image rust_limits (side_for u) g room ≡ Err InvalidStatus
-    no_state e = stateless rust_limits (side_for u) g room n.id (name_is ∙ n.reads) (state_outside d.status e)
+  module _ (i : DialogId) (n : Named u d.response.block.now i) where
+    pub no_state : first_state (state_by d.response.status) ≡ None → made_image rust_limits (side_for u) g room ≡ Err InvalidStatus
+    no_state e = stateless rust_limits (side_for u) g room n.id (name_is ∙ n.reads) (state_outside d.response.status e)
 
-    module _ (s : CodeState) (f : first_state (state_by d.status) ≡ Some s) (peer t : List ℕ) (a : peer ≡ peer_of u d.request.now d.response.now) (b : t ≡ text_or d.remote_uri.now (contact_of peer)) where
+    module _ (s : CodeState) (f : first_state (state_by d.response.status) ≡ Some s) (peer t : List ℕ) (a : peer ≡ peer_of u d.request.block.now d.response.block.now) (b : t ≡ text_or d.remote_uri.now (contact_of peer)) where
       abbrev estimates : List ℕ → Option Refusal
       estimates x = or_else (estimate_cause rust_limits d.local_uri.now) (or_else (estimate_cause rust_limits d.remote_uri.now) (estimate_cause rust_limits x))
 
@@ -268,17 +268,17 @@ module _ (u : Bool) (d : NewDialog) (room : ℕ) where
 
       pub over_estimate_lem : {cause : Refusal} → check_of (estimates t) ≡ Err cause → made_image rust_limits (side_for u) g room ≡ Err cause
       over_estimate_lem e =
-          overlong rust_limits (side_for u) g room n.id (name_is ∙ n.reads) (state_in s) (state_of_lem (state_by d.status) f) (stopped (estimates (target_of (side_for u) g)) (ap (λ (x : List ℕ). check_of (estimates x)) targets ∙ e))
+          overlong rust_limits (side_for u) g room n.id (name_is ∙ n.reads) (state_in s) (state_of_lem (state_by d.response.status) f) (stopped (estimates (target_of (side_for u) g)) (ap (λ (x : List ℕ). check_of (estimates x)) targets ∙ e))
 
-      module _ (e : check_of (estimates t) ≡ Ok tt) (w : Result (CodeNumbers × PeerRoutes) Refusal) (k : remainder_in w ≡ remainder_of rust_limits (side_for u) (state_in s) d.request.now d.response.now peer) where
+      module _ (e : check_of (estimates t) ≡ Ok tt) (w : Result (CodeNumbers × PeerRoutes) Refusal) (k : remainder_in w ≡ remainder_of rust_limits (side_for u) (state_in s) d.request.block.now d.response.block.now peer) where
         clear : estimates (target_of (side_for u) g) ≡ None
         clear = passed (estimates (target_of (side_for u) g)) (ap (λ (x : List ℕ). check_of (estimates x)) targets ∙ e)
 
-        remains : remainder_of rust_limits (side_for u) (state_in s) d.request.now d.response.now (peer_block (side_for u) g) ≡ remainder_in w
-        remains = ap (λ (x : List ℕ). remainder_of rust_limits (side_for u) (state_in s) d.request.now d.response.now x) peers ∙ sym k
+        remains : remainder_of rust_limits (side_for u) (state_in s) d.request.block.now d.response.block.now (peer_block (side_for u) g) ≡ remainder_in w
+        remains = ap (λ (x : List ℕ). remainder_of rust_limits (side_for u) (state_in s) d.request.block.now d.response.block.now x) peers ∙ sym k
 
         pub rest_refused : {cause : Refusal} → w ≡ Err cause → made_image rust_limits (side_for u) g room ≡ Err cause
-        rest_refused h = remainderless rust_limits (side_for u) g room n.id (name_is ∙ n.reads) (state_in s) (state_of_lem (state_by d.status) f) clear (remains ∙ ap remainder_in h)
+        rest_refused h = remainderless rust_limits (side_for u) g room n.id (name_is ∙ n.reads) (state_in s) (state_of_lem (state_by d.response.status) f) clear (remains ∙ ap remainder_in h)
 
         module _ (x : CodeNumbers) (p : PeerRoutes) (h : w ≡ Ok (x, p)) where
           abbrev Whole : Bool → List ℕ → List ℕ → Type 0
@@ -291,11 +291,11 @@ module _ (u : Bool) (d : NewDialog) (room : ℕ) where
               subst (λ (v : Bool). Whole v peer t) uac_is
               (subst (λ (y : List ℕ). Whole (is_uac (side_for u)) y t) peers
               (subst (λ (z : List ℕ). Whole (is_uac (side_for u)) (peer_block (side_for u) g) z) targets
-              (whole rust_limits (side_for u) g room n.id (name_is ∙ n.reads) (state_in s) (state_of_lem (state_by d.status) f) clear (remains ∙ ap remainder_in h))))
+              (whole rust_limits (side_for u) g room n.id (name_is ∙ n.reads) (state_in s) (state_of_lem (state_by d.response.status) f) clear (remains ∙ ap remainder_in h))))
 
-          pub image_is : (k : IdTexts) (v : UriTexts) → p.block.now ≡ peer → ident_of k ≡ ident_in d.response.now i → uris_given v ≡ record { first = t; second = record { first = d.local_uri.now; second = d.remote_uri.now } }
+          pub image_is : (k : IdTexts) (v : UriTexts) → p.block.now ≡ peer → ident_of k ≡ ident_in d.response.block.now i → uris_given v ≡ record { first = t; second = record { first = d.local_uri.now; second = d.remote_uri.now } }
               → made_image rust_limits (side_for u) g room ≡ fitted room (image_of (parts_for u (meaning x) k v (section_in u (given_by p))))
           image_is k v be ie ue =
               whole_is.1
-              ∙ ap (λ (q : Parts). fitted room (image_of q)) (own_parts u (meaning x) d.response.now t d.local_uri.now d.remote_uri.now (section_in u (routes_of rust_limits peer)) i n k v ie ue)
+              ∙ ap (λ (q : Parts). fitted room (image_of q)) (own_parts u (meaning x) d.response.block.now t d.local_uri.now d.remote_uri.now (section_in u (routes_of rust_limits peer)) i n k v ie ue)
               ∙ ap (λ (y : List ℕ). fitted room (image_of (parts_for u (meaning x) k v (section_in u (routes_of rust_limits y))))) (sym be)

@@ -47,19 +47,21 @@ fn create<S: Side>(c: NewDialog<'_>, out: &mut [u8]) -> Result<usize, Refusal>
 }
 
 // The same of what has passed these checks.
+// Kept (5): `NewDialog` is what is given, of any length, and 1 is answered for more; a second struct of what `check_texts` passed would be made for
+// these calls alone.
 // Kept (5): `out` is `&mut`: in `NewDialog` it would make that no Copy, and the checks take it by value one after another.
 fn make<S: Side>(c: NewDialog<'_>, out: &mut [u8]) -> Result<usize, Refusal>
-    requires { (length c.request.now ≤ 8192) × (length c.response.now ≤ 8192) × (length c.local_uri.now ≤ 8192) × (length c.remote_uri.now ≤ 8192) }
+    requires { (length c.request.block.now ≤ 8192) × (length c.response.block.now ≤ 8192) × (length c.local_uri.now ≤ 8192) × (length c.remote_uri.now ≤ 8192) }
     ensures value { result ≡ written_from (made_image rust_limits (side_for S.WE_ARE_UAC) (checked_of c.entry) (length out.old)) }
     ensures out_after { out.new ≡ leaves (made_image rust_limits (side_for S.WE_ARE_UAC) (checked_of c.entry) (length out.old)) out.old }
 {
-    let id = S::identifier(c.response).ok_or(Refusal::MissingHeader)?;
-    let state = state_for(c.status).ok_or(Refusal::InvalidStatus)?;
+    let id = S::identifier(c.response.block).ok_or(Refusal::MissingHeader)?;
+    let state = state_for(c.response.status).ok_or(Refusal::InvalidStatus)?;
     let peer = S::peer_block(c);
     let target = target(peer, c.remote_uri);
     check_estimates(c, target)?;
     let (numbers, routes) = read_rest::<S>(state, c, peer)?;
-    let id = id.texts(c.response);
+    let id = id.texts(c.response.block);
     let uris = UriTexts {
         target,
         local_uri: c.local_uri,

@@ -79,8 +79,9 @@ pub fn search<W: Wanted>(held: Held<'_>, wanted: &W) -> Option<(usize, RecordAt)
 }
 
 // The texts at these places are the identifier's.
-// Kept (4, 5): part by part, as `named_at` says it, both tags are cut out only of a record that has the Call-ID; `ids.id.texts(bytes) == id` would
-// cut them out of each record, where the Call-ID mostly decides. The parameters are those of `is_at`.
+// Kept (4): part by part, as `named_at` says it, the clause is found alone; the derived `==` of `IdTexts`, which takes the same instructions (PERFORMANCE), would
+// need a proof that it is `named_at`.
+// Kept (5): the parameters are those of `is_at`.
 fn is_named(bytes: &[u8], ids: IdsAt, id: IdTexts<'_>) -> bool
     requires { IdsWithin bytes.now ids }
     ensures { result ≡ named_at bytes.now ids id.entry.call_id.now id.entry.local_tag.now id.entry.remote_tag.now }

@@ -18,6 +18,7 @@ use dialog_changes::read_used;
 use dialog_updates::revise;
 use image_edit::RecordPlace;
 use limits::Refusal;
+use msg::Response;
 use record::{Numbers, State};
 use route_section::measure_routes;
 use routes_edit::Renewal;
@@ -25,17 +26,16 @@ use routes_edit::Renewal;
 // On one record, given as its image with room behind it: 1, 2, 3, 18. Answers the image's new length.
 // Kept (5, 6): C says how many of the lent bytes are used, perhaps too many: 3, in its turn among the causes; so the two go on as given.
 pub fn update_from_response(
-    status: u16,
-    block: &[u8],
+    response: Response<'_>,
     bytes: &mut [u8],
     used: usize,
 ) -> Result<usize, Refusal>
-    ensures value { result ≡ written_from (responded rust_limits status block.now bytes.old used) }
-    ensures bytes_after { bytes.new ≡ leaves (responded rust_limits status block.now bytes.old used) bytes.old }
+    ensures value { result ≡ written_from (responded rust_limits response.entry.status response.entry.block.now bytes.old used) }
+    ensures bytes_after { bytes.new ≡ leaves (responded rust_limits response.entry.status response.entry.block.now bytes.old used) bytes.old }
 {
-    msg::check_block(block)?;
+    msg::check_block(response.block)?;
     let p = read_used(bytes, used)?;
-    response_at(bytes, p, status, block)
+    response_at(bytes, p, response)
 }
 
 // On the record that was read at a place of a store's used bytes, by a block that was checked: 18. Answers the new used length.
@@ -45,21 +45,20 @@ pub fn update_from_response(
 pub fn response_at(
     bytes: &mut [u8],
     p: RecordPlace,
-    status: u16,
-    block: &[u8],
+    response: Response<'_>,
 ) -> Result<usize, Refusal>
     requires stands { StandsAt bytes.old p }
-    requires block_bound { length block.now ≤ 8192 }
-    ensures value { result ≡ written_from (stepped (λ v. Ok (response_update rust_limits status block.now v)) (length bytes.old) p.at (take p.used bytes.old)) }
-    ensures bytes_after { bytes.new ≡ leaves (stepped (λ v. Ok (response_update rust_limits status block.now v)) (length bytes.old) p.at (take p.used bytes.old)) bytes.old }
+    requires block_bound { length response.block.now ≤ 8192 }
+    ensures value { result ≡ written_from (stepped (λ v. Ok (response_update rust_limits response.entry.status response.entry.block.now v)) (length bytes.old) p.at (take p.used bytes.old)) }
+    ensures bytes_after { bytes.new ≡ leaves (stepped (λ v. Ok (response_update rust_limits response.entry.status response.entry.block.now v)) (length bytes.old) p.at (take p.used bytes.old)) bytes.old }
 {
     let numbers = p.record.numbers;
     let state = numbers.state;
-    let x = confirmed_by(with_interval(numbers, block), status);
-    if confirming(state, status) {
-        return confirm_at(bytes, p, x, block);
+    let x = confirmed_by(with_interval(numbers, response.block), response.status);
+    if confirming(state, response.status) {
+        return confirm_at(bytes, p, x, response.block);
     }
-    revise(bytes, p, x, block)
+    revise(bytes, p, x, response.block)
 }
 
 // The 2xx that confirms an Early record: the block's routes too, where they can be read and there are some.

@@ -9,8 +9,9 @@ use record_walk::{ids_end, two};
 use std::cmp::Ordering;
 
 // How the key of the record at one place stands to that at another.
-// Kept (4, 5): the places are those of a table or a walk. By `cmp` and `then_with` two numbers, then two others, take 14 instructions, by tests 10
-// (PERFORMANCE): a request at 1,000 records takes 3,578 a record, and has a bar of 3,600.
+// Kept (5): the places are those of a table or a walk.
+// Kept (4): by `cmp` and `then_with` two numbers, then two others, take 14 instructions, by tests 10 (PERFORMANCE). A sort of 1,000 records compares 8,929 times:
+// 36 instructions more for each, where a request takes 3,578 and has a bar of 3,600.
 pub fn compare(bytes: &[u8], p: usize, q: usize) -> Ordering
     requires { At bytes.now p × At bytes.now q }
     ensures { result ≡ order (key_at bytes.now p) (key_at bytes.now q) }

@@ -6,6 +6,8 @@ use crate::keys::compare;
 use std::cmp::Ordering;
 
 // `places` in the order of their keys; or `false`, if two keys are equal.
+// Kept (4): std's `sort_unstable_by` would need no scratch, but asks for a closure that may be called with any two numbers; `compare` may be with places of
+// records alone, and the proof of that call does not close (tried).
 // Kept (5, 6): no heap: the caller lends the table of places and one as long to merge into; a struct of the two would be made anew for each half.
 pub fn sort(bytes: &[u8], places: &mut [usize], scratch: &mut [usize]) -> bool
     requires each_at { EachAt bytes.now places.old }
@@ -67,8 +69,8 @@ fn merge(bytes: &[u8], places: &[usize], mid: usize, out: &mut [usize]) -> bool
 }
 
 // `piece` over the places from `at` on.
-// Kept (4): by `copy_from_slice` a request at 10,000 records spends 73 instructions of `memcpy` for each; at 1,000 it takes 3,578 for each, and
-// has a bar of 3,600. `out[at..].iter_mut().zip(piece)` does not close: after an adapter of `iter_mut` a proof knows how long `out` is, and not
+// Kept (4): `copy_from_slice` is 73 instructions of `memcpy` for each of 10,000 records; with this loop a request at 1,000 takes 3,578 for each, and its
+// bar is 3,600 (PERFORMANCE). `out[at..].iter_mut().zip(piece)` does not close: after an adapter of `iter_mut` a proof knows how long `out` is, and not
 // its elements.
 fn copy_at(out: &mut [usize], at: usize, piece: &[usize])
     requires { at + length piece.now ≤ length out.old }

@@ -39,7 +39,7 @@ pub fn move_tail(
 }
 
 // A piece over the bytes from a place on.
-// Kept (5): a place is a number that records hold and clauses name.
+// Kept (5): each caller has the bytes and a place among them; lent the slice, each would cut it, and say of all bytes what this clause says.
 pub fn put(bytes: &mut [u8], at: usize, piece: &[u8])
     requires { at + length piece.now ≤ length bytes.old }
     ensures { bytes.new ≡ put_at at piece.now bytes.old }

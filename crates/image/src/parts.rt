@@ -11,7 +11,7 @@ use record::State;
 use text::Span;
 
 // A field of the map: what `read` answers where its bit stands, else what is absent.
-// Kept (7): the flag is a bit of the image that is read: whether the field is there, and so whether there is anything to read.
+// Kept (7): the other case is no step but the value that is absent, so that one closure is lent; a second one would only hand that value out.
 pub fn where_stands<T: Copy, F: FnOnce() -> Option<T>>(
     stands: bool,
     absent: T,
@@ -145,6 +145,7 @@ pub fn read_state(bytes: &[u8], at: usize) -> Option<(State, bool, bool)>
 }
 
 // The number that the state byte has for a state.
+// Kept (4): the enum's own number by `as`; a `From` would be this line, without the bound that its callers add up with.
 pub fn state_number(state: State) -> u8
     ensures { (result ≡ state_number (state_in state)) × (result ≤ 3) }
 {

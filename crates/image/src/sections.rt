@@ -61,7 +61,9 @@ pub fn read_ids(bytes: &[u8], at: usize, map: usize) -> Option<IdsAt>
 }
 
 // An identifier part by its bit.
-// Kept (7): whether the part stands is a bit of the image that is read; `where_stands` is given the step for one that does.
+// Kept (1): document 01's identifier has three texts, an absent one is empty, and so `DialogId` has three parts; the empty one stands where it would
+// begin, where the next is read.
+// Kept (7): the flag goes on to `where_stands`, which says why.
 // Kept (5): a reader by value, with the fact as its ghost field, would be made anew at each place, and clauses would say `r.bytes.now`;
 // one lent as `&mut` has a clause for what is read, one for its place and one for its bytes.
 fn read_part(bytes: &[u8], at: usize, stands: bool) -> Option<Span>

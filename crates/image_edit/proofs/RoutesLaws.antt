@@ -1,5 +1,5 @@
 -- The routes' section of a record, and that of a block's routes that were measured. Assumes nothing.
-use mathlib.Core.Path.{◌≡◌, refl, sym, ap, ◌∙◌}
+use mathlib.Core.Path.{◌≡◌, refl, sym, ◌∙◌}
 use mathlib.Core.Bool.{true, false}
 use mathlib.Core.List.{List, [], ◌∷◌, map}
 use Prim.Native.Nat.{ℕ, ◌*◌, ◌≤◌}
@@ -18,8 +18,8 @@ use Rattle.dialog_rules.proofs.RouteLaws.{RouteWithin, block_routes}
 use Rattle.image.specs.Places.{texts_size, routes_size}
 use Rattle.route_section.specs.Measured.{Measured, given_by}
 use Rattle.route_section.specs.Section.{section_of, route_texts, section_in, section_from}
-use Rattle.route_section.specs.declared.PeerRoutes.{PeerRoutes}
-use Rattle.route_section.proofs.SectionLaws.{texts_count, section_size}
+use Rattle.route_section.specs.declared.peer.PeerRoutes.{PeerRoutes}
+use Rattle.route_section.proofs.SectionLaws.{texts_count, section_size, section_in_size}
 
 -- ---- the routes' section by its texts
 
@@ -53,7 +53,7 @@ pub record PeerRead (p : PeerRoutes) : Type 0 where
   pub small : p.size ≤ 500000
 
 pub measured : (p : PeerRoutes) → Measured p → PeerRead p
-measured p m = by (given_by p) refl m.1
+measured p m = by (given_by p) refl m
   where
     by : (o : Result (List Piece) Refusal) → given_by p ≡ o → section_from o ≡ Ok (p.count, p.size) → PeerRead p
     by (Err cause) q h = absurd (let z : ◌≡◌ {A = ℕ} 0 1 = cc in omega arith)
@@ -66,8 +66,8 @@ measured p m = by (given_by p) refl m.1
           is = q;
           count_is = sym n.0 ∙ sym (texts_count true ps);
           size_is = size;
-          small = omega (arith, size, section_size true ps, filled_small (length p.block.now) ps m.0 w.1 w.0);
+          small = omega (arith, size, section_size true ps, filled_small (length p.block.now) ps p.short w.1 w.0);
         }
 
-pub measured_size : (p : PeerRoutes) → Measured p → p.size ≡ length (section_in true (given_by p))
-measured_size p m = (measured p m).size_is ∙ ap (λ (o : Result (List Piece) Refusal). length (section_in true o)) (sym (measured p m).is)
+pub measured_size : (p : PeerRoutes) → p.size ≡ length (section_in true (given_by p))
+measured_size p = p.sized ∙ sym (section_in_size true (given_by p))

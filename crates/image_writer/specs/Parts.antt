@@ -2,10 +2,10 @@
 -- numbers, and the routes as a section that is encoded already (no bytes where there are no routes). That these are the bytes of `image`
 -- (record/specs/Record.antt) is the law `image_parts`. The front of an image is all before the routes: the law `image_front`.
 use Rattle.limits.specs.declared.Refusal.{Refusal}
-use Rattle.std.specs.Prelude.{ℕ, ◌+◌, ◌*◌, ◌<◌, Bool, List, ◌∷◌, [], ◌++◌, length, ltb, Ok, Result}
+use Rattle.std.specs.Prelude.{ℕ, ◌+◌, ◌*◌, Bool, List, ◌∷◌, [], ◌++◌, length, ltb, Ok, Result}
 use Rattle.limits.specs.Outcome.{cause_if, refuse_by}
 use Rattle.limits.specs.declared.Refusal.TheVariants.{NoRoom}
-use Rattle.codec.specs.Codec.{Pair, two, text}
+use Rattle.codec.specs.Codec.{two, text}
 use Rattle.dialog_id.specs.declared.IdTexts.{IdTexts}
 use Rattle.image_writer.specs.declared.front.Front.{Front as CodeFront}
 use Rattle.image_writer.specs.declared.front.UriTexts.{UriTexts}
@@ -19,10 +19,6 @@ ids_given t = record { first = t.call_id.now; second = record { first = t.local_
 
 abbrev pub uris_given : UriTexts → Uris
 uris_given t = record { first = t.target.now; second = record { first = t.local_uri.now; second = t.remote_uri.now } }
-
--- three texts whose lengths fit their two length bytes
-abbrev pub Short : Pair (List ℕ) (Pair (List ℕ) (List ℕ)) → Type 0
-Short t = (length t.first < 65536) × (length t.second.first < 65536) × (length t.second.second < 65536)
 
 -- ---- the parts
 

@@ -7,6 +7,7 @@ ghost use Rattle.record.specs.Record.{is_filled, is_given, id_text, number, opti
 use codec::{write_four, write_text};
 
 // An identifier part: nothing where it is empty.
+// Kept (1): an image leaves out a part that is empty (docs/LAYOUTS.md), and a tag that was read may be empty: an `Option` would be made of the same test.
 // Kept (5): a writer of `&mut [u8]` and place would need a clause that names the writer's reference in each function that is lent it,
 // beside those about bytes and place: three where two stand.
 pub fn write_id(out: &mut [u8], at: usize, t: &[u8]) -> usize

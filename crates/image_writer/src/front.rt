@@ -1,5 +1,6 @@
 // The parts of an image before its routes, as the writer is given them.
 ghost use Rattle.std.specs.Prelude.{◌<◌, length};
+ghost use Rattle.dialog_id.specs.IdTexts.{ident_of, TextsShort};
 
 use dialog_id::IdTexts;
 use record::Numbers;
@@ -21,5 +22,5 @@ pub struct Front<'a> {
     pub secure: bool,
     pub id: IdTexts<'a>,
     pub uris: UriTexts<'a>,
-    pub ghost id_short: { (length id.call_id.now < 65536) × (length id.local_tag.now < 65536) × (length id.remote_tag.now < 65536) },
+    pub ghost id_short: { TextsShort (ident_of id) },
 }

@@ -90,18 +90,21 @@ pub fn state_byte(x: Numbers, we_are_uac: bool, secure: bool) -> u8
 }
 
 // 1 where the text is not empty, the number is not 0, the value is present.
+// Kept (2): each has the definition's test of its own type in its clause; with one function over a bool each caller would have to show that its test is that.
 fn text_bit(t: &[u8]) -> usize
     ensures { (result ≡ bit_of (is_filled t.now)) × (result ≤ 1) }
 {
     usize::from(!t.is_empty())
 }
 
+// Kept (2): as `text_bit`.
 fn number_bit(n: u32) -> usize
     ensures { (result ≡ bit_of (ltb 0 n)) × (result ≤ 1) }
 {
     usize::from(n != 0)
 }
 
+// Kept (2): as `text_bit`.
 fn optional_bit<T: Copy>(o: Option<T>) -> usize
     ensures { (result ≡ bit_of (is_given o)) × (result ≤ 1) }
 {
@@ -126,9 +129,9 @@ pub fn write_ids(out: &mut [u8], at: usize, front: Front<'_>) -> usize
 
 // Kept (5): a writer of `&mut [u8]` and place would need a clause that names the writer's reference in each function that is lent it,
 // beside those about bytes and place: three where two stand.
-// Kept (2): store_ids' `write_id` writes its three texts so, and rseq_manager those of an entry; one function of them would be lent three slices,
-// with a clause for each one's length.
-// Kept (4): three texts are written, each by codec's `write_text`; nothing is converted.
+// Kept (2): store_ids' `write_id` and rseq_manager's `write_entry` have three such lines, of an identifier's texts: one function of them would be lent three
+// slices, with a clause for each one's length.
+// Kept (4): three fields written in turn: no derive and no trait of std's writes a value's bytes into lent ones.
 pub fn write_uris(out: &mut [u8], at: usize, uris: UriTexts<'_>) -> usize
     requires { at + length (uris_bytes (uris_given uris)) ≤ length out.old }
     ensures value { result ≡ at + length (uris_bytes (uris_given uris.entry)) }

@@ -4,6 +4,9 @@
 ghost use Rattle.std.specs.Prelude.{◌≡◌};
 ghost use Rattle.limits.specs.Refusal.{number_of};
 
+// The nanoseconds of a second: clock times are counted in them, the limits of time in seconds.
+pub const NANOS_PER_SECOND: u64 = 1000000000;
+
 // Holds no state: a name for the constants.
 #[derive(Clone, Copy)]
 pub struct Limits {}

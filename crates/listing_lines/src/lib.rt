@@ -12,7 +12,7 @@ use edit::put;
 use record::{Numbers, State};
 
 // The line of a record at a position, over the front of out. Its length.
-// Kept (5): any lent bytes that have room will do; `&mut [u8; 192]` would ask more of callers, and the fact is said of nothing else.
+// Kept (5): any lent bytes that have room will do; `&mut [u8; 192]` would ask more of callers.
 pub fn write_line(
     out: &mut [u8],
     position: usize,
@@ -34,7 +34,7 @@ pub fn write_line(
 }
 
 // A word and a number, over the front of out. The line's length.
-// Kept (5): any lent bytes that have room will do; `&mut [u8; 192]` would ask more of callers, and the fact is said of nothing else.
+// Kept (5): any lent bytes that have room will do; `&mut [u8; 192]` would ask more of callers.
 pub fn write_words(out: &mut [u8], word: &[u8], n: u64) -> usize
     requires { (length word.now ≤ 16) × (192 ≤ length out.old) }
     ensures value { result ≡ length (line_of (word.now ∷ decimal_of n ∷ [])) }
@@ -94,7 +94,7 @@ fn write_interval(out: &mut [u8], at: usize, seconds: Option<u32>, routes: usize
 // E, C, T.
 // Kept (5): a writer of bytes and place needs a clause about its reference in each function that is lent it,
 // beside those about bytes and place: three where two stand.
-// Kept (4, 7): a `Display` of `State` would be this match, for the listing alone; the state picks a letter of the line, and no step.
+// Kept (4, 7): of `write!` into lent bytes no clause says what they get, as for `write_number`; the state picks a letter of the line, and no step.
 fn write_state(out: &mut [u8], at: usize, state: State) -> usize
     requires { at + 2 ≤ length out.old }
     ensures value { (result ≡ at + length (state_letter (state_in state) ++ (32 ∷ []))) × (result ≤ at + 2) }

@@ -41,7 +41,7 @@ pub fn list_store(bytes: &[u8], out: &mut [u8]) -> Result<usize, Refusal>
 }
 
 // What is printed of a refused store, over the front of out: `refused` and the number. Its length.
-// Kept (5): any lent bytes that have room will do; `&mut [u8; 192]` would ask more of callers, and the fact is said of nothing else.
+// Kept (5): any lent bytes that have room will do; `&mut [u8; 192]` would ask more of callers.
 pub fn write_refused(out: &mut [u8], cause: Refusal) -> usize
     requires { 192 ≤ length out.old }
     ensures value { result ≡ length (refused_line cause) }

@@ -16,6 +16,20 @@ mod lines;
 mod status;
 mod table;
 
+// A request: its method and its header block.
+#[derive(Clone, Copy)]
+pub struct Request<'a> {
+    pub method: &'a [u8],
+    pub block: &'a [u8],
+}
+
+// A response: its status code and its header block.
+#[derive(Clone, Copy)]
+pub struct Response<'a> {
+    pub status: u16,
+    pub block: &'a [u8],
+}
+
 pub use lines::Values;
 pub use status::{
     is_client_error, is_error, is_global_failure, is_informational, is_redirection,
@@ -59,6 +73,8 @@ pub fn next_header(block: &[u8], name: &[u8], from: usize) -> Result<Option<(Spa
 
 // The value of the first line of a name as a part of the block; the empty part at its front where there is no such line. The first promise is
 // where the part starts, the second its bytes, and so its length.
+// Kept (1): its three callers read a number, a word or a RAck, which an absent value and an empty one are none of alike: an `Option` would be
+// opened at each of them for the same answer. `find` tells the two apart.
 // Kept (5): `Values` holds both for a walk over all lines; a single look-up is asked once.
 pub fn header_value<'a>(block: &'a [u8], name: &[u8]) -> &'a [u8]
     ensures ref_ptr_value { result.ref_ptr ≡ pointer_at block.entry.ref_ptr (part_place (value_named name.now block.now)) }
@@ -156,7 +172,6 @@ struct NameByte {}
 impl ByteClass for NameByte {
     ghost test = { λ _ b. is_name b };
 
-    // Kept (5): the parameters are the trait's.
     fn has(&self, b: u8) -> bool {
         is_name(b)
     }

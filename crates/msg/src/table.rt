@@ -14,8 +14,7 @@ use text::Span;
 const NAMES: usize = 8;
 
 // The first line of each name.
-// Kept (5): a line is a value that definitions give (`found_of`, `table_of`); with its text in it, which is lent, it is none, and the table of the
-// definitions would be a second type beside `HeaderTable`.
+// Kept (5): a line that was looked up is its place and the next line's; with its text in it each table would carry the block's lifetime.
 #[derive(Clone, Copy)]
 pub struct HeaderTable {
     pub call_id: Option<(Span, usize)>,
@@ -29,6 +28,8 @@ pub struct HeaderTable {
 }
 
 // The names, in the order of the table.
+// Kept (6): a constant, while the lines are a block's: pairs of a name and its line would be made from it anew for each block, and a line would
+// go into its field by an index all the same.
 const ASKED: [&[u8]; NAMES] = [
     b"Call-ID",
     b"From",

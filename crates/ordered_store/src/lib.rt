@@ -13,8 +13,9 @@ mod walking;
 pub use search::{Entry, KeyedBy, count_entries, find};
 
 // By their bytes; a proper prefix comes first.
-// Kept (3, 4, 5): the two texts are the two sides of the order. With `zip` here and `read_two` in record_walk, which is 5 of it, a request at 1,000 records took
-// 3,721 instructions a record, with this loop 3,578; issue 19 gives 3,600. std's `cmp` takes 40 where the first bytes differ, this loop 25 (PERFORMANCE).
+// Kept (3, 4, 5): the two texts are the two sides of the order. With `zip` here and `from_be_bytes` in record_walk a request at 1,000 records took 3,721
+// instructions a record, with the latter alone 3,637, with neither 3,578; issue 19 gives 3,600. std's `cmp` takes 40 where the first bytes differ, this loop 25
+// (PERFORMANCE).
 pub fn compare(a: &[u8], b: &[u8]) -> Ordering
     ensures { result ≡ order a.now b.now }
 {

@@ -1,4 +1,4 @@
-// Texts as the results of calls with lent bytes.
+// Texts and pieces written into lent bytes, 18 where they have no room.
 #![tactic(auto)]
 
 ghost use Rattle.std.specs.Prelude.{◌≡◌, ◌+◌, ◌≤◌, length, take};

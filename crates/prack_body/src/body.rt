@@ -9,8 +9,7 @@ use codec::write_eight;
 use edit::put;
 
 // The body of what is held, taken from where it lies. Its length.
-// Kept (5, 6): the bytes are `&mut`: a struct of them and the length that is answered isn't Copy, so that it would be made anew for each
-// further call, and clauses would say `result.bytes.now` for `body.new`.
+// Kept (5, 6): any lent bytes that have room will do; a struct that owns an array of that size, and its length, would ask more of callers.
 pub fn load(bytes: &[u8], held: TrackedAt, body: &mut [u8]) -> usize
     requires { (held.id.start + held.id.length ≤ held.end) × (held.end ≤ length bytes.now) × (held.end - (held.id.start + held.id.length) ≤ length body.old) }
     ensures value { result ≡ held.end - (held.id.start + held.id.length) }
@@ -23,8 +22,7 @@ pub fn load(bytes: &[u8], held: TrackedAt, body: &mut [u8]) -> usize
 }
 
 // The body for an identifier of which nothing was held: a time without a list. Its length.
-// Kept (5, 6): the bytes are `&mut`: a struct of them and the length that is answered isn't Copy, so that it would be made anew for each
-// further call, and clauses would say `result.bytes.now` for `body.new`.
+// Kept (5, 6): any lent bytes that have room will do; a struct that owns an array of that size, and its length, would ask more of callers.
 pub fn begin(body: &mut [u8], time: u64) -> usize
     requires { 9 ≤ length body.old }
     ensures { (id : List ℕ) → length id < 65536 → Holds body.new result (cleaned rust_limits time id None) }

@@ -11,13 +11,12 @@ ghost use Rattle.prack_cleaning.specs.KeptList.{kept_list};
 
 use codec::{read_eight, write_eight};
 use edit::shift;
-use limits::Limits;
+use limits::{Limits, NANOS_PER_SECOND};
 use prack_body::{COUNT_AT, ENTRIES_AT, ENTRY_SIZE};
-use prack_staying::{NANOS_PER_SECOND, Other, Staying, Young, elapsed};
+use prack_staying::{Other, Staying, Young, elapsed};
 
 // The cleanup of a call at a time, where it is due: the time stored, and the entries that stay. The new length.
-// Kept (5, 6): the bytes are `&mut`: a struct of them and `n` isn't Copy, so that it would be made anew for each further call, and clauses
-// would say `b.exit.bytes.now` for `body.new`.
+// Kept (5, 6): any lent bytes that have room will do; a struct that owns an array of that size, and its length, would ask more of callers.
 pub fn clean(body: &mut [u8], n: usize, time: u64) -> usize
     requires { (9 ≤ n) × ((n ≤ body_room) × (body_room ≤ length body.old)) }
     ensures { (t : Tracked) → Holds body.old n t → Holds body.new result (cleaned rust_limits time t.id (Some t)) }
@@ -31,8 +30,7 @@ pub fn clean(body: &mut [u8], n: usize, time: u64) -> usize
 }
 
 // All but the acknowledged entries of an RSeq. The new length.
-// Kept (5, 6): the bytes are `&mut`: a struct of them and `n` isn't Copy, so that it would be made anew for each further call, and clauses
-// would say `b.exit.bytes.now` for `body.new`.
+// Kept (5, 6): any lent bytes that have room will do; a struct that owns an array of that size, and its length, would ask more of callers.
 pub fn prune(body: &mut [u8], n: usize, rseq: u32) -> usize
     requires { (9 ≤ n) × ((n ≤ body_room) × (body_room ≤ length body.old)) }
     ensures { (t : Tracked) → Holds body.old n t → Holds body.new result (with_list (without_pracked rseq t.list) t) }
@@ -41,8 +39,7 @@ pub fn prune(body: &mut [u8], n: usize, rseq: u32) -> usize
 }
 
 // The entries that stay. The new length.
-// Kept (5, 6): the bytes are `&mut`: a struct of them and `n` isn't Copy, so that it would be made anew for each further call, and clauses
-// would say `b.exit.bytes.now` for `body.new`.
+// Kept (5, 6): any lent bytes that have room will do; a struct that owns an array of that size, and its length, would ask more of callers.
 fn keep_list<S: Staying>(body: &mut [u8], n: usize, which: S) -> usize
     requires { (9 ≤ n) × ((n ≤ body_room) × (body_room ≤ length body.old)) }
     ensures { (t : Tracked) → Holds body.old n t → Holds body.new result (with_list (kept_list (S.test which) t.list) t) }
@@ -56,6 +53,7 @@ fn keep_list<S: Staying>(body: &mut [u8], n: usize, which: S) -> usize
 }
 
 // The entries that stay, moved together behind the count byte. How many.
+// Kept (6): the entries begin behind the count byte, where those that stay go; cut out of the body they would be bytes of another place than the clause has.
 fn keep<S: Staying>(body: &mut [u8], count: usize, which: S) -> usize
     requires { (count ≤ rust_limits.pending) × (10 + count * 20 ≤ length body.old) }
     ensures upper_bound { result ≤ count }

@@ -15,8 +15,7 @@ use limits::Refusal;
 use prack_body::TrackedAt;
 
 // What is held after the cleanup of a call at a time, without the text, in lent bytes. Its length.
-// Kept (5, 6): the bytes are `&mut`: a struct of them and the length that is answered isn't Copy, so that it would be made anew for each
-// further call, and clauses would say `result.bytes.now` for `body.new`.
+// Kept (5, 6): any lent bytes that have room will do; a struct that owns an array of that size, and its length, would ask more of callers.
 pub fn clean_copy(slot: Result<TrackedAt, usize>, bytes: &[u8], time: u64, body: &mut [u8]) -> usize
     requires { (body_room ≤ length body.old) × ((id : List ℕ) × Sought id bytes.now (length bytes.now) slot) }
     ensures lower_bound { (9 ≤ result) × (result ≤ body_room) }
@@ -56,8 +55,8 @@ pub fn set(
 
 // A text with its length bytes and what is held for it, put in at a place of the used bytes: 18. The new used length.
 // Kept (5): a type of a short text would be put around `id` by each caller and taken off before codec's `write_text`, which takes bytes.
-// Kept (2, 5, 6): the bytes past the used ones are room for the entry; `rseq_manager` tests and moves them so too, two steps: a function of
-// both would need clauses for used bytes with a gap in them.
+// Kept (2, 5, 6): the bytes past the used ones are room for the entry. `rseq_manager` has the test and the move too: one function of the two would answer by
+// `fitted` of bytes that aren't there yet, for two lines in two callers.
 fn insert(
     id: &[u8],
     body: &[u8],

@@ -10,6 +10,7 @@ ghost use Rattle.methods.specs.Methods.{method_from};
 ghost use Rattle.prack_headers.specs.Sequence.{rseq_number, cseq_number, cseq_method, extract_rseq, extract_cseq_number, extract_cseq_method, reliable_provisional, number_answer, method_answer, reliable_answer};
 
 use limits::Refusal;
+use msg::Response;
 use text::Span;
 
 // The number of a block's RSeq: 1, 2, 4.
@@ -48,15 +49,14 @@ pub fn extract_cseq_method(block: &[u8]) -> Result<u8, Refusal>
 }
 
 // Whether a response is to be acknowledged by PRACK: 101 to 199, with an RSeq line: 1, 2.
-// Kept (5): a C caller gives a response by its status and its block.
-pub fn is_reliable_provisional(status: u16, block: &[u8]) -> Result<bool, Refusal>
-    ensures { result ≡ reliable_answer (reliable_provisional rust_limits status block.now) }
+pub fn is_reliable_provisional(response: Response<'_>) -> Result<bool, Refusal>
+    ensures { result ≡ reliable_answer (reliable_provisional rust_limits response.entry.status response.entry.block.now) }
 {
-    msg::check_block(block)?;
-    if status <= 100 || 200 <= status {
+    msg::check_block(response.block)?;
+    if response.status <= 100 || 200 <= response.status {
         return Ok(false);
     }
-    Ok(msg::find(block, b"RSeq").is_some())
+    Ok(msg::find(response.block, b"RSeq").is_some())
 }
 
 // The value of RSeq as a number.

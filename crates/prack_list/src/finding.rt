@@ -20,6 +20,7 @@ pub struct PendingAt {
 }
 
 // The first entry of an RSeq: 20 where no list stands, 21 where none is of the RSeq.
+// Kept (4): tried by `position` over `chunks_exact`: the closure's bound closes, but not that a call of it that answers false has read another number.
 pub fn first_of(body: &[u8], rseq: u32) -> Result<PendingAt, Refusal>
     ensures { (t : Tracked) → Holds body.now (length body.now) t → result ≡ position_in rseq t.list }
 {

@@ -30,8 +30,7 @@ pub struct Provisional {
 }
 
 // One response more: a list of one where none stood, without the first entry where ten are held. The new length.
-// Kept (5, 6): the bytes are `&mut`: a struct of them and `n` isn't Copy, so that it would be made anew for each further call, and clauses
-// would say `b.exit.bytes.now` for `body.new`.
+// Kept (5, 6): any lent bytes that have room will do; a struct that owns an array of that size, and its length, would ask more of callers.
 pub fn push(body: &mut [u8], n: usize, response: Provisional) -> usize
     requires { (is_method response.method ≡ true) × ((n ≤ body_room) × (body_room ≤ length body.old)) }
     ensures { (t : Tracked) → Holds body.old n t → Holds body.new result (registered rust_limits (pending_in response) t) }
@@ -44,8 +43,7 @@ pub fn push(body: &mut [u8], n: usize, response: Provisional) -> usize
 }
 
 // Room for one entry more behind the others: where ten are held, the first goes. How many are left.
-// Kept (5, 6): the bytes are `&mut`: a struct of them and `n` isn't Copy, so that it would be made anew for each further call, and clauses
-// would say `b.exit.bytes.now` for `body.new`.
+// Kept (5, 6): any lent bytes that have room will do; a struct that owns an array of that size, and its length, would ask more of callers.
 fn make_room(body: &mut [u8], n: usize) -> usize
     requires { (n ≤ body_room) × (body_room ≤ length body.old) }
     ensures upper_bound { result ≤ 9 }

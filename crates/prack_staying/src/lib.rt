@@ -7,11 +7,8 @@ ghost use Rattle.prack_body.specs.Lists.{Pending, stays, is_other};
 ghost use Rattle.prack_body.specs.Layout.{pending_form, PendingFormed};
 
 use codec::{read_eight, read_four};
-use limits::Limits;
+use limits::{Limits, NANOS_PER_SECOND};
 use prack_body::{ACKNOWLEDGED_AT, REGISTERED_AT};
-
-// The nanoseconds of a second.
-pub const NANOS_PER_SECOND: u64 = 1000000000;
 
 // A test of entries.
 pub trait Staying: Copy {

@@ -22,7 +22,7 @@ pub struct RAck {
 
 // RAck::parse: 1, 2, 19.
 // Kept (1): document 01 opens the reading of a RAck by `let .. else`.
-// Kept (2): two readings that document 01 opens by `let .. else`, each with its check, type and refusal; a generic one would be lent all three.
+// Kept (2): `uri::sip_uri` is this with another check, reading and refusal; a function over both would be lent the three.
 pub fn parse_rack(value: &[u8]) -> Result<RAck, Refusal>
     ensures { result ≡ rack_answer (parse_rack rust_limits value.now) }
 {

@@ -20,8 +20,8 @@ pub struct IdEnds {
 }
 
 // The place past the record at a place.
-// Kept (5): the places are those of a walk or a table; a struct of bytes and place with `At` as its ghost field (as `Held` has `fit`)
-// would be made and proved anew at each of them.
+// Kept (5): the tables of `distinct` hold bare places, and `close_up` writes the bytes that a struct of bytes and place with `At` as its ghost field
+// would borrow.
 pub fn record_end(bytes: &[u8], p: usize) -> usize
     requires { At bytes.now p }
     ensures { result ≡ end_at bytes.now p }
@@ -40,8 +40,8 @@ pub fn record_end(bytes: &[u8], p: usize) -> usize
 }
 
 // The place past the identifier of the record at a place.
-// Kept (5): the places are those of a walk or a table; a struct of bytes and place with `At` as its ghost field (as `Held` has `fit`)
-// would be made and proved anew at each of them.
+// Kept (5): the tables of `distinct` hold bare places, and `close_up` writes the bytes that a struct of bytes and place with `At` as its ghost field
+// would borrow.
 pub fn ids_end(bytes: &[u8], p: usize) -> usize
     requires { At bytes.now p }
     ensures { (result ≡ ids_end bytes.now p) × (result ≤ length bytes.now) }
@@ -50,8 +50,8 @@ pub fn ids_end(bytes: &[u8], p: usize) -> usize
 }
 
 // Where the texts of the identifier of the record at a place end. A text that doesn't stand ends where it would begin.
-// Kept (5): the places are those of a walk or a table; a struct of bytes and place with `At` as its ghost field (as `Held` has `fit`)
-// would be made and proved anew at each of them.
+// Kept (5): the tables of `distinct` hold bare places, and `close_up` writes the bytes that a struct of bytes and place with `At` as its ghost field
+// would borrow.
 pub fn id_ends(bytes: &[u8], p: usize) -> IdEnds
     requires { At bytes.now p }
     ensures ends { EndsRead bytes.now p result }
@@ -69,7 +69,9 @@ pub fn id_ends(bytes: &[u8], p: usize) -> IdEnds
 }
 
 // The place past a text that may stand or not.
-// Kept (5, 7): a place is a number that the code adds up; whether the text stands is a bit of the map in these bytes.
+// Kept (5): a place is a number that the code adds up, and each reading goes on at the one before's end.
+// Kept (7): there is no step to hand over: the other case is the place itself. A closure would be `|| past(bytes, at)` at each of three calls,
+// with a clause for when it may be called.
 pub fn past_if(bytes: &[u8], at: usize, stands: bool) -> usize
     requires { past_text bytes.now at stands ≤ length bytes.now }
     ensures { result ≡ past_text bytes.now at stands }
@@ -87,8 +89,8 @@ pub fn past(bytes: &[u8], at: usize) -> usize
 }
 
 // The number in two bytes.
-// Kept (4, 5): a place is a number that the code adds up, and each reading goes on at the one before's end. By `u16::from_be_bytes` a request at
-// 1,000 records takes 3,637 instructions a record, by these products 3,578; issue 19 gives 3,600. By `codec::read_two` it is 5 more (PERFORMANCE).
+// Kept (4, 5): a place is a number that the code adds up, and each reading goes on at the one before's end. By `u16::from_be_bytes`, which
+// `codec::read_two` is, a request at 1,000 records takes 3,637 instructions a record, by these products 3,578; issue 19 gives 3,600 (PERFORMANCE).
 pub fn two(bytes: &[u8], at: usize) -> usize
     requires { at + 1 < length bytes.now }
     ensures { (result ≡ two_at bytes.now at) × (result < 65536) }
@@ -98,7 +100,7 @@ pub fn two(bytes: &[u8], at: usize) -> usize
 
 // The place past so many texts.
 // Kept (5): a place is a number that the code adds up, and each reading goes on at the one before's end.
-fn texts_end(bytes: &[u8], at: usize, count: usize) -> usize
+pub fn texts_end(bytes: &[u8], at: usize, count: usize) -> usize
     requires { texts_end count bytes.now at ≤ length bytes.now }
     ensures { result ≡ texts_end count bytes.now at }
 {

@@ -16,7 +16,7 @@ pub struct Records<'a> {
 
 impl<'a> Records<'a> {
     // All of them.
-    // Kept (5): the one place where the fact is asked for; the walk has it from then on as its ghost field `whole`.
+    // Kept (5): asked where a walk begins; from then on it is its ghost field `whole`.
     pub fn new(bytes: &'a [u8]) -> Records<'a>
         requires { is_given (records_in (length bytes.now) bytes.now) ≡ true }
         ensures bytes { result.bytes.now ≡ bytes.now }

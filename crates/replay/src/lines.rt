@@ -1,6 +1,6 @@
 // What one line of the list asks for: the memory of a store is set, or a call is made and its answer compared.
 use crate::calls::call;
-use replay_answers::{Call, Memory, as_recorded, fill_outs, lent_length};
+use replay_answers::{Call, Line, Memory};
 use replay_lines::{Item, Items, copy_at, part, place_of, read_items, row_of, shape_fits};
 
 // The call that the line asks for, if it asks for one; none where it can't be read. The list has the rows at its head; `old` and `bytes` are room to work in.
@@ -30,31 +30,34 @@ pub fn one_line<const N: usize>(
     if !shape_fits(row.shape, items) {
         return None;
     }
-    let same = replay_call(number, row.shape, items, memory, old)?;
+    let asked = Line {
+        shape: row.shape,
+        items,
+        equals: place_of(row.shape, b'=')?,
+    };
+    let same = replay_call(number, asked, memory, old)?;
     Some(Some(Call { row: number, same }))
 }
 
 // Makes the call: whether all that it answers is as recorded.
 fn replay_call<const N: usize>(
     row: usize,
-    shape: &[u8],
-    items: Items<'_>,
+    line: Line<'_, '_>,
     memory: &mut Memory<N>,
     old: &mut [u8],
 ) -> Option<bool> {
-    let equals = place_of(shape, b'=')?;
     let mut o = [0u64; 8];
-    fill_outs(shape, equals, items, &mut o);
+    line.fill_outs(&mut o);
     // Kept (6): README's rule: no heap. So a call is lent a part of an array, as long as the line says.
     let mut room = [0u8; 65536];
-    let out = room.get_mut(..lent_length(shape, items, b'o'))?;
-    if let Some(k) = place_of(shape, b'o') {
-        copy_at(items.text(k), out, 0);
+    let out = room.get_mut(..line.lent_length(b'o'))?;
+    if let Some(k) = place_of(line.shape, b'o') {
+        copy_at(line.items.text(k), out, 0);
     }
     copy_at(memory.bytes(), old, 0);
-    let store = memory.lend(lent_length(shape, items, b's'))?;
-    let r = call(row, items, store, out, &mut o);
+    let store = memory.lend(line.lent_length(b's'))?;
+    let r = call(row, line.items, store, out, &mut o);
     let store = memory.bytes();
     let old = part(old, 0, store.len());
-    Some(as_recorded(shape, equals, items, r, &o, out, store, old))
+    Some(line.as_recorded(r, &o, out, store, old))
 }

@@ -1,5 +1,6 @@
 // Replays recorded answers of the Rust (`oracle/run record`, oracle/README.md): calls the C function of each line of the list on its standard input and compares all
 // that it answers with what the line has. Prints a line for each operation, and a last one.
+// Kept (1, 5): a call goes by its row's number, under which it is counted, with the line's items: a struct of the two would be taken apart in each family.
 #![tactic(auto)]
 
 mod calls;

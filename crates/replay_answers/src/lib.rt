@@ -1,13 +1,12 @@
 // What the program `replay` makes of a line but for the call: the memory, what is lent, the comparison of the answer, and the counts.
 // Kept (1): a row goes by its number, its place in the counts, and a kind of item by the letter that a shape has for it.
-// Kept (5): a row's shape and a line's items: a struct of the two would be taken apart again in each function, which looks in both.
 #![tactic(auto)]
 
 mod answers;
 mod memory;
 mod tallies;
 
-pub use answers::{as_recorded, fill_outs, lent_length};
+pub use answers::Line;
 pub use memory::Memory;
 pub use tallies::{Tallies, report, take};
 

@@ -17,6 +17,7 @@ pub fn copy_at(s: &[u8], out: &mut [u8], at: usize) {
 }
 
 // Writes the last digits of n in decimal over the places from `at` to before `end`.
+// Kept (4): std's `write!` and `io::decimal` write a number's own digits, no zeros before them and none left out.
 pub fn write_digits(n: u64, out: &mut [u8], at: usize, end: usize) {
     let mut left = n;
     // Kept (3): places outside are passed over one by one while the digits go on; a slice would be none where one is outside.
@@ -28,6 +29,7 @@ pub fn write_digits(n: u64, out: &mut [u8], at: usize, end: usize) {
     }
 }
 
+// Kept (2): `low16` and `low32` too: no cast to a type parameter; each has its own modulus in its clause.
 pub fn low8(n: u64) -> u8
     ensures { result ≡ n % 256 }
 {

@@ -1,4 +1,5 @@
 // How the recorded list is read: parts of texts, the items of a line, and the rows at the list's head. Nothing here knows an operation.
+// Kept (5): a line and the bytes that its items go into: those are `&mut`, so that a struct of both isn't Copy and would be made anew for each reading.
 // Kept (1): a kind of item goes by the letter that the list's rows have for it, and a row by its place among them: both are read, not chosen.
 #![tactic(auto)]
 

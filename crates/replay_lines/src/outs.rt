@@ -17,6 +17,7 @@ pub trait Number: Copy {
         ensures { result ≡ value self };
 }
 
+// Kept (2): the five differ in their type: there is no cast to a type parameter, nor from one.
 impl Number for u8 {
     ghost value = { λ n. n };
 
@@ -78,7 +79,8 @@ impl Number for usize {
 }
 
 // A call that is lent one number.
-// Kept (2): `one` to `seven` differ in how many numbers are lent, each of its own type: no type parameter stands for so many types.
+// Kept (2): `one` to `seven` differ in how many numbers are lent, each of its own type, but for the six places and lengths of `six`.
+// No type parameter stands for so many types.
 pub fn one<A: Number, F: FnOnce(&mut A) -> u8>(o: &mut [u64; 8], call: F) -> u8
     requires { F.IsAlwaysCallable call }
     ensures rest { drop 1 o.new ≡ drop 1 o.old }

@@ -28,11 +28,11 @@ pub fn row_at(head: &[u8], number: usize) -> Option<Row<'_>>
     read_row(nth_part(head, b'\n', number)?)
 }
 
-// The part behind so many bytes `between`.
-fn nth_part(s: &[u8], between: u8, k: usize) -> Option<&[u8]>
-    ensures { option_map (λ p. p.now) result ≡ slice_get (slice_split (λ b. b == between) s.now) k }
+// Of the parts that a byte separates, the one of index k.
+fn nth_part(s: &[u8], separator: u8, k: usize) -> Option<&[u8]>
+    ensures { option_map (λ p. p.now) result ≡ slice_get (slice_split (λ b. b == separator) s.now) k }
 {
-    s.split(|b| *b == between).nth(k)
+    s.split(|b| *b == separator).nth(k)
 }
 
 // The row of a name, and its number.

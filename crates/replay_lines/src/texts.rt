@@ -84,7 +84,8 @@ fn letter(line: &[u8]) -> Option<(u8, &[u8])>
 }
 
 // What a hexadecimal digit is worth.
-// Kept (4): `to_digit(16)` takes capital letters too, which the list has not.
+// Kept (4): `to_digit(16)` reads capital letters too.
+// A list with one is refused today, and would then be read.
 fn digit(b: u8) -> Option<u8>
     ensures { IfSome result (λ n. n < 16) }
 {

@@ -88,6 +88,10 @@ pub section_size : (reversed : Bool) (ps : List Piece) → length (section_of (r
 section_size reversed [] = ap length (section_none reversed [] refl)
 section_size reversed (p ∷ ps) = ap length (section_filled reversed (p ∷ ps) (omega arith)) ∙ ap suc (order_long reversed (p ∷ ps)) ∙ sym (ap length (section_filled false (p ∷ ps) (omega arith)))
 
+pub section_in_size : (reversed : Bool) (o : Result (List Piece) Refusal) → length (section_in reversed o) ≡ length (section_in false o)
+section_in_size reversed (Err cause) = refl
+section_in_size reversed (Ok ps) = section_size reversed ps
+
 -- what was measured is the size in either order
 pub measured_size : (reversed : Bool) (block : List ℕ) {count size : ℕ} → section_from (routes_of rust_limits block) ≡ Ok (count, size) → size ≡ length (section_in reversed (routes_of rust_limits block))
 measured_size reversed block {count} {size} e = by (routes_of rust_limits block) e

@@ -1,19 +1,19 @@
 -- A step of the code: the routes of a peer's block together with what was measured of them (document 01, "Routes").
-use Rattle.std.specs.Prelude.{ℕ, ◌≤◌, ◌≡◌, List, length, Err, Ok, Result}
+use Rattle.std.specs.Prelude.{ℕ, ◌≡◌, List, Err, Ok, Result}
 use Rattle.limits.specs.Limits.{rust_limits}
 use Rattle.limits.specs.declared.Refusal.{Refusal}
 use Rattle.text.specs.Text.{Piece}
 use Rattle.route_set.specs.Routes.{routes_of}
 use Rattle.route_section.specs.Section.{section_from}
-use Rattle.route_section.specs.declared.PeerRoutes.{PeerRoutes}
+use Rattle.route_section.specs.declared.peer.PeerRoutes.{PeerRoutes}
 
 -- the routes that the block's Record-Route lines give
 abbrev pub given_by : PeerRoutes → Result (List Piece) Refusal
 given_by p = routes_of rust_limits p.block.now
 
--- the block is no longer than a text may be, and count and size are those of its routes' section
+-- count and size are those of its routes' section
 abbrev pub Measured : PeerRoutes → Type 0
-Measured p = (length p.block.now ≤ 8192) × (section_from (given_by p) ≡ Ok (p.count, p.size))
+Measured p = section_from (given_by p) ≡ Ok (p.count, p.size)
 
 -- those of this block
 abbrev pub MeasuredIn : List ℕ → PeerRoutes → Type 0

@@ -45,6 +45,7 @@ pub fn fill_routes<O: Order>(out: &mut [u8], block: &[u8]) -> Result<(usize, usi
 
 // One text with its length bytes, if there is room for it.
 // Kept (5): the text of an element, which is no longer than its block; a type of a short text would be made for this call alone.
+// Kept (6): the texts held so far stand at either end, by the order, and where they have no room they are counted alone.
 fn put_text<O: Order>(out: &mut [u8], size: usize, t: &[u8])
     requires { (length t.now ≤ 8192) × (size ≤ 500000) }
     ensures { out.new ≡ text_put O.reversed size t.now out.old }

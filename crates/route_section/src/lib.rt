@@ -13,16 +13,10 @@ use limits::Refusal;
 
 mod filling;
 mod order;
+mod peer;
 
 pub use order::{AsReceived, Order, Reversed};
-
-// The block of a peer's Record-Route lines, and what `measure_routes` answers of it: how many routes it gives, and how many bytes their section has.
-#[derive(Clone, Copy)]
-pub struct PeerRoutes<'a> {
-    pub block: &'a [u8],
-    pub count: usize,
-    pub size: usize,
-}
+pub use peer::PeerRoutes;
 
 // How many routes the block gives, and how many bytes their section has, in either order.
 // Kept (5): the fact is one inequality; a struct with it as its ghost field would be made at each call and its bytes taken out at each reading.
@@ -46,7 +40,7 @@ fn section_size(count: usize, texts: usize) -> usize
 }
 
 // The section over lent bytes that are as long as it is, its routes in this order.
-// Kept (5): the fact is one inequality; a struct with it as its ghost field would be made at each call and its bytes taken out at each reading.
+// Kept (5): both callers hold a `PeerRoutes`, which has the fact; lent one, this would ask for more than the block, which is all that it reads.
 pub fn write_routes<O: Order>(out: &mut [u8], block: &[u8])
     requires { (length block.now ≤ 8192) × (length out.old ≡ length (section_in O.reversed (routes_of rust_limits block.now))) }
     ensures { out.new ≡ section_in O.reversed (routes_of rust_limits block.now) }

@@ -6,8 +6,8 @@ ghost use Rattle.route_section.specs.Filling.{place_for};
 pub trait Order {
     ghost reversed: { Bool };
 
-    // Kept (5): three numbers that `put_text` has, and that nothing else is said of; a struct of them would be made for this call.
     // Where a text of `k` bytes goes among `room` bytes, when `size` bytes of texts are held: after those, or, reversed, before them.
+    // Kept (5): three numbers that `put_text` has, and that nothing else is said of; a struct of them would be made for this call.
     fn place(room: usize, size: usize, k: usize) -> usize
         requires { 1 + size + k ≤ room }
         ensures { result ≡ place_for reversed room size k };

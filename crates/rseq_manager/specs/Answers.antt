@@ -1,7 +1,6 @@
 -- What the calls of `RSeqManager` (lib.rs) answer, by what `ran` leaves: the number and the used length, and the lent bytes beside them.
-use Rattle.std.specs.Prelude.{ℕ, ◌<◌, Bool, List, length, eqb, Err, Ok, Result}
+use Rattle.std.specs.Prelude.{ℕ, Bool, List, length, eqb, Err, Ok, Result}
 use Rattle.limits.specs.declared.Refusal.{Refusal}
-use Rattle.dialog_id.specs.Ident.{Ident}
 use Rattle.ordered_store.specs.Run.{Left}
 use Rattle.rseq_manager.specs.RSeq.{empty_flag}
 
@@ -38,10 +37,6 @@ emptiness (Err cause) = Err cause
 emptiness (Ok n) = Ok (empty_flag n)
 
 -- ---- steps of the code
-
--- two bytes hold the length of each text of an identifier
-abbrev pub TextsShort : Ident → Type 0
-TextsShort i = (length i.call_id < 65536) × (length i.local_tag < 65536) × (length i.remote_tag < 65536)
 
 -- a new entry's number, where the bytes with it fit
 abbrev pub numbered_from : ℕ → Result (List ℕ) Refusal → Result (ℕ × ℕ) Refusal

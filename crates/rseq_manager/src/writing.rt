@@ -2,18 +2,18 @@
 ghost use Rattle.std.specs.Prelude.{◌≡◌, ◌+◌, ◌≤◌, length, take};
 ghost use Rattle.edit.specs.Edit.{put_at, spliced};
 ghost use Rattle.output.specs.Output.{fitted, leaves};
-ghost use Rattle.dialog_id.specs.IdTexts.{ident_of};
+ghost use Rattle.dialog_id.specs.IdTexts.{ident_of, TextsShort};
 ghost use Rattle.rseq_entries.specs.Entries.{entry_form};
 ghost use Rattle.rseq_manager.specs.RSeq.{numbered};
-ghost use Rattle.rseq_manager.specs.Answers.{numbered_from, TextsShort};
+ghost use Rattle.rseq_manager.specs.Answers.{numbered_from};
 
 use codec::LENGTH_SIZE;
 use dialog_id::IdTexts;
 use limits::Refusal;
 
 // A new entry put in at a place of the used bytes: 18. The number, and the new used length.
-// Kept (2, 5, 6): the bytes past the used ones are room for the entry; `prack_entries` tests and moves them so too, two steps: a function of
-// both would need clauses for used bytes with a gap in them.
+// Kept (2, 5, 6): the bytes past the used ones are room for the entry. `prack_entries` has the test and the move too: one function of the two would answer by
+// `fitted` of bytes that aren't there yet, for two lines in two callers.
 pub fn insert(
     id: IdTexts<'_>,
     number: u32,
@@ -38,8 +38,9 @@ pub fn insert(
 }
 
 // Three texts with their length bytes, and the number, at a place.
-// Kept (2, 5): `store_ids::write_id` writes three texts so too, but no crate below both has codec and `IdTexts`; written at a place of bytes,
-// as each part of it is by codec.
+// Kept (2): `store_ids::write_id` has three of these lines; a function of them would make dialog_id stand on codec, with a contract of its own for lengths,
+// room and bytes.
+// Kept (5): written at a place of bytes, as each part of it is by codec.
 fn write_entry(id: IdTexts<'_>, number: u32, bytes: &mut [u8], at: usize)
     requires texts_short { TextsShort (ident_of id) }
     requires number_in_bounds { at + length (entry_form.write (numbered (ident_of id) number)) ≤ length bytes.old }

@@ -8,9 +8,7 @@ ghost use Rattle.session_timer_manager.specs.Answers.{time_of, seconds_of, text_
 ghost use Rattle.session_timer_manager.specs.Intervals.{minimum_or_default, validated, joint_minimum, reduced, negotiated, non_refresher_expiry, refresh_time, refresh_due};
 ghost use Rattle.session_timer_manager.specs.Refresher.{we_refresh, refresher_role};
 
-use limits::{Limits, Refusal};
-
-const NANOS_PER_SECOND: u64 = 1000000000;
+use limits::{Limits, NANOS_PER_SECOND, Refusal};
 
 // RFC 4028, section 10: the longest time before its end at which a session is given up.
 const EXPIRY_MARGIN_SECS: u64 = 32;

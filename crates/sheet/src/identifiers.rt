@@ -1,6 +1,6 @@
 // A dialog's identifier from given parts.
 use dialog_id::{DialogId, IdTexts};
-use sheet_lines::{ask, ask_size, begin, end_line, show_check};
+use sheet_lines::{ask, ask_of, ask_size, end_line, show_check};
 use std::io;
 
 pub fn identifiers(rt: &impl Print) -> io::Result<()> {
@@ -39,13 +39,14 @@ fn identifier(
     local_tag: &[u8],
     remote_tag: &[u8],
 ) -> io::Result<()> {
-    begin(rt, place, b"identifier [")?;
-    rt.write_all(call_id)?;
-    rt.write_all(b"][")?;
-    rt.write_all(local_tag)?;
-    rt.write_all(b"][")?;
-    rt.write_all(remote_tag)?;
-    rt.write_all(b"]: ")?;
+    ask_of(rt, place, b"identifier [", || {
+        rt.write_all(call_id)?;
+        rt.write_all(b"][")?;
+        rt.write_all(local_tag)?;
+        rt.write_all(b"][")?;
+        rt.write_all(remote_tag)?;
+        rt.write_all(b"]")
+    })?;
     check(rt, call_id, local_tag, remote_tag)
 }
 

@@ -1,5 +1,5 @@
 // Numbers as Rust reads a u32, and the number and method of CSeq.
-use sheet_lines::{ask, ask_block, end_line, show_answer, show_or};
+use sheet_lines::{ask, ask_block, end_line, show_answer, show_number};
 use std::io;
 
 pub fn numbers(rt: &impl Print) -> io::Result<()> {
@@ -29,7 +29,7 @@ pub fn numbers(rt: &impl Print) -> io::Result<()> {
 
 fn number(rt: &impl Print, place: &[u8], s: &[u8]) -> io::Result<()> {
     ask(rt, place, b"number ", s)?;
-    show_or(rt, b"", text::read_u32(s), b"unreadable")?;
+    show_number(rt, text::read_u32(s))?;
     end_line(rt)
 }
 

@@ -4,8 +4,9 @@ ghost use Rattle.std.specs.Prelude.{◌≡◌};
 use crate::records::show_record;
 use creation_checks::NewDialog;
 use limits::Refusal;
+use msg::{Request, Response};
 use sheet_lines::{
-    Held, ask, ask_block, ask_number, begin, end_line, show_block, show_cause, show_time, show_yes,
+    Held, ask, ask_block, ask_number, ask_of, end_line, show_block, show_cause, show_time, show_yes,
 };
 use std::io;
 
@@ -41,7 +42,7 @@ pub fn uas(
 
 // The call as the other side has it: its URIs turned round.
 pub fn turned(call: NewDialog<'_>) -> NewDialog<'_>
-    ensures { result ≡ record { method = call.entry.method; request = call.entry.request; status = call.entry.status; response = call.entry.response; local_uri = call.entry.remote_uri; remote_uri = call.entry.local_uri } }
+    ensures { result ≡ record { request = call.entry.request; response = call.entry.response; local_uri = call.entry.remote_uri; remote_uri = call.entry.local_uri } }
 {
     NewDialog {
         local_uri: call.remote_uri,
@@ -52,9 +53,13 @@ pub fn turned(call: NewDialog<'_>) -> NewDialog<'_>
 
 // The call with a response of another status.
 pub fn answered_by(call: NewDialog<'_>, status: u16) -> NewDialog<'_>
-    ensures { result ≡ record { method = call.entry.method; request = call.entry.request; status = status; response = call.entry.response; local_uri = call.entry.local_uri; remote_uri = call.entry.remote_uri } }
+    ensures { result ≡ record { request = call.entry.request; response = record { status = status; block = call.entry.response.block }; local_uri = call.entry.local_uri; remote_uri = call.entry.remote_uri } }
 {
-    NewDialog { status, ..call }
+    let response = Response {
+        status,
+        ..call.response
+    };
+    NewDialog { response, ..call }
 }
 
 fn created(rt: &impl Print, answer: Result<usize, Refusal>, record: &mut Record) -> io::Result<()> {
@@ -81,7 +86,7 @@ pub fn request(
     record: &mut Record,
 ) -> io::Result<()> {
     ask_block(rt, place, method, block)?;
-    requested(rt, method, block, record)
+    requested(rt, Request { method, block }, record)
 }
 
 // The same of a whole message, whose block is not shown.
@@ -93,12 +98,13 @@ pub fn message(
     record: &mut Record,
 ) -> io::Result<()> {
     ask(rt, place, method, b"")?;
-    requested(rt, method, block, record)
+    requested(rt, Request { method, block }, record)
 }
 
-fn requested(rt: &impl Print, method: &[u8], block: &[u8], record: &mut Record) -> io::Result<()> {
+// Kept (2): `answered` is this of a response, by another call.
+fn requested(rt: &impl Print, request: Request<'_>, record: &mut Record) -> io::Result<()> {
     let used = record.used;
-    let answer = dialog_requests::update_from_request(method, block, &mut record.bytes, used);
+    let answer = dialog_requests::update_from_request(request, &mut record.bytes, used);
     updated(rt, answer, record)
 }
 
@@ -111,11 +117,12 @@ pub fn response(
     block: &[u8],
     record: &mut Record,
 ) -> io::Result<()> {
-    begin(rt, place, b"")?;
-    print!(rt; "{status} of {{")?;
-    show_block(rt, block)?;
-    rt.write_all(b"}: ")?;
-    answered(rt, status, block, record)
+    ask_of(rt, place, b"", || {
+        print!(rt; "{status} of {{")?;
+        show_block(rt, block)?;
+        rt.write_all(b"}")
+    })?;
+    answered(rt, Response { status, block }, record)
 }
 
 // The same of a whole message, whose block is not shown.
@@ -127,12 +134,13 @@ pub fn answer(
     record: &mut Record,
 ) -> io::Result<()> {
     ask_number(rt, place, b"", status as u64)?;
-    answered(rt, status, block, record)
+    answered(rt, Response { status, block }, record)
 }
 
-fn answered(rt: &impl Print, status: u16, block: &[u8], record: &mut Record) -> io::Result<()> {
+// Kept (2): `requested` is this of a request, by another call.
+fn answered(rt: &impl Print, response: Response<'_>, record: &mut Record) -> io::Result<()> {
     let used = record.used;
-    let answer = dialog_responses::update_from_response(status, block, &mut record.bytes, used);
+    let answer = dialog_responses::update_from_response(response, &mut record.bytes, used);
     updated(rt, answer, record)
 }
 
@@ -204,9 +212,12 @@ pub fn matching(
 
 // Whether a refresh is due, so long after the last.
 pub fn refresh(rt: &impl Print, place: &[u8], elapsed: u64, record: &Record) -> io::Result<()> {
-    begin(rt, place, b"needs_refresh after ")?;
-    show_time(rt, elapsed)?;
-    rt.write_all(b": ")?;
+    ask_of(
+        rt,
+        place,
+        b"needs_refresh after ",
+        || show_time(rt, elapsed),
+    )?;
     shown(rt, dialog::needs_refresh(record.used_bytes(), elapsed))
 }
 

@@ -1,6 +1,7 @@
 // Early records and the 2xx that confirms them, and the ACK to it.
 use crate::calls::{Record, answered_by, confirm, request, response, turned, uac, uas};
 use creation_checks::NewDialog;
+use msg::Response;
 use std::io;
 
 pub fn confirmation(rt: &impl Print, call: NewDialog<'_>) -> io::Result<()> {
@@ -20,8 +21,10 @@ fn late_routes(rt: &impl Print, call: NewDialog<'_>, routes: &[u8]) -> io::Resul
         b"RFC 3261 after 12.1.2",
         b"INVITE 4711 and 180 without Contact and Record-Route",
         NewDialog {
-            status: 180,
-            response: b"From: <sip:caller@example.com>;tag=a\r\nTo: <sip:callee@domain.com>;tag=b\r\nCall-ID: 1\r\n",
+            response: Response {
+                status: 180,
+                block: b"From: <sip:caller@example.com>;tag=a\r\nTo: <sip:callee@domain.com>;tag=b\r\nCall-ID: 1\r\n",
+            },
             ..call
         },
         &mut record,

@@ -3,14 +3,19 @@ use crate::calls::{
     Record, answer, confirm, matching, message, next_local, terminate, turned, uac, uas,
 };
 use creation_checks::NewDialog;
+use msg::{Request, Response};
 use std::io;
 
 pub fn flow(rt: &impl Print) -> io::Result<()> {
     let call = NewDialog {
-        method: b"INVITE",
-        request: b"To: Bob <sip:bob@biloxi.com>\r\nFrom: Alice <sip:alice@atlanta.com>;tag=1928301774\r\nCall-ID: a84b4c76e66710\r\nCSeq: 314159 INVITE\r\nContact: <sip:alice@pc33.atlanta.com>\r\n",
-        status: 180,
-        response: b"To: Bob <sip:bob@biloxi.com>;tag=a6c85cf\r\nFrom: Alice <sip:alice@atlanta.com>;tag=1928301774\r\nCall-ID: a84b4c76e66710\r\nCSeq: 314159 INVITE\r\nContact: <sip:bob@192.0.2.4>\r\n",
+        request: Request {
+            method: b"INVITE",
+            block: b"To: Bob <sip:bob@biloxi.com>\r\nFrom: Alice <sip:alice@atlanta.com>;tag=1928301774\r\nCall-ID: a84b4c76e66710\r\nCSeq: 314159 INVITE\r\nContact: <sip:alice@pc33.atlanta.com>\r\n",
+        },
+        response: Response {
+            status: 180,
+            block: b"To: Bob <sip:bob@biloxi.com>;tag=a6c85cf\r\nFrom: Alice <sip:alice@atlanta.com>;tag=1928301774\r\nCall-ID: a84b4c76e66710\r\nCSeq: 314159 INVITE\r\nContact: <sip:bob@192.0.2.4>\r\n",
+        },
         local_uri: b"sip:alice@atlanta.com",
         remote_uri: b"sip:bob@biloxi.com",
     };
@@ -27,8 +32,10 @@ fn trying(rt: &impl Print, call: NewDialog<'_>) -> io::Result<()> {
         b"RFC 3261 after 24.2 F2",
         b"INVITE 314159 and 100",
         NewDialog {
-            status: 100,
-            response: b"To: Bob <sip:bob@biloxi.com>\r\nFrom: Alice <sip:alice@atlanta.com>;tag=1928301774\r\nCall-ID: a84b4c76e66710\r\nCSeq: 314159 INVITE\r\n",
+            response: Response {
+                status: 100,
+                block: b"To: Bob <sip:bob@biloxi.com>\r\nFrom: Alice <sip:alice@atlanta.com>;tag=1928301774\r\nCall-ID: a84b4c76e66710\r\nCSeq: 314159 INVITE\r\n",
+            },
             ..call
         },
         &mut record,
@@ -52,7 +59,7 @@ fn caller(rt: &impl Print, call: NewDialog<'_>) -> io::Result<()> {
         rt,
         b"RFC 3261 after 24.2 F11",
         200,
-        call.response,
+        call.response.block,
         &mut record,
     )?;
     matching(rt, place, b"BYE", bye, &record)?;

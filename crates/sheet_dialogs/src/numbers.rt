@@ -1,14 +1,19 @@
 // The numbers of document 01's test sheet, on records whose remote number is 7 and 0. What is refused comes first: it changes nothing.
 use crate::calls::{Record, request, uac, uas};
 use creation_checks::NewDialog;
+use msg::{Request, Response};
 use std::io;
 
 pub fn numbers(rt: &impl Print) -> io::Result<()> {
     let call = NewDialog {
-        method: b"INVITE",
-        request: b"CSeq: 7 INVITE\r\n",
-        status: 200,
-        response: b"From: <sip:r@h>;tag=R\r\nTo: <sip:l@h>;tag=L\r\nCall-ID: c1\r\n",
+        request: Request {
+            method: b"INVITE",
+            block: b"CSeq: 7 INVITE\r\n",
+        },
+        response: Response {
+            status: 200,
+            block: b"From: <sip:r@h>;tag=R\r\nTo: <sip:l@h>;tag=L\r\nCall-ID: c1\r\n",
+        },
         local_uri: b"sip:l@h",
         remote_uri: b"sip:r@h",
     };

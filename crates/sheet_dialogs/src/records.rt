@@ -20,7 +20,8 @@ pub fn show_record(rt: &impl Print, image: &[u8]) -> io::Result<()> {
     show_routes(rt, image, r.route_count)
 }
 
-// Kept (4): the sheet's words for a type of a library.
+// Kept (4): `write_state` of listing_lines has this match too, but writes into lent bytes, with a clause.
+// A `Display` of `State` would be for this sheet alone.
 fn show_state(rt: &impl Print, numbers: Numbers) -> io::Result<()> {
     match numbers.state {
         State::Early => rt.write_all(b"E"),
@@ -29,6 +30,7 @@ fn show_state(rt: &impl Print, numbers: Numbers) -> io::Result<()> {
     }
 }
 
+// Kept (2): as `show_yes` of sheet_lines, with two other words.
 fn show_side(rt: &impl Print, we_are_uac: bool) -> io::Result<()> {
     if we_are_uac {
         rt.write_all(b" uac ")
@@ -39,8 +41,8 @@ fn show_side(rt: &impl Print, we_are_uac: bool) -> io::Result<()> {
 
 fn show_numbers(rt: &impl Print, numbers: Numbers) -> io::Result<()> {
     print!(rt; "{} {}", numbers.local, numbers.remote)?;
-    show_or(rt, b" ", numbers.last_ack, b" -")?;
-    show_or(rt, b" ", numbers.seconds, b" -")?;
+    show_or(rt, numbers.last_ack, b" -", |n| print!(rt; " {n}"))?;
+    show_or(rt, numbers.seconds, b" -", |n| print!(rt; " {n}"))?;
     show_refresher(rt, numbers.refresher)
 }
 

@@ -3,14 +3,19 @@ use crate::calls::{
     Record, answered_by, interval, next_local, refresh, request, response, turned, uac, uas,
 };
 use creation_checks::NewDialog;
+use msg::{Request, Response};
 use std::io;
 
 pub fn timers(rt: &impl Print) -> io::Result<()> {
     let call = NewDialog {
-        method: b"INVITE",
-        request: b"Supported: timer\r\nSession-Expires: 4000\r\nMin-SE: 4000\r\nTo: Bob <sips:bob@biloxi.example.com>\r\nFrom: Alice <sips:alice@atlanta.example.com>;tag=1928301774\r\nCall-ID: a84b4c76e66710\r\nCSeq: 314161 INVITE\r\nContact: <sips:alice@pc33.atlanta.example.com>\r\n",
-        status: 200,
-        response: b"Require: timer\r\nSupported: timer\r\nSession-Expires: 4000;refresher=uac\r\nTo: Bob <sips:bob@biloxi.example.com>;tag=9as888nd\r\nFrom: Alice <sips:alice@atlanta.example.com>;tag=1928301774\r\nCall-ID: a84b4c76e66710\r\nCSeq: 314161 INVITE\r\nContact: <sips:bob@192.0.2.4>\r\n",
+        request: Request {
+            method: b"INVITE",
+            block: b"Supported: timer\r\nSession-Expires: 4000\r\nMin-SE: 4000\r\nTo: Bob <sips:bob@biloxi.example.com>\r\nFrom: Alice <sips:alice@atlanta.example.com>;tag=1928301774\r\nCall-ID: a84b4c76e66710\r\nCSeq: 314161 INVITE\r\nContact: <sips:alice@pc33.atlanta.example.com>\r\n",
+        },
+        response: Response {
+            status: 200,
+            block: b"Require: timer\r\nSupported: timer\r\nSession-Expires: 4000;refresher=uac\r\nTo: Bob <sips:bob@biloxi.example.com>;tag=9as888nd\r\nFrom: Alice <sips:alice@atlanta.example.com>;tag=1928301774\r\nCall-ID: a84b4c76e66710\r\nCSeq: 314161 INVITE\r\nContact: <sips:bob@192.0.2.4>\r\n",
+        },
         local_uri: b"sips:alice@atlanta.example.com",
         remote_uri: b"sips:bob@biloxi.example.com",
     };
@@ -85,10 +90,14 @@ fn callee(rt: &impl Print, call: NewDialog<'_>) -> io::Result<()> {
 fn shortest(rt: &impl Print) -> io::Result<()> {
     let place: &[u8] = b"01 sheet P";
     let call = NewDialog {
-        method: b"INVITE",
-        request: b"CSeq: 1 INVITE\r\n",
-        status: 200,
-        response: b"From: <sip:r@h>;tag=R\r\nTo: <sip:l@h>;tag=L\r\nCall-ID: c1\r\nSession-Expires: 89\r\n",
+        request: Request {
+            method: b"INVITE",
+            block: b"CSeq: 1 INVITE\r\n",
+        },
+        response: Response {
+            status: 200,
+            block: b"From: <sip:r@h>;tag=R\r\nTo: <sip:l@h>;tag=L\r\nCall-ID: c1\r\nSession-Expires: 89\r\n",
+        },
         local_uri: b"sip:l@h",
         remote_uri: b"sip:r@h",
     };
@@ -99,7 +108,10 @@ fn shortest(rt: &impl Print) -> io::Result<()> {
         b"RFC 4028 after 9",
         b"200 with 90 s and no refresher",
         NewDialog {
-            response: b"From: <sip:r@h>;tag=R\r\nTo: <sip:l@h>;tag=L\r\nCall-ID: c1\r\nSession-Expires: 90\r\n",
+            response: Response {
+                block: b"From: <sip:r@h>;tag=R\r\nTo: <sip:l@h>;tag=L\r\nCall-ID: c1\r\nSession-Expires: 90\r\n",
+                ..call.response
+            },
             ..call
         },
         &mut record,

@@ -5,54 +5,66 @@
 
 mod held;
 
+ghost use Rattle.std.specs.Prelude.{IfOk, IfSome, Ok};
+
 use dialog_id::DialogId;
 use headers::Refresher;
 pub use held::Held;
-use limits::Refusal;
+use limits::{NANOS_PER_SECOND, Refusal};
 use rack::RAck;
 use std::fmt::Display;
 use std::io;
 use text::Span;
 use uri::SipUri;
 
-pub const NANOS_PER_SECOND: u64 = 1000000000;
-
 pub fn end_line(rt: &impl Print) -> io::Result<()> {
     rt.write_all(b"\n")
 }
 
-// The beginning of a line: where the example stands, and what is asked.
-pub fn begin(rt: &impl Print, place: &[u8], question: &[u8]) -> io::Result<()> {
+// A line up to its answer: where the example stands, what is asked, and of what, as `given` shows it.
+pub fn ask_of<F: FnOnce() -> io::Result<()>>(
+    rt: &impl Print,
+    place: &[u8],
+    question: &[u8],
+    given: F,
+) -> io::Result<()>
+    requires { F.pre given }
+    ensures asked { IfOk result (λ u. F.post given (Ok u)) }
+{
     rt.write_all(place)?;
     rt.write_all(b"  ")?;
-    rt.write_all(question)
+    rt.write_all(question)?;
+    given()?;
+    rt.write_all(b": ")
 }
 
-// The same, and of which text it is asked.
+// The same of a text.
 pub fn ask(rt: &impl Print, place: &[u8], question: &[u8], given: &[u8]) -> io::Result<()> {
-    begin(rt, place, question)?;
-    rt.write_all(given)?;
-    rt.write_all(b": ")
+    ask_of(rt, place, question, || rt.write_all(given))
 }
 
 // The same of a number.
 pub fn ask_number(rt: &impl Print, place: &[u8], question: &[u8], given: u64) -> io::Result<()> {
-    begin(rt, place, question)?;
-    print!(rt; "{given}: ")
+    ask_of(rt, place, question, || print!(rt; "{given}"))
 }
 
 // The same of a text that is told by its size.
 pub fn ask_size(rt: &impl Print, place: &[u8], question: &[u8], given: &[u8]) -> io::Result<()> {
-    begin(rt, place, question)?;
-    print!(rt; " of {} bytes: ", given.len())
+    ask_of(
+        rt,
+        place,
+        question,
+        || print!(rt; " of {} bytes", given.len()),
+    )
 }
 
 // The same of a header block.
 pub fn ask_block(rt: &impl Print, place: &[u8], question: &[u8], block: &[u8]) -> io::Result<()> {
-    begin(rt, place, question)?;
-    rt.write_all(b" of {")?;
-    show_block(rt, block)?;
-    rt.write_all(b"}: ")
+    ask_of(rt, place, question, || {
+        rt.write_all(b" of {")?;
+        show_block(rt, block)?;
+        rt.write_all(b"}")
+    })
 }
 
 // The bytes of a block, its line ends as `\r\n`.
@@ -105,6 +117,7 @@ pub fn show_refusal(rt: &impl Print, x: Refusal) -> io::Result<()> {
     print!(rt; "refused {}", x.number())
 }
 
+// Kept (2): `show_side` of sheet_dialogs has two other words; lent both, a function would be this `if`.
 pub fn show_yes(rt: &impl Print, b: bool) -> io::Result<()> {
     if b {
         rt.write_all(b"yes")
@@ -114,15 +127,14 @@ pub fn show_yes(rt: &impl Print, b: bool) -> io::Result<()> {
 }
 
 // What was answered, as `show` shows it, or why nothing was.
-// Kept (2): `show_next`, `show_id`, `show_uri` and `show_expires` match by themselves: each shows more than one call does, and a
-// closure of it would be as long.
+// Kept (2): `show_next` matches by itself: it answers where the next text begins, and `show` answers nothing.
 // Kept (4): the two cases of an answer, each shown by a call; nothing is converted.
-fn show_given<T, F: Fn(T) -> io::Result<()>>(
+fn show_given<T, F: FnOnce(T) -> io::Result<()>>(
     rt: &impl Print,
     answer: Result<T, Refusal>,
     show: F,
 ) -> io::Result<()>
-    requires { F.IsAlwaysCallable show }
+    requires { IfOk answer (λ x. F.pre show x) }
 {
     match answer {
         Ok(given) => show(given),
@@ -131,12 +143,13 @@ fn show_given<T, F: Fn(T) -> io::Result<()>>(
 }
 
 // The same of what may not be there.
-pub fn show_found<T, F: Fn(T) -> io::Result<()>>(
+pub fn show_found<T, F: FnOnce(T) -> io::Result<()>>(
     rt: &impl Print,
     answer: Result<Option<T>, Refusal>,
     show: F,
 ) -> io::Result<()>
-    requires { F.IsAlwaysCallable show }
+    requires { IfOk answer (λ o. IfSome o (λ x. F.pre show x)) }
+    ensures shown { IfOk answer (λ o. IfSome o (λ x. F.post show x result)) }
 {
     match answer {
         Ok(Some(found)) => show(found),
@@ -145,28 +158,34 @@ pub fn show_found<T, F: Fn(T) -> io::Result<()>>(
     }
 }
 
-// A number behind some words, or other words where there is none.
-pub fn show_or<N: Display + Drop>(
+// The part of a text that was found.
+pub fn show_lookup(rt: &impl Print, s: &[u8], l: Result<Option<Span>, Refusal>) -> io::Result<()> {
+    show_found(rt, l, |part| show_part(rt, s, part))
+}
+
+// What is there, as `show` shows it, or other words.
+pub fn show_or<T, F: FnOnce(T) -> io::Result<()>>(
     rt: &impl Print,
-    before: &[u8],
-    n: Option<N>,
+    n: Option<T>,
     none: &[u8],
-) -> io::Result<()> {
+    show: F,
+) -> io::Result<()>
+    requires { IfSome n (λ x. F.pre show x) }
+    ensures shown { IfSome n (λ x. F.post show x result) }
+{
     match n {
-        Some(n) => {
-            rt.write_all(before)?;
-            print!(rt; "{n}")
-        }
+        Some(n) => show(n),
         None => rt.write_all(none),
     }
 }
 
-pub fn show_check(rt: &impl Print, c: Result<(), Refusal>) -> io::Result<()> {
-    show_given(rt, c, |_| rt.write_all(b"taken"))
+// A number that was read, or that there is none.
+pub fn show_number(rt: &impl Print, n: Option<u32>) -> io::Result<()> {
+    show_or(rt, n, b"unreadable", |n| print!(rt; "{n}"))
 }
 
-pub fn show_lookup(rt: &impl Print, s: &[u8], l: Result<Option<Span>, Refusal>) -> io::Result<()> {
-    show_found(rt, l, |part| show_part(rt, s, part))
+pub fn show_check(rt: &impl Print, c: Result<(), Refusal>) -> io::Result<()> {
+    show_given(rt, c, |_| rt.write_all(b"taken"))
 }
 
 // One of several texts, in brackets, or how they end.
@@ -193,40 +212,30 @@ pub fn show_next(
 }
 
 pub fn show_id(rt: &impl Print, block: &[u8], id: Result<DialogId, Refusal>) -> io::Result<()> {
-    match id {
-        Ok(d) => {
-            show_part(rt, block, d.call_id)?;
-            rt.write_all(b", local ")?;
-            show_part(rt, block, d.local_tag)?;
-            rt.write_all(b", remote ")?;
-            show_part(rt, block, d.remote_tag)
-        }
-        Err(x) => show_refusal(rt, x),
-    }
+    show_given(rt, id, |d| {
+        show_part(rt, block, d.call_id)?;
+        rt.write_all(b", local ")?;
+        show_part(rt, block, d.local_tag)?;
+        rt.write_all(b", remote ")?;
+        show_part(rt, block, d.remote_tag)
+    })
 }
 
 pub fn show_uri(rt: &impl Print, s: &[u8], u: Result<SipUri, Refusal>) -> io::Result<()> {
-    match u {
-        Ok(parts) => {
-            if parts.secure {
-                rt.write_all(b"sips, ")?;
-            } else {
-                rt.write_all(b"sip, ")?;
-            }
-            let user = parts.user;
-            match user {
-                Some(part) => {
-                    rt.write_all(b"user ")?;
-                    show_part(rt, s, part)?;
-                }
-                None => rt.write_all(b"no user")?,
-            }
-            rt.write_all(b", host ")?;
-            show_part(rt, s, parts.host)?;
-            show_or(rt, b", port ", parts.port, b", no port")
+    show_given(rt, u, |parts| {
+        if parts.secure {
+            rt.write_all(b"sips, ")?;
+        } else {
+            rt.write_all(b"sip, ")?;
         }
-        Err(x) => show_refusal(rt, x),
-    }
+        show_or(rt, parts.user, b"no user", |part| {
+            rt.write_all(b"user ")?;
+            show_part(rt, s, part)
+        })?;
+        rt.write_all(b", host ")?;
+        show_part(rt, s, parts.host)?;
+        show_or(rt, parts.port, b", no port", |n| print!(rt; ", port {n}"))
+    })
 }
 
 // A number, or why there is none.
@@ -238,14 +247,10 @@ pub fn show_expires(
     rt: &impl Print,
     e: Result<Option<(u32, Option<Refresher>)>, Refusal>,
 ) -> io::Result<()> {
-    match e {
-        Ok(Some((seconds, refresher))) => {
-            print!(rt; "{seconds}")?;
-            show_refresher(rt, refresher)
-        }
-        Ok(None) => rt.write_all(b"nothing"),
-        Err(x) => show_refusal(rt, x),
-    }
+    show_found(rt, e, |(seconds, refresher)| {
+        print!(rt; "{seconds}")?;
+        show_refresher(rt, refresher)
+    })
 }
 
 // Kept (4): the sheet's words for a type of a library.
@@ -271,17 +276,25 @@ pub fn show_time(rt: &impl Print, nanos: u64) -> io::Result<()> {
 }
 
 pub fn show_interval(rt: &impl Print, i: Result<u64, Refusal>) -> io::Result<()> {
-    match i {
-        Ok(nanos) => show_time(rt, nanos),
-        Err(x) => show_least(rt, x, |least| show_time(rt, least)),
-    }
+    show_or_least(rt, i, |nanos| show_time(rt, nanos))
 }
 
-// Kept (4): the sheet's words for an answer of a library.
 pub fn show_checked(rt: &impl Print, c: Result<u32, Refusal>) -> io::Result<()> {
-    match c {
-        Ok(seconds) => show_seconds(rt, seconds as u64),
-        Err(x) => show_cause(rt, x),
+    show_or_least(rt, c.map(|s| s as u64), |s| show_seconds(rt, s))
+}
+
+// A time as `show` shows it, or why there is none, and the least so too.
+// Kept (4): as in `show_given`: the two cases of an answer, each shown by a call; nothing is converted.
+fn show_or_least<F: Fn(u64) -> io::Result<()>>(
+    rt: &impl Print,
+    answer: Result<u64, Refusal>,
+    show: F,
+) -> io::Result<()>
+    requires { F.IsAlwaysCallable show }
+{
+    match answer {
+        Ok(time) => show(time),
+        Err(x) => show_least(rt, x, show),
     }
 }
 

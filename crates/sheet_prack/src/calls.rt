@@ -6,11 +6,14 @@ use sheet_lines::{Held, end_line, show_block, show_rack, show_refusal, show_time
 use std::io;
 
 // The number of the method INVITE.
+// Kept (1): the method of `Provisional`, which is a number since `register` refuses an unknown one with 28.
 const INVITE: u8 = 1;
 
 // The beginning of a line: where the example stands, the call, and the dialog.
 pub fn begin(rt: &impl Print, place: &[u8], call: &[u8], id: &[u8]) -> io::Result<()> {
-    sheet_lines::begin(rt, place, call)?;
+    rt.write_all(place)?;
+    rt.write_all(b"  ")?;
+    rt.write_all(call)?;
     rt.write_all(b" ")?;
     rt.write_all(id)
 }

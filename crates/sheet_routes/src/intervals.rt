@@ -1,7 +1,8 @@
 // Session intervals: refresh, expiry, the minimum, negotiation, and who refreshes. Times are given here in seconds.
+use limits::NANOS_PER_SECOND;
 use sheet_lines::{
-    NANOS_PER_SECOND, begin, end_line, show_checked, show_interval, show_seconds, show_time,
-    show_verdict, show_yes,
+    ask_of, end_line, show_checked, show_interval, show_or, show_seconds, show_time, show_verdict,
+    show_yes,
 };
 use std::io;
 
@@ -82,14 +83,11 @@ fn roles(rt: &impl Print) -> io::Result<()> {
 }
 
 fn due(rt: &impl Print, place: &[u8], interval: Option<u32>, elapsed: u64) -> io::Result<()> {
-    begin(rt, place, b"refresh due, interval ")?;
-    match interval {
-        Some(n) => show_seconds(rt, n as u64)?,
-        None => rt.write_all(b"none")?,
-    }
-    rt.write_all(b", after ")?;
-    show_time(rt, elapsed)?;
-    rt.write_all(b": ")?;
+    ask_of(rt, place, b"refresh due, interval ", || {
+        show_or(rt, interval, b"none", |n| show_seconds(rt, n as u64))?;
+        rt.write_all(b", after ")?;
+        show_time(rt, elapsed)
+    })?;
     show_yes(rt, session_timer_manager::needs_refresh(interval, elapsed))?;
     end_line(rt)
 }
@@ -114,11 +112,11 @@ fn expiry(rt: &impl Print, place: &[u8], interval: u32) -> io::Result<()> {
 }
 
 fn validate(rt: &impl Print, place: &[u8], interval: u32, minimum: Option<u64>) -> io::Result<()> {
-    begin(rt, place, b"validate ")?;
-    show_seconds(rt, interval as u64)?;
-    rt.write_all(b", minimum ")?;
-    show_optional(rt, minimum)?;
-    rt.write_all(b": ")?;
+    ask_of(rt, place, b"validate ", || {
+        show_seconds(rt, interval as u64)?;
+        rt.write_all(b", minimum ")?;
+        show_optional(rt, minimum)
+    })?;
     show_interval(
         rt,
         session_timer_manager::validate_session_expires(nanos(interval), minimum),
@@ -127,9 +125,7 @@ fn validate(rt: &impl Print, place: &[u8], interval: u32, minimum: Option<u64>) 
 }
 
 fn checked(rt: &impl Print, place: &[u8], interval: u64) -> io::Result<()> {
-    begin(rt, place, b"set ")?;
-    show_seconds(rt, interval)?;
-    rt.write_all(b": ")?;
+    ask_of(rt, place, b"set ", || show_seconds(rt, interval))?;
     show_checked(rt, session_seconds::check_expires_seconds(interval))?;
     end_line(rt)
 }
@@ -142,15 +138,15 @@ fn negotiate(
     remote_min: Option<u64>,
     preference: Option<u64>,
 ) -> io::Result<()> {
-    begin(rt, place, b"negotiate ")?;
-    show_seconds(rt, requested as u64)?;
-    rt.write_all(b", minima ")?;
-    show_seconds(rt, local_min as u64)?;
-    rt.write_all(b" and ")?;
-    show_optional(rt, remote_min)?;
-    rt.write_all(b", preference ")?;
-    show_optional(rt, preference)?;
-    rt.write_all(b": ")?;
+    ask_of(rt, place, b"negotiate ", || {
+        show_seconds(rt, requested as u64)?;
+        rt.write_all(b", minima ")?;
+        show_seconds(rt, local_min as u64)?;
+        rt.write_all(b" and ")?;
+        show_optional(rt, remote_min)?;
+        rt.write_all(b", preference ")?;
+        show_optional(rt, preference)
+    })?;
     show_interval(
         rt,
         session_timer_manager::negotiate_session_expires(
@@ -164,13 +160,14 @@ fn negotiate(
 }
 
 fn role(rt: &impl Print, place: &[u8], param: Option<&[u8]>, is_uac: bool) -> io::Result<()> {
-    begin(rt, place, b"we refresh, refresher ")?;
-    rt.write_all(param.unwrap_or(b"none"))?;
-    if is_uac {
-        rt.write_all(b", we are uac: ")?;
-    } else {
-        rt.write_all(b", we are uas: ")?;
-    }
+    ask_of(rt, place, b"we refresh, refresher ", || {
+        rt.write_all(param.unwrap_or(b"none"))?;
+        if is_uac {
+            rt.write_all(b", we are uac")
+        } else {
+            rt.write_all(b", we are uas")
+        }
+    })?;
     show_verdict(
         rt,
         session_timer_manager::determine_refresher_role(param, is_uac),
@@ -179,17 +176,11 @@ fn role(rt: &impl Print, place: &[u8], param: Option<&[u8]>, is_uac: bool) -> io
 }
 
 fn ask_seconds(rt: &impl Print, place: &[u8], question: &[u8], interval: u32) -> io::Result<()> {
-    begin(rt, place, question)?;
-    show_seconds(rt, interval as u64)?;
-    rt.write_all(b": ")
+    ask_of(rt, place, question, || show_seconds(rt, interval as u64))
 }
 
-// Kept (4): the sheet's words for a time that may be absent.
 fn show_optional(rt: &impl Print, t: Option<u64>) -> io::Result<()> {
-    match t {
-        Some(n) => show_time(rt, n),
-        None => rt.write_all(b"none"),
-    }
+    show_or(rt, t, b"none", |n| show_time(rt, n))
 }
 
 fn seconds(n: u32) -> Option<u64> {

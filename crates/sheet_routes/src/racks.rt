@@ -1,6 +1,7 @@
 // Methods by number, RSeq, reliable provisional responses, and RAck read and written.
+use msg::Response;
 use sheet_lines::{
-    ask, ask_block, ask_number, begin, end_line, show_answer, show_block, show_method_number,
+    ask, ask_block, ask_number, ask_of, end_line, show_answer, show_block, show_method_number,
     show_rack, show_verdict, show_written,
 };
 use std::io;
@@ -112,11 +113,15 @@ fn rseq(rt: &impl Print, place: &[u8], block: &[u8]) -> io::Result<()> {
 }
 
 fn reliable(rt: &impl Print, place: &[u8], status: u16, block: &[u8]) -> io::Result<()> {
-    begin(rt, place, b"reliable, ")?;
-    print!(rt; "{status} of {{")?;
-    show_block(rt, block)?;
-    rt.write_all(b"}: ")?;
-    show_verdict(rt, prack_headers::is_reliable_provisional(status, block))?;
+    ask_of(rt, place, b"reliable, ", || {
+        print!(rt; "{status} of {{")?;
+        show_block(rt, block)?;
+        rt.write_all(b"}")
+    })?;
+    show_verdict(
+        rt,
+        prack_headers::is_reliable_provisional(Response { status, block }),
+    )?;
     end_line(rt)
 }
 
@@ -128,8 +133,12 @@ fn rack(rt: &impl Print, place: &[u8], value: &[u8]) -> io::Result<()> {
 
 // Kept (1): the line shows a number, and two of them are no method's.
 fn written(rt: &impl Print, place: &[u8], rseq: u32, cseq: u32, method: u8) -> io::Result<()> {
-    begin(rt, place, b"RAck of ")?;
-    print!(rt; "{rseq}, {cseq} and method {method}: ")?;
+    ask_of(
+        rt,
+        place,
+        b"RAck of ",
+        || print!(rt; "{rseq}, {cseq} and method {method}"),
+    )?;
     // Kept (6): README's rule: no heap. So the text goes into an array, and the answer says how long it is.
     let mut out = [0u8; 40];
     let w = rack::format_rack(rseq, cseq, method, &mut out);

@@ -8,6 +8,7 @@ ghost use Rattle.c_answers.specs.Given.{WithLeastGives};
 
 use c_answers::give_with_least;
 use creation_checks::NewDialog;
+use msg::{Request, Response};
 
 // The record of a dialog that our request opens, by the response to it: 1, 2, 6, 4, 5, 7, 8, 4, 9, 10, 13 with 90, 14, 18.
 // Kept (2): the C header's parameters, and each function has a clause of its own.
@@ -26,10 +27,14 @@ pub fn sip_dialog_new_uac<'a>(
     ensures out_after { out.new ≡ leaves (new_image rust_limits uac (record { method = method.now; request = request.now; status = status; response = response.now; local_uri = local_uri.now; remote_uri = remote_uri.now }) (length out.old)) out.old }
 {
     let c = NewDialog {
-        method,
-        request,
-        status,
-        response,
+        request: Request {
+            method,
+            block: request,
+        },
+        response: Response {
+            status,
+            block: response,
+        },
         local_uri,
         remote_uri,
     };
@@ -53,10 +58,14 @@ pub fn sip_dialog_new_uas<'a>(
     ensures out_after { out.new ≡ leaves (new_image rust_limits uas (record { method = method.now; request = request.now; status = status; response = response.now; local_uri = local_uri.now; remote_uri = remote_uri.now }) (length out.old)) out.old }
 {
     let c = NewDialog {
-        method,
-        request,
-        status,
-        response,
+        request: Request {
+            method,
+            block: request,
+        },
+        response: Response {
+            status,
+            block: response,
+        },
         local_uri,
         remote_uri,
     };

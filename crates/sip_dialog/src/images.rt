@@ -14,6 +14,7 @@ ghost use Rattle.c_image_answers.specs.Given.{ImageIdGives, StateGives, UrisGive
 
 use c_answers::{give, give_flag, give_id, give_lookup, give_with_least, give_with_used};
 use c_image_answers::{give_numbers, give_state, give_uris};
+use msg::{Request, Response};
 
 // Where the parts of the identifier lie: 3.
 // Kept (2): the C header's parameters, and each function has a clause of its own.
@@ -148,8 +149,9 @@ pub fn sip_dialog_image_update_from_request(
     ensures written_gives { ValueGives (written_from (requested rust_limits method.now block.now image.old used.old)) used.old result used.new }
     ensures image_after { image.new ≡ leaves (requested rust_limits method.now block.now image.old used.old) image.old }
 {
+    let request = Request { method, block };
     give(
-        dialog_requests::update_from_request(method, block, image, *used),
+        dialog_requests::update_from_request(request, image, *used),
         used,
     )
 }
@@ -165,8 +167,9 @@ pub fn sip_dialog_image_update_from_response(
     ensures written_gives { ValueGives (written_from (responded rust_limits status block.now image.old used.old)) used.old result used.new }
     ensures image_after { image.new ≡ leaves (responded rust_limits status block.now image.old used.old) image.old }
 {
+    let response = Response { status, block };
     give(
-        dialog_responses::update_from_response(status, block, image, *used),
+        dialog_responses::update_from_response(response, image, *used),
         used,
     )
 }

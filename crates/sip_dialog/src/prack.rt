@@ -8,6 +8,7 @@ ghost use Rattle.output.specs.Output.{written_from, leaves};
 ghost use Rattle.c_answers.specs.Given.{ValueGives, FlagGives, MethodLookupGives, RackGives};
 
 use c_answers::{give, give_flag, give_method_lookup, give_rack};
+use msg::Response;
 
 // The number of a block's CSeq: 1, 2, 4.
 pub fn sip_dialog_cseq_number(block: &[u8], number: &mut u32) -> u8
@@ -34,10 +35,8 @@ pub fn sip_dialog_rseq(block: &[u8], number: &mut u32) -> u8
 pub fn sip_dialog_is_reliable_provisional(status: u16, block: &[u8], reliable: &mut u8) -> u8
     ensures { FlagGives (reliable_answer (reliable_provisional rust_limits status block.now)) reliable.old result reliable.new }
 {
-    give_flag(
-        prack_headers::is_reliable_provisional(status, block),
-        reliable,
-    )
+    let response = Response { status, block };
+    give_flag(prack_headers::is_reliable_provisional(response), reliable)
 }
 
 // The number of a method by its text: 1.

@@ -9,6 +9,7 @@ ghost use Rattle.c_store_answers.specs.Given.{left_by};
 use c_answers::{give, give_with_least, give_with_used};
 use c_store_answers::give_counted;
 use dialog_id::IdTexts;
+use msg::{Request, Response};
 
 // DialogManager::insert of one record image, and the created count: 3, 16, 17, 18. An image that is lent is made of bytes.
 pub fn sip_dialog_put(image: &[u8], store: &mut [u8], used: &mut usize, created: &mut u64) -> u8
@@ -23,7 +24,8 @@ pub fn sip_dialog_put(image: &[u8], store: &mut [u8], used: &mut usize, created:
 pub fn sip_dialog_request(method: &[u8], block: &[u8], store: &mut [u8], used: &mut usize) -> u8
     ensures { Returns (left_by (λ n. update n (request method.now block.now)) store.old used.old) store.new used.new result }
 {
-    give(store_requests::request(method, block, store, *used), used)
+    let request = Request { method, block };
+    give(store_requests::request(request, store, *used), used)
 }
 
 // Dialog::update_from_response of the record of an identifier: 1, 2, 3, 15, 18.
@@ -43,10 +45,8 @@ pub fn sip_dialog_response(
         local_tag,
         remote_tag,
     };
-    give(
-        store_updates::response(id, status, block, store, *used),
-        used,
-    )
+    let response = Response { status, block };
+    give(store_updates::response(id, response, store, *used), used)
 }
 
 // Dialog::terminate of the record of an identifier: 1, 3, 15.

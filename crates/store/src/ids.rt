@@ -10,8 +10,8 @@ use record_walk::id_ends;
 use text::Span;
 
 // The parts of the identifier of the record at a place.
-// Kept (5): the places are those of a walk or a table; a struct of bytes and place with `At` as its ghost field (as `Held` has `fit`)
-// would be made and proved anew at each of them.
+// Kept (5): the tables of `distinct` hold bare places, and `close_up` writes the bytes that a struct of bytes and place with `At` as its ghost field
+// would borrow.
 pub fn ids_at(bytes: &[u8], p: usize) -> IdsAt
     requires { At bytes.now p }
     ensures { IdsRead bytes.now p result }
@@ -29,6 +29,7 @@ pub fn ids_at(bytes: &[u8], p: usize) -> IdsAt
 }
 
 // The text between two length bytes and an end; an empty one has no length bytes.
+// Kept (1): document 01's identifier has three texts, and an absent one is empty: `DialogId` has three parts.
 // Kept (5): where a text may begin, behind the map or at the end of the text before, and the end that `id_ends` answers; each pair would be
 // a struct made for this call, with the fact that `EndsRead` has.
 fn span_to(at: usize, end: usize) -> Span

@@ -54,6 +54,7 @@ pub fn read_store(bytes: &[u8]) -> Option<usize>
 }
 
 // The same, with tables for the places of N records.
+// Kept (6): the sort of `distinct` needs a second table to merge into, and one struct of both would be made and taken apart here.
 fn read_in<const N: usize>(bytes: &[u8]) -> Option<usize>
     requires { N ≤ 16384 }
     ensures { result ≡ store_from (decode_all bytes.now) }
@@ -86,8 +87,8 @@ fn read_records(bytes: &[u8], places: &mut [usize]) -> Option<usize>
 {
     let mut at = 0;
     let mut count = 0;
-    // Kept (3): `?` hands on the first bytes that are no record. A walk, as `listing_text::Walk` is, ends there as it ends behind the last record:
-    // `at` would be kept beside it all the same, for the table, and held against the length after it.
+    // Kept (3): `?` hands on the first bytes that are no record. By an iterator of places and readings, as ordered_store's `Entries` is, this one loop would be
+    // read: a struct, a relation and its words for it alone.
     while at < bytes.len() {
         let r = image::read_record(bytes, at)?;
         if count < places.len() {

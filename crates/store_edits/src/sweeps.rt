@@ -45,8 +45,8 @@ fn close_up(bytes: &mut [u8]) -> usize
 }
 
 // The state byte of the record at a place stands behind its identifier; its low two bits tell the state.
-// Kept (5): the places are those of a walk or a table; a struct of bytes and place with `At` as its ghost field (as `Held` has `fit`)
-// would be made and proved anew at each of them.
+// Kept (5): the tables of `distinct` hold bare places, and `close_up` writes the bytes that a struct of bytes and place with `At` as its ghost field
+// would borrow.
 fn is_terminated(bytes: &[u8], at: usize) -> bool
     requires { At bytes.now at }
     ensures { TerminatedAt bytes.now at result }

@@ -27,7 +27,7 @@ use Rattle.record_walk.specs.Walk.{At, end_at}
 use Rattle.store.specs.Counting.{records_held, count_answer}
 use Rattle.store.specs.Identifiers.{IdsRead}
 use Rattle.text.specs.Spans.{part_in}
-use Rattle.dialog_id.specs.IdTexts.{ident_in}
+use Rattle.dialog_id.specs.IdTexts.{ident_in, TextsShort}
 use Rattle.book.specs.Calls.{all_ids, read, written}
 use Rattle.record.specs.Store.{decode_all}
 use Rattle.book.specs.Book.{Book, records_image, identifiers_of, reply, reading_cause}
@@ -35,7 +35,7 @@ use Rattle.book.specs.Store.{run}
 use Rattle.dialog_manager.specs.Search.{Stored, IdsWithin}
 use Rattle.dialog_manager.proofs.SearchLaws.{Turn, standing, its_end, ids_within}
 use Rattle.dialog_manager.proofs.LookupLaws.{Kept, store_refuses, replies}
-use Rattle.store_ids.specs.Identifiers.{ids_in, IdsShort, length_at, TextsShort, texts_at}
+use Rattle.store_ids.specs.Identifiers.{ids_in, IdsShort, length_at, texts_at}
 
 -- ---- sizes
 

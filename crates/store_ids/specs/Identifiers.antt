@@ -23,10 +23,6 @@ IdsShort i = (i.id.call_id.length < 65536) × (i.id.local_tag.length < 65536) ×
 abbrev pub length_at : IdsAt → ℕ
 length_at i = 2 + i.id.call_id.length + 2 + i.id.local_tag.length + 2 + i.id.remote_tag.length
 
--- two bytes hold the length of each text of an identifier
-abbrev pub TextsShort : Ident → Type 0
-TextsShort i = (length i.call_id < 65536) × (length i.local_tag < 65536) × (length i.remote_tag < 65536)
-
 -- its bytes: each text with two length bytes in front
 abbrev pub texts_bytes : Ident → List ℕ
 texts_bytes i = text.write i.call_id ++ (text.write i.local_tag ++ text.write i.remote_tag)

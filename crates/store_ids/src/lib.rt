@@ -4,12 +4,12 @@
 ghost use Rattle.std.specs.Prelude.{◌≡◌, ◌+◌, ◌≤◌, length};
 ghost use Rattle.limits.specs.Limits.{rust_limits};
 ghost use Rattle.edit.specs.Edit.{over, put_at};
-ghost use Rattle.dialog_id.specs.IdTexts.{ident_of};
+ghost use Rattle.dialog_id.specs.IdTexts.{ident_of, TextsShort};
 ghost use Rattle.book.specs.Calls.{read, all_ids};
 ghost use Rattle.record.specs.Store.{decode_all};
 ghost use Rattle.book.specs.Store.{run, output_after};
 ghost use Rattle.dialog_manager.specs.Answers.{ids_written};
-ghost use Rattle.store_ids.specs.Identifiers.{ids_in, IdsShort, length_at, TextsShort, texts_bytes};
+ghost use Rattle.store_ids.specs.Identifiers.{ids_in, IdsShort, length_at, texts_bytes};
 
 use codec::{LENGTH_SIZE, write_text};
 use dialog_id::IdTexts;
@@ -74,7 +74,8 @@ fn write_all(held: Held<'_>, out: &mut [u8])
 }
 
 // An identifier at a place of the output: each text with its length bytes. The place after it.
-// Kept (2): an empty text is written too, as two length bytes, while `image_writer::write_ids` leaves it out.
+// Kept (2): an empty text is written too, as two length bytes, while `image_writer::write_ids` leaves it out. rseq_manager's `write_entry` has these three
+// lines: a function of them would make dialog_id stand on codec, with a contract of its own for lengths, room and bytes.
 // Kept (5): a type of three short texts would be put around `id` here and in rseq_manager, and taken off before codec's `write_text`.
 fn write_id(out: &mut [u8], to: usize, id: IdTexts<'_>) -> usize
     requires texts_short { TextsShort (ident_of id) }

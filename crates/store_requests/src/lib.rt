@@ -13,26 +13,26 @@ use dialog_id::request_id_in;
 use dialog_requests::request_by;
 use image_edit::RecordPlace;
 use limits::Refusal;
-use msg::HeaderTable;
+use msg::{HeaderTable, Request};
 use store_entries::locate;
 
 // The request entry: 1, 2, 3, 15, 4, 9; ACK: 11; others: 10, 11, 12; 18. The record that the block names is changed as by Dialog::update_from_request.
 // Kept (5, 6): C says how many of the lent bytes are used, perhaps too many: 3, in its turn among the causes; so both are taken as given.
-pub fn request(method: &[u8], block: &[u8], bytes: &mut [u8], used: usize) -> Result<usize, Refusal>
-    ensures value { result ≡ written_in (requesting rust_limits method.now block.now bytes.old used) }
-    ensures bytes_after { bytes.new ≡ (requesting rust_limits method.now block.now bytes.old used).bytes }
-    ensures used_value { used_after result used ≡ (requesting rust_limits method.now block.now bytes.old used).used }
+pub fn request(request: Request<'_>, bytes: &mut [u8], used: usize) -> Result<usize, Refusal>
+    ensures value { result ≡ written_in (requesting rust_limits request.entry.method.now request.entry.block.now bytes.old used) }
+    ensures bytes_after { bytes.new ≡ (requesting rust_limits request.entry.method.now request.entry.block.now bytes.old used).bytes }
+    ensures used_value { used_after result used ≡ (requesting rust_limits request.entry.method.now request.entry.block.now bytes.old used).used }
 {
-    text::check_length(method)?;
-    let t = msg::read_headers(block)?;
+    text::check_length(request.method)?;
+    let t = msg::read_headers(request.block)?;
     let cseq = t.cseq;
     let contact = t.contact;
-    let p = locate_named(bytes, used, block, t)?;
-    request_by(bytes, p, method, block, cseq, contact)
+    let p = locate_named(bytes, used, request.block, t)?;
+    request_by(bytes, p, request, cseq, contact)
 }
 
 // By the identifier that a block names, if it names one: 3, 15. A request from the peer has From as remote tag.
-// Kept (5, 6): what `locate` and `nowhere` are given, which read the store.
+// Kept (5, 6): 3 comes after 2: the two that are called check the used length, so that the caller cannot.
 fn locate_named(
     bytes: &[u8],
     used: usize,
@@ -50,7 +50,7 @@ fn locate_named(
 }
 
 // No identifier is named: 3, 15.
-// Kept (5, 6): the same that `locate` is given; here `count` reads the store.
+// Kept (5, 6): that the used length lies within the lent bytes is checked here, by `count`.
 fn nowhere(bytes: &[u8], used: usize) -> Result<RecordPlace, Refusal>
     ensures value { result ≡ standing_of used (spot_named None bytes.now used) }
     ensures ready { Ready bytes.now result }

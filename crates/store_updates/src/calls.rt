@@ -10,6 +10,7 @@ use dialog_id::IdTexts;
 use dialog_responses::response_at;
 use image_edit::RecordPlace;
 use limits::Refusal;
+use msg::Response;
 use store_entries::locate;
 use store_steps::{interval_at, local_at, terminate_at};
 
@@ -29,19 +30,18 @@ pub fn terminate(id: IdTexts<'_>, bytes: &mut [u8], used: usize) -> Result<usize
 // Kept (5, 6): C says how many of the lent bytes are used, perhaps too many: 3, in its turn among the causes; so both are taken as given.
 pub fn response(
     id: IdTexts<'_>,
-    status: u16,
-    block: &[u8],
+    response: Response<'_>,
     bytes: &mut [u8],
     used: usize,
 ) -> Result<usize, Refusal>
-    ensures value { result ≡ written_in (responding rust_limits id.entry.call_id.now id.entry.local_tag.now id.entry.remote_tag.now status block.now bytes.old used) }
-    ensures bytes_after { bytes.new ≡ (responding rust_limits id.entry.call_id.now id.entry.local_tag.now id.entry.remote_tag.now status block.now bytes.old used).bytes }
-    ensures used_value { used_after result used ≡ (responding rust_limits id.entry.call_id.now id.entry.local_tag.now id.entry.remote_tag.now status block.now bytes.old used).used }
+    ensures value { result ≡ written_in (responding rust_limits id.entry.call_id.now id.entry.local_tag.now id.entry.remote_tag.now response.entry.status response.entry.block.now bytes.old used) }
+    ensures bytes_after { bytes.new ≡ (responding rust_limits id.entry.call_id.now id.entry.local_tag.now id.entry.remote_tag.now response.entry.status response.entry.block.now bytes.old used).bytes }
+    ensures used_value { used_after result used ≡ (responding rust_limits id.entry.call_id.now id.entry.local_tag.now id.entry.remote_tag.now response.entry.status response.entry.block.now bytes.old used).used }
 {
     id.check_lengths()?;
-    msg::check_block(block)?;
+    msg::check_block(response.block)?;
     let p = locate(bytes, used, id)?;
-    response_at(bytes, p, status, block)
+    response_at(bytes, p, response)
 }
 
 // Dialog::set_session_expires, by identifier: 1, 3, 15, 13 with 90, 14, 18.

@@ -38,7 +38,7 @@ impl Span {
     }
 
     // The bytes that it names.
-    // Kept (5): a place is one of any lent bytes, which come with it.
+    // Kept (5): `Part` holds both; a `Span` is what answers and tables keep, without the text's lifetime, and what C is told.
     pub fn text<'a>(self, bytes: &'a [u8]) -> &'a [u8]
         requires { PartWithin bytes.now self }
         ensures { result.now ≡ part_in bytes.now self }
@@ -178,6 +178,7 @@ pub fn trim_span(s: &[u8]) -> Span
 }
 
 // The first word, empty where there is none.
+// Kept (1): no word is empty, so that an empty part says none; no number and no method is read of it, as none would be of an `Option`.
 pub fn first_word(s: &[u8]) -> Span
     ensures value { result ≡ word_span s.now }
     ensures length_in_bounds { result.start + result.length ≤ length s.now }

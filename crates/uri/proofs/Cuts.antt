@@ -8,6 +8,7 @@ use lib.ListN.{length, take, drop, length-take}
 use lib.Seq.{take-take, drop-drop}
 use borrow.Author.Tests.{lt-ltb, le-ltb, ltb-true, ltb-false}
 use Rattle.std.specs.Prelude.{None, Some}
+use Rattle.std.proofs.lemmas.List.{take_rest}
 use Rattle.text.specs.Text.{span, other, blanks, trimmed, trimmed_span, Piece}
 use Rattle.text.specs.Spans.{part_in}
 use Rattle.text.specs.declared.Span.{Span}
@@ -43,31 +44,42 @@ bracket_cut v n hn h =
 
 -- ---- the code's steps
 
--- of the k bytes from `at` on, n stand before the first `>`
-module _ (v : List ℕ) (at k n : ℕ) (hn : n ≡ span (other 62) (take k (drop at v))) where
-  pub unclosed : length (take k (drop at v)) ≤ n → in_brackets at (take k (drop at v)) ≡ None
+-- n bytes stand before the first `>`
+module _ (at : ℕ) (s : List ℕ) (n : ℕ) (hn : n ≡ span (other 62) s) where
+  pub unclosed : length s ≤ n → in_brackets at s ≡ None
   unfolding in_brackets
-  unclosed h = rw (← hn, le-ltb n (length (take k (drop at v))) h)
+  unclosed h = rw (← hn, le-ltb n (length s) h)
 
-  pub closed : n < length (take k (drop at v)) → in_brackets at (take k (drop at v)) ≡ Some (trimmed_piece at (take n (drop at v)))
+  pub closed : n < length s → in_brackets at s ≡ Some (trimmed_piece at (take n s))
   unfolding in_brackets
-  closed h =
-      let l : n ≤ k = omega (arith, length-take k (drop at v)) in
-      rw (← hn, lt-ltb n (length (take k (drop at v))) h, take-take n k (drop at v) l)
+  closed h = rw (← hn, lt-ltb n (length s) h)
+
+-- n bytes stand before the first `<`
+module _ (at : ℕ) (t : List ℕ) (n : ℕ) (hn : n ≡ span (other 60) t) where
+  bracket_of : n < length t → cut_uri at t ≡ in_brackets (at + n + 1) (drop (n + 1) t)
+  unfolding cut_uri
+  bracket_of h = rw (← hn, lt-ltb n (length t) h)
+
+  plain_of : (m : ℕ) → length t ≤ n → m ≡ span (other 59) t → cut_uri at t ≡ Some (trimmed_piece at (take m t))
+  unfolding cut_uri
+  plain_of m h hm = rw (← hn, le-ltb n (length t) h, ← hm)
 
 -- p is where the trimmed value stands, and t its bytes
 module _ (v : List ℕ) (p : Span) (hp : p ≡ trimmed_span v) (t : List ℕ) (ht : t ≡ part_in v p) where
-  pub whole : t ≡ trimmed v
+  whole : t ≡ trimmed v
   whole = rw (ht, hp) (trimmed_is v)
+
+  same_cut : uri_text v ≡ cut_uri p.start t
+  same_cut = rw (whole, hp)
 
   -- n bytes stand before the first `<`
   module _ (n : ℕ) (hn : n ≡ span (other 60) t) where
-    pub bracket : n < length t → in_brackets (p.start + n + 1) (take (p.length - (n + 1)) (drop (p.start + n + 1) v)) ≡ uri_text v
-    bracket h = rw (bracket_cut v n (rw whole at hn) (rw whole at h), hp)
+    pub bracket : n < length t → in_brackets (p.start + n + 1) (take (length t - (n + 1)) (drop (n + 1) t)) ≡ uri_text v
+    bracket h = rw (take_rest t (n + 1)) (sym (same_cut ∙ bracket_of p.start t n hn h))
 
     -- there is none, and m bytes stand before the first `;`
-    pub plain : (m : ℕ) → length t ≤ n → m ≡ span (other 59) t → uri_text v ≡ Some (trimmed_piece p.start (take m (drop p.start v)))
-    plain m h hm = rw (plain_cut v n m (rw whole at hn) (rw whole at h) (rw whole at hm), hp)
+    pub plain : (m : ℕ) → length t ≤ n → m ≡ span (other 59) t → uri_text v ≡ Some (trimmed_piece p.start (take m t))
+    plain m h hm = same_cut ∙ plain_of p.start t n hn m h hm
 
 -- ---- where the text stands
 
@@ -87,9 +99,11 @@ in_stands v at k {p} h e = by (has 62 (take k (drop at v))) refl
 
     by : (t : Bool) → has 62 (take k (drop at v)) ≡ t → Stands v p
     by true g =
-        let q : trimmed_piece at (take n (drop at v)) ≡ p = cc (closed v at k n refl (ltb-true _ _ g)) in
-        rw (← q) (trimmed_stands v at n h)
-    by false g = absurd (let z : ◌≡◌ {A = ℕ} 0 1 = cc (unclosed v at k n refl (ltb-false _ _ g)) in omega arith)
+        let l : n < length (take k (drop at v)) = ltb-true _ _ g in
+        let q : trimmed_piece at (take n (take k (drop at v))) ≡ p = cc (closed at (take k (drop at v)) n refl l) in
+        let r : take n (take k (drop at v)) ≡ take n (drop at v) = take-take n k (drop at v) (omega (arith, length-take k (drop at v))) in
+        rw (← q, r) (trimmed_stands v at n h)
+    by false g = absurd (let z : ◌≡◌ {A = ℕ} 0 1 = cc (unclosed at (take k (drop at v)) n refl (ltb-false _ _ g)) in omega arith)
 
 -- the text that is read as the URI stands in the value
 pub text_stands : (v : List ℕ) {p : Piece} → uri_text v ≡ Some p → Stands v p

@@ -6,6 +6,7 @@ ghost use Rattle.uri.specs.Steps.{host_from, InsideHost, after_host_from};
 use uri_bytes::{Class, all_of, ends_host, ends_port, run};
 
 // A host in brackets, or a name up to `:`, `;`, `?` or the end.
+// Kept (1): the pattern tells the proof that there is a byte, and which; by `*s.first()?` four answers have to be given both.
 pub fn read_host(s: &[u8]) -> Option<usize>
     ensures value { result ≡ host_from (host_text s.now) }
     ensures inside_host { InsideHost s.now result }

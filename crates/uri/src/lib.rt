@@ -1,18 +1,17 @@
 // The stand-in for the Rust's SipUri, and the URI in a header value.
 #![tactic(auto)]
 
-ghost use Rattle.std.specs.Prelude.{◌≡◌, ◌+◌, ◌-◌, ◌≤◌, length, take, drop, ltb};
+ghost use Rattle.std.specs.Prelude.{◌≡◌, ◌≤◌, length, drop, ltb};
 ghost use Rattle.limits.specs.Limits.{rust_limits};
 ghost use Rattle.text.specs.Answers.{lookup_of, span_of};
 ghost use Rattle.uri.specs.SipUri.{uri_answer, read_uri, estimate_answer, read_estimate, uri_from, user_at, sip_uri, with_user, with_host};
 ghost use Rattle.uri.specs.HeaderUri.{uri_from_header, header_uri_from, header_uri, uri_text, in_brackets};
 ghost use Rattle.text.specs.Text.{trimmed_piece};
-ghost use Rattle.text.specs.Spans.{part_in, PartWithin};
 ghost use Rattle.uri.specs.Steps.{Inside, UserInside, UserStep, cut_from, of_uri, scheme_length, size_of, user_in, user_size};
 
 use authority::{after_host, read_host};
 use limits::{Limits, Refusal};
-use text::Span;
+use text::{Part, Span};
 use uri_bytes::{Class, all_of, run};
 
 mod authority;
@@ -28,7 +27,7 @@ pub struct SipUri {
 
 // A given URI: 1, 6.
 // Kept (1): document 01 has the reading of a URI opened by `let .. else`.
-// Kept (2): two readings that document 01 opens by `let .. else`, each with its check, type and refusal; a generic one would be lent all three.
+// Kept (2): `rack::parse_rack` is this with another check, reading and refusal; a function over both would be lent the three.
 pub fn sip_uri(s: &[u8]) -> Result<SipUri, Refusal>
     ensures { result ≡ uri_answer (read_uri rust_limits s.now) }
 {
@@ -199,39 +198,32 @@ fn uri_text(value: &[u8]) -> Option<Span>
     let whole = text::trim_span(value);
     let t = whole.text(value);
     if let Some(n) = text::find(t, b'<') {
-        let behind = Span {
-            start: whole.start + n + 1,
-            length: whole.length - (n + 1),
-        };
-        return in_brackets(value, behind);
+        return in_brackets(Part {
+            place: whole.start + n + 1,
+            text: &t[n + 1..],
+        });
     }
     let n = text::find(t, b';').unwrap_or(t.len());
-    let front = Span {
-        start: whole.start,
-        length: n,
-    };
-    Some(trimmed_part(value, front))
+    Some(trimmed_part(Part {
+        place: whole.start,
+        text: &t[..n],
+    }))
 }
 
 // The same, of the part behind the `<`.
-// Kept (5): the fact is the clause of `Span::text`, by which the bytes of the part are had; a `Part` made of both would be taken apart at once.
-fn in_brackets(value: &[u8], part: Span) -> Option<Span>
-    requires { PartWithin value.now part }
-    ensures { result ≡ cut_from (in_brackets part.start (part_in value.now part)) }
+fn in_brackets(part: Part<'_>) -> Option<Span>
+    ensures { result ≡ cut_from (in_brackets part.entry.place part.entry.text.now) }
 {
-    let n = text::find(part.text(value), b'>')?;
-    let front = Span {
-        start: part.start,
-        length: n,
-    };
-    Some(trimmed_part(value, front))
+    let n = text::find(part.text, b'>')?;
+    Some(trimmed_part(Part {
+        place: part.place,
+        text: &part.text[..n],
+    }))
 }
 
 // Where a part stands without its blanks.
-// Kept (5): as for `in_brackets`: the clause of `Span::text`.
-fn trimmed_part(value: &[u8], part: Span) -> Span
-    requires { PartWithin value.now part }
-    ensures { result ≡ span_of (trimmed_piece part.start (part_in value.now part)) }
+fn trimmed_part(part: Part<'_>) -> Span
+    ensures { result ≡ span_of (trimmed_piece part.entry.place part.entry.text.now) }
 {
-    text::trim_span(part.text(value)).moved(part.start)
+    text::trim_span(part.text).moved(part.place)
 }

@@ -60,7 +60,7 @@ pub fn ends_host(b: u8) -> bool
     b == b':' || ends_port(b)
 }
 
-// Kept (7): a table of five rows: the class names a row, in the word that the clauses cite (`in_class`).
+// Kept (7): a table of five rows. As types, as text's classes are, five impls of `ByteClass` would have one body, the test of a set.
 fn set_of(k: Class) -> ByteSet
     ensures { result ≡ set_of k }
 {

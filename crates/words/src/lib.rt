@@ -6,6 +6,7 @@ ghost use Rattle.text.specs.Text.{words};
 ghost use Rattle.words.specs.Words.{word_at};
 
 // The first word, empty where there is none.
+// Kept (1): no word is empty, so that an empty part says none; no number and no method is read of it, as none would be of an `Option`.
 pub fn word(s: &[u8]) -> &[u8]
     ensures { result.now ≡ word_at 0 s.now }
 {

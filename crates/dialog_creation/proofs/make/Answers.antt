@@ -11,23 +11,22 @@ use Rattle.limits.specs.declared.Refusal.TheVariants.{MissingHeader, InvalidStat
 use Rattle.dialog_rules.specs.Creation.{state_by}
 use Rattle.creation_readings.specs.Steps.{first_state}
 use Rattle.output.specs.Output.{leaves, written_from}
-use Rattle.route_section.proofs.SectionLaws.{measured_size}
 use Rattle.dialog_creation.proofs.MadeLaws.{refusal, Named, named, id_fits, peer_short, target_short, no_identifier, no_state, over_estimate_lem, rest_refused, image_is, given_part, absent_part}
 use Rattle.dialog_creation.proofs.make.Goals as goal
 use Rattle.dialog_creation.proofs.make.Given.{Over}
 use Rattle.dialog_creation.proofs.make.Goals.{After-peer_block-peer, In_ok-id, In_ok-state}
 
 -- the identifier that was read
-id_named : (g : Over) (c : In_ok-id g) → Named g.S.Side.WE_ARE_UAC c.args.c.response.now c.in_ok-id.id
-id_named g c = named g.S.Side.WE_ARE_UAC c.args.c.response.now c.in_ok-id.id (sym c.identifier.ensures ∙ given_part _ _ (sym c.ok_or.ensures.value ∙ c.in_ok-id.was))
+id_named : (g : Over) (c : In_ok-id g) → Named g.S.Side.WE_ARE_UAC c.args.c.response.block.now c.in_ok-id.id
+id_named g c = named g.S.Side.WE_ARE_UAC c.args.c.response.block.now c.in_ok-id.id (sym c.identifier.ensures ∙ given_part _ _ (sym c.ok_or.ensures.value ∙ c.in_ok-id.was))
 
 -- the state by the status
-state_read : (g : Over) (c : In_ok-state g) → first_state (state_by c.args.c.status) ≡ Some c.in_ok-state.state
+state_read : (g : Over) (c : In_ok-state g) → first_state (state_by c.args.c.response.status) ≡ Some c.in_ok-state.state
 state_read g c = sym c.state_for.ensures ∙ given_part _ _ (sym c.ok_or-2.ensures.value ∙ c.in_ok-state.was)
 
 -- the message with Contact and Record-Route is short
 peer_fits : (g : Over) (c : After-peer_block-peer g) → length c.peer_block-peer.result.now ≤ 8192
-peer_fits g c = peer_short g.S.Side.WE_ARE_UAC c.args.c.request.now c.args.c.response.now c.peer_block-peer.ensures c.requires.0 c.requires.1
+peer_fits g c = peer_short g.S.Side.WE_ARE_UAC c.args.c.request.block.now c.args.c.response.block.now c.peer_block-peer.ensures c.requires.0 c.requires.1
 
 pub returns-in_err-id : goal.returns-in_err-id
 returns-in_err-id g c =
@@ -55,17 +54,13 @@ returns-in_err-check_estimates g c =
 pub texts-id-requires : goal.texts-id-requires
 texts-id-requires g c =
     let a = c.args in
-    id_fits g.S.Side.WE_ARE_UAC a.c.response.now c.in_ok-id.id (id_named g (goal.at.texts-id-requires g c).In_ok-id)
+    id_fits g.S.Side.WE_ARE_UAC a.c.response.block.now c.in_ok-id.id (id_named g (goal.at.texts-id-requires g c).In_ok-id)
 
 pub invariant_of-uris : goal.invariant_of-uris
 invariant_of-uris g c =
     let h = c.requires in
     let t = target_short c.args.c.remote_uri.now c.peer_block-peer.result.now (c.target-target.ensures.result_value) h.3 (peer_fits g (goal.at.invariant_of-uris g c).After-peer_block-peer) in
     record { short = (omega arith, omega arith, omega arith) }
-
-pub write_image-requires-clause-size_value : goal.write_image-requires-clause-size_value
-write_image-requires-clause-size_value g c =
-    measured_size g.S.Side.WE_ARE_UAC c.in_ok-numbers.routes.block.now c.in_ok-numbers.ensures.measured.1.1
 
 pub returns-in_err-numbers : goal.returns-in_err-numbers
 returns-in_err-numbers g c =

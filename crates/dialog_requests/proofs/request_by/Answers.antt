@@ -28,29 +28,29 @@ use Rattle.dialog_requests.proofs.RequestLaws.{no_number, number_refused, number
 use Rattle.dialog_requests.proofs.request_by.Goals as goal
 
 pub cseq_at-requires : goal.cseq_at-requires
-cseq_at-requires c = subst (λ (f : Option (Span × ℕ)). end_of f ≤ length c.args.block.now) (sym c.requires.block_value.1) (end_of_lem cseq_name _)
+cseq_at-requires c = subst (λ (f : Option (Span × ℕ)). end_of f ≤ length c.args.request.block.now) (sym c.requires.block_value.1) (end_of_lem cseq_name _)
 
 pub returns-in_default : goal.returns-in_default
 returns-in_default c =
     let a = c.args in
     let s = take a.p.used a.bytes.now in
-    let k = kind_of a.method.now in
+    let k = kind_of a.request.method.now in
     let h = stands_held c.args.bytes.now c.args.p (λ i. (c.slice_known-1.given i).fits) c.requires.stands in
-    let old : _ × _ = refused_leaves a.bytes.now (stepped (request_update rust_limits k a.block.now) (length a.bytes.now) a.p.at s)
-    (stepped_refused s a.p.at a.p.record h (request_update rust_limits k a.block.now) (length a.bytes.now) (no_number rust_limits k a.block.now h.value (unreadable (cseq_number a.block.now) (c.cseq_at.ensures ∙ cseq_found a.block.now _ c.requires.block_value.1) c.in_default.is))) in
+    let old : _ × _ = refused_leaves a.bytes.now (stepped (request_update rust_limits k a.request.block.now) (length a.bytes.now) a.p.at s)
+    (stepped_refused s a.p.at a.p.record h (request_update rust_limits k a.request.block.now) (length a.bytes.now) (no_number rust_limits k a.request.block.now h.value (unreadable (cseq_number a.request.block.now) (c.cseq_at.ensures ∙ cseq_found a.request.block.now _ c.requires.block_value.1) c.in_default.is))) in
     record { value = old.0; bytes_after = old.1 }
 
 pub contact_at-target-requires : goal.contact_at-target-requires
-contact_at-target-requires c = subst (λ (f : Option (Span × ℕ)). end_of f ≤ length c.args.block.now) (sym c.requires.block_value.2) (end_of_lem contact_name _)
+contact_at-target-requires c = subst (λ (f : Option (Span × ℕ)). end_of f ≤ length c.args.request.block.now) (sym c.requires.block_value.2) (end_of_lem contact_name _)
 
 pub revise_to-requires-clause-block_value : goal.revise_to-requires-clause-block_value
-revise_to-requires-clause-block_value c = (omega (arith, c.requires.block_value.0), c.contact_at-target.ensures ∙ contact_found c.args.block.now _ c.requires.block_value.2)
+revise_to-requires-clause-block_value c = (omega (arith, c.requires.block_value.0), c.contact_at-target.ensures ∙ contact_found c.args.request.block.now _ c.requires.block_value.2)
 
 pub returns : goal.returns
 returns c =
     let a = c.args in
     let s = take a.p.used a.bytes.now in
-    let k = kind_of a.method.now in
+    let k = kind_of a.request.method.now in
     let h = stands_held c.args.bytes.now c.args.p (λ i. (c.slice_known-1.given i).fits) c.requires.stands in
     let n = c.in-Some.n in
     let x = meaning c.in_ok-x.x in
@@ -59,15 +59,15 @@ returns c =
     ∙ ap (λ (y : Kind). request_step rust_limits y n (meaning a.p.record.numbers)) (sym c.kind_of.ensures)
     ∙ sym c.request.ensures
     ∙ ap outcome_in c.in_ok-x.was in
-    let f = stepped_given s a.p.at a.p.record h (request_update rust_limits k a.block.now) (length a.bytes.now) (λ v. retargeted a.block.now (with_numbers x v)) (number_taken rust_limits k a.block.now h.value n x (readable (cseq_number a.block.now) (c.cseq_at.ensures ∙ cseq_found a.block.now _ c.requires.block_value.1) c.in-Some.is) e) in
-    let old : _ × _ = result_as a.bytes.now (stepped (request_update rust_limits k a.block.now) (length a.bytes.now) a.p.at s) (fitted (length a.bytes.now) (changed (λ v. retargeted a.block.now (with_numbers x v)) a.p.at s)) c.revise_to.result c.revise_to.new.bytes f (c.revise_to.ensures.value, c.revise_to.ensures.bytes_after) in
+    let f = stepped_given s a.p.at a.p.record h (request_update rust_limits k a.request.block.now) (length a.bytes.now) (λ v. retargeted a.request.block.now (with_numbers x v)) (number_taken rust_limits k a.request.block.now h.value n x (readable (cseq_number a.request.block.now) (c.cseq_at.ensures ∙ cseq_found a.request.block.now _ c.requires.block_value.1) c.in-Some.is) e) in
+    let old : _ × _ = result_as a.bytes.now (stepped (request_update rust_limits k a.request.block.now) (length a.bytes.now) a.p.at s) (fitted (length a.bytes.now) (changed (λ v. retargeted a.request.block.now (with_numbers x v)) a.p.at s)) c.revise_to.result c.revise_to.new.bytes f (c.revise_to.ensures.value, c.revise_to.ensures.bytes_after) in
     record { value = old.0; bytes_after = old.1 }
 
 pub returns-in_err-x : goal.returns-in_err-x
 returns-in_err-x c =
     let a = c.args in
     let s = take a.p.used a.bytes.now in
-    let k = kind_of a.method.now in
+    let k = kind_of a.request.method.now in
     let h = stands_held c.args.bytes.now c.args.p (λ i. (c.slice_known-1.given i).fits) c.requires.stands in
     let n = c.in-Some.n in
     let e : request_step rust_limits k n h.value.numbers ≡ Err c.in_err-x.field-0.0 =
@@ -75,6 +75,6 @@ returns-in_err-x c =
     ∙ ap (λ (y : Kind). request_step rust_limits y n (meaning a.p.record.numbers)) (sym c.kind_of.ensures)
     ∙ sym c.request.ensures
     ∙ ap outcome_in c.in_err-x.was in
-    let old : _ × _ = refused_leaves a.bytes.now (stepped (request_update rust_limits k a.block.now) (length a.bytes.now) a.p.at s)
-    (stepped_refused s a.p.at a.p.record h (request_update rust_limits k a.block.now) (length a.bytes.now) (number_refused rust_limits k a.block.now h.value n (readable (cseq_number a.block.now) (c.cseq_at.ensures ∙ cseq_found a.block.now _ c.requires.block_value.1) c.in-Some.is) e)) in
+    let old : _ × _ = refused_leaves a.bytes.now (stepped (request_update rust_limits k a.request.block.now) (length a.bytes.now) a.p.at s)
+    (stepped_refused s a.p.at a.p.record h (request_update rust_limits k a.request.block.now) (length a.bytes.now) (number_refused rust_limits k a.request.block.now h.value n (readable (cseq_number a.request.block.now) (c.cseq_at.ensures ∙ cseq_found a.request.block.now _ c.requires.block_value.1) c.in-Some.is) e)) in
     record { value = err_is c.from_residual.result _ c.from_residual.ensures.1 ∙ old.0; bytes_after = old.1 }

@@ -18,32 +18,32 @@ use Rattle.dialog_requests.proofs.update_from_request.Goals as goal
 pub returns-in_err-check_length : goal.returns-in_err-check_length
 returns-in_err-check_length c =
     let a = c.args in
-    let q = length_stopped rust_limits c.args.method.now (sym c.check_length.ensures ∙ c.in_err-check_length.was) in
-    let old : _ × _ = refused_leaves a.bytes.now (requested rust_limits a.method.now a.block.now a.bytes.now a.used) (long_method rust_limits a.method.now a.block.now a.bytes.now a.used q.0) in
+    let q = length_stopped rust_limits c.args.request.method.now (sym c.check_length.ensures ∙ c.in_err-check_length.was) in
+    let old : _ × _ = refused_leaves a.bytes.now (requested rust_limits a.request.method.now a.request.block.now a.bytes.now a.used) (long_method rust_limits a.request.method.now a.request.block.now a.bytes.now a.used q.0) in
     record { value = err_is c.from_residual.result _ c.from_residual.ensures.1 ∙ ap Err q.1 ∙ old.0; bytes_after = old.1 }
 
 pub returns-in_err-check_block : goal.returns-in_err-check_block
 returns-in_err-check_block c =
     let a = c.args in
-    let old : _ × _ = refused_leaves a.bytes.now (requested rust_limits a.method.now a.block.now a.bytes.now a.used) (bad_block rust_limits a.method.now a.block.now a.bytes.now a.used (length_passed rust_limits c.args.method.now (sym c.check_length.ensures ∙ c.in_ok-check_length.was)) (sym c.check_block.ensures ∙ c.in_err-check_block.was)) in
+    let old : _ × _ = refused_leaves a.bytes.now (requested rust_limits a.request.method.now a.request.block.now a.bytes.now a.used) (bad_block rust_limits a.request.method.now a.request.block.now a.bytes.now a.used (length_passed rust_limits c.args.request.method.now (sym c.check_length.ensures ∙ c.in_ok-check_length.was)) (sym c.check_block.ensures ∙ c.in_err-check_block.was)) in
     record { value = err_is c.from_residual-in_err-check_block.result _ c.from_residual-in_err-check_block.ensures.1 ∙ old.0; bytes_after = old.1 }
 
 pub returns-in_err-p : goal.returns-in_err-p
 returns-in_err-p c =
     let a = c.args in
-    let old : _ × _ = refused_leaves a.bytes.now (requested rust_limits a.method.now a.block.now a.bytes.now a.used) (no_record rust_limits a.method.now a.block.now a.bytes.now a.used (length_passed rust_limits c.args.method.now (sym c.check_length.ensures ∙ c.in_ok-check_length.was)) (sym c.check_block.ensures ∙ c.in_ok-check_block.was) (used_refused a.bytes.now a.used (sym c.in_err-p.was ∙ c.read_used.ensures.value))) in
+    let old : _ × _ = refused_leaves a.bytes.now (requested rust_limits a.request.method.now a.request.block.now a.bytes.now a.used) (no_record rust_limits a.request.method.now a.request.block.now a.bytes.now a.used (length_passed rust_limits c.args.request.method.now (sym c.check_length.ensures ∙ c.in_ok-check_length.was)) (sym c.check_block.ensures ∙ c.in_ok-check_block.was) (used_refused a.bytes.now a.used (sym c.in_err-p.was ∙ c.read_used.ensures.value))) in
     record { value = err_is c.from_residual-in_err-p.result _ c.from_residual-in_err-p.ensures.1 ∙ old.0; bytes_after = old.1 }
 
 pub request_at-requires-clause-block_bound : goal.request_at-requires-clause-block_bound
-request_at-requires-clause-block_bound c = short_block rust_limits c.args.block.now (sym c.check_block.ensures ∙ c.in_ok-check_block.was)
+request_at-requires-clause-block_bound c = short_block rust_limits c.args.request.block.now (sym c.check_block.ensures ∙ c.in_ok-check_block.was)
 
 pub returns : goal.returns
 returns c =
     let a = c.args in
     let p = c.in_ok-p.p in
-    let step = request_update rust_limits (kind_of a.method.now) a.block.now in
-    let e = as_image rust_limits a.method.now a.block.now a.bytes.now a.used (length_passed rust_limits c.args.method.now (sym c.check_length.ensures ∙ c.in_ok-check_length.was)) (sym c.check_block.ensures ∙ c.in_ok-check_block.was) in
-    let old : _ × _ = result_as a.bytes.now (requested rust_limits a.method.now a.block.now a.bytes.now a.used) (stepped step (length a.bytes.now) p.at (take p.used a.bytes.now)) c.request_at.result c.request_at.new.bytes
+    let step = request_update rust_limits (kind_of a.request.method.now) a.request.block.now in
+    let e = as_image rust_limits a.request.method.now a.request.block.now a.bytes.now a.used (length_passed rust_limits c.args.request.method.now (sym c.check_length.ensures ∙ c.in_ok-check_length.was)) (sym c.check_block.ensures ∙ c.in_ok-check_block.was) in
+    let old : _ × _ = result_as a.bytes.now (requested rust_limits a.request.method.now a.request.block.now a.bytes.now a.used) (stepped step (length a.bytes.now) p.at (take p.used a.bytes.now)) c.request_at.result c.request_at.new.bytes
     (e ∙ stepped_place a.bytes.now a.used p (place_read a.bytes.now a.used p (sym c.in_ok-p.was ∙ c.read_used.ensures.value)) (λ i. (c.slice_known-1.given i).fits) step)
     (c.request_at.ensures.value, c.request_at.ensures.bytes_after) in
     record { value = old.0; bytes_after = old.1 }

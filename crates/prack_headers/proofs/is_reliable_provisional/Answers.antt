@@ -13,7 +13,7 @@ use Rattle.msg.specs.Block.{first_named, found_of, lines_of}
 use Rattle.prack_headers.specs.Sequence.{rseq_name, reliable_answer}
 use Rattle.prack_headers.proofs.ReadingLaws.{stopped_test, done_test, line_stands, reliable_same}
 use Rattle.prack_headers.proofs.is_reliable_provisional.Goals as goal
-use Rattle.prack_headers.proofs.is_reliable_provisional.Goals.{then-status-le100-via-then-status-le100, then-status-le100-via-else-status-le100+then-status-ge200}
+use Rattle.prack_headers.proofs.is_reliable_provisional.Goals.{then-response-le100-via-then-response-le100, then-response-le100-via-else-response-le100+then-response-ge200}
 
 pub returns-in_err-check_block : goal.returns-in_err-check_block
 returns-in_err-check_block c = rw (stopped_test rust_limits _ _ c.check_block.ensures c.in_err-check_block.was) (search rules)
@@ -27,14 +27,14 @@ outside n h = by (leb 101 n) (leb n 199) refl refl
     by true false e f = refl
     by true true e f = absurd (h (omega (arith, leb-true 101 n e)) (omega (arith, leb-true n 199 f)))
 
-pub returns-then-status-le100 : goal.returns-then-status-le100
-returns-then-status-le100 c =
-    let h : 100 < c.args.status → c.args.status < 200 → ⊥ = (λ (x : 100 < c.args.status) (y : c.args.status < 200). elim c.then-status-le100.branch [ then-status-le100-via-then-status-le100 w ↦ omega arith | then-status-le100-via-else-status-le100+then-status-ge200 w ↦ omega arith ]) in
-    ap reliable_answer (sym (done_test rust_limits c.args.status _ c.check_block.ensures false c.in_ok-check_block.was (rw (outside c.args.status h))))
+pub returns-then-response-le100 : goal.returns-then-response-le100
+returns-then-response-le100 c =
+    let h : 100 < c.args.response.status → c.args.response.status < 200 → ⊥ = (λ (x : 100 < c.args.response.status) (y : c.args.response.status < 200). elim c.then-response-le100.branch [ then-response-le100-via-then-response-le100 w ↦ omega arith | then-response-le100-via-else-response-le100+then-response-ge200 w ↦ omega arith ]) in
+    ap reliable_answer (sym (done_test rust_limits c.args.response.status _ c.check_block.ensures false c.in_ok-check_block.was (rw (outside c.args.response.status h))))
 
 pub returns : goal.returns
 returns c =
-    let o = first_named rseq_name (lines_of c.args.block.now) in
+    let o = first_named rseq_name (lines_of c.args.response.block.now) in
     ap Ok (c.is_some.ensures ∙ ap is_some c.find.ensures)
     ∙ reliable_same (is_some (found_of o))
-    ∙ ap reliable_answer (sym (done_test rust_limits c.args.status _ c.check_block.ensures (is_some (found_of o)) c.in_ok-check_block.was (rw (le-leb 101 c.args.status (omega arith), le-leb c.args.status 199 (omega arith)) (line_stands o))))
+    ∙ ap reliable_answer (sym (done_test rust_limits c.args.response.status _ c.check_block.ensures (is_some (found_of o)) c.in_ok-check_block.was (rw (le-leb 101 c.args.response.status (omega arith), le-leb c.args.response.status 199 (omega arith)) (line_stands o))))

@@ -9,7 +9,7 @@ use Rattle.limits.specs.Limits.{rust_limits}
 use Rattle.route_set.specs.Routes.{routes_of}
 use Rattle.route_section.specs.Section.{section_from}
 use Rattle.route_section.proofs.FillingLaws.{answered_held, answered_refused}
-use Rattle.route_section.proofs.SectionLaws.{Read, routes_read, routes_refused, measured_same}
+use Rattle.route_section.proofs.SectionLaws.{Read, routes_read, routes_refused, measured_same, measured_size}
 use Rattle.route_section.proofs.measure_routes.Goals as goal
 use Rattle.route_section.proofs.measure_routes.Goals.{In_ok-count}
 
@@ -28,5 +28,12 @@ same c = measured_same _ _ _ _ (read c)
 pub returns-clause-value : goal.returns-clause-value
 returns-clause-value c = ap (λ (n : ℕ). Ok (c.in_ok-count.count, n)) c.section_size-size.ensures ∙ same (goal.at.returns-clause-value c).In_ok-count
 
+-- count and size are those of the section
+counted : (c : In_ok-count) {size : ℕ} → size ≡ cond (eqb c.in_ok-count.count 0) 0 (1 + c.in_ok-count.texts) → section_from (routes_of rust_limits c.args.block.now) ≡ Ok (c.in_ok-count.count, size)
+counted c e = sym (ap (λ (n : ℕ). Ok (c.in_ok-count.count, n)) e ∙ same c)
+
+pub invariant_of-result : goal.invariant_of-result
+invariant_of-result c = record { short = c.requires; sized = measured_size false c.args.block.now (counted (goal.at.invariant_of-result c).In_ok-count c.section_size-size.ensures) }
+
 pub returns-clause-measured : goal.returns-clause-measured
-returns-clause-measured c = (refl, (c.requires, sym (ap (λ (n : ℕ). Ok (c.in_ok-count.count, n)) c.section_size-size.ensures ∙ same (goal.at.returns-clause-measured c).In_ok-count)))
+returns-clause-measured c = (refl, counted (goal.at.returns-clause-measured c).In_ok-count c.section_size-size.ensures)

@@ -9,7 +9,8 @@ use Rattle.codec.proofs.CodecLaws.{bytes_all}
 use Rattle.image.specs.declared.sections.IdsAt.{IdsAt}
 use Rattle.store.specs.Identifiers.{IdsRead}
 use Rattle.dialog_id.specs.Ident.{Ident}
-use Rattle.store_ids.specs.Identifiers.{TextsShort, texts_bytes}
+use Rattle.dialog_id.specs.IdTexts.{TextsShort}
+use Rattle.store_ids.specs.Identifiers.{texts_bytes}
 use Rattle.record_walk.proofs.Walks.{Given, begun, given, ended}
 use Rattle.dialog_manager.proofs.SearchLaws.{stored_held}
 use Rattle.store_ids.proofs.IdentifierLaws.{More, Filled, done, next, fill, free, filled, texts_short}

@@ -6,4 +6,4 @@ use Rattle.replay_lines.proofs.rows.nth_part.Goals as goal
 pub returns : goal.returns
 returns c =
     nth_from_yields_List _ _ _ c.nth.ensures.ran
-    (YieldsList-from_slice_split _ (λ b. b == c.args.between) c.args.s.now c.split.ensures.rest c.split.ensures.done c.split.ensures.closure (λ x b q k. search rules))
+    (YieldsList-from_slice_split _ (λ b. b == c.args.separator) c.args.s.now c.split.ensures.rest c.split.ensures.done c.split.ensures.closure (λ x b q k. search rules))

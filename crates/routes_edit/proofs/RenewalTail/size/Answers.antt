@@ -15,7 +15,7 @@ overflow_add-result c = omega (arith, c.numbers_size.ensures.upper_bound, (measu
 pub returns-clause-value : goal.returns-clause-value
 returns-clause-value c =
     let r = c.args.self in
-    omega (arith, c.numbers_size.ensures.value, measured_size r.peer r.measured, length-append (numbers_bytes (meaning r.numbers)) (section_in true (given_by r.peer)))
+    omega (arith, c.numbers_size.ensures.value, measured_size r.peer, length-append (numbers_bytes (meaning r.numbers)) (section_in true (given_by r.peer)))
 
 pub returns-clause-upper_bound : goal.returns-clause-upper_bound
 returns-clause-upper_bound c = omega (arith, c.numbers_size.ensures.upper_bound, (measured c.args.self.peer c.args.self.measured).small)

@@ -21,7 +21,7 @@ use Rattle.routes_edit.proofs.RenewalTail.write.Goals.{Start}
 room : (c : Start) → c.args.at + (length (numbers_bytes (meaning c.args.self.numbers)) + c.args.self.peer.size) ≤ length c.args.bytes.now
 room c =
     let r = c.args.self in
-    omega (arith, c.requires, measured_size r.peer r.measured, length-append (numbers_bytes (meaning r.numbers)) (section_in true (given_by r.peer)))
+    omega (arith, c.requires, measured_size r.peer, length-append (numbers_bytes (meaning r.numbers)) (section_in true (given_by r.peer)))
 
 pub overflow_add-e : goal.overflow_add-e
 overflow_add-e c =
@@ -37,7 +37,7 @@ pub write_routes-requires : goal.write_routes-requires
 write_routes-requires c =
     let r = c.args.self in
     let k = room (goal.at.write_routes-requires c).Start in
-    let m : r.peer.size ≡ length (section_in true (given_by r.peer)) = measured_size r.peer r.measured in
+    let m : r.peer.size ≡ length (section_in true (given_by r.peer)) = measured_size r.peer in
     search rules
 
 pub returns : goal.returns
@@ -47,7 +47,7 @@ returns c =
     let x = numbers_bytes (meaning r.numbers) in
     let t = section_in true (given_by r.peer) in
     let w = c.write_numbers-a in
-    lent_put w.result r.peer.size w.new.out c.write_routes.new.out (ap length c.write_routes.ensures ∙ sym (measured_size r.peer r.measured))
+    lent_put w.result r.peer.size w.new.out c.write_routes.new.out (ap length c.write_routes.ensures ∙ sym (measured_size r.peer))
     ∙ ap (λ (l : List ℕ). put_at w.result l w.new.out) c.write_routes.ensures
     ∙ ap (put_at w.result t) w.ensures.out_after
     ∙ ap (λ (n : ℕ). put_at n t (put_at a.at x a.bytes.now)) w.ensures.value
