@@ -21,7 +21,8 @@
  *
  * Header block: lines `name:value` CRLF, the last one too; a name has letters, digits and `-`, at least one; a value has
  * bytes 9 and 32 to 126. An empty block is valid. Blanks (space and tab) at both ends aren't part of a value that is answered.
- * Names of headers are compared without regard to letter case; short forms of them aren't known.
+ * Names of headers are compared without regard to letter case. `i`, `f`, `t`, `m` and `x` are Call-ID, From, To, Contact and
+ * Session-Expires, whichever spelling stands in the block and whichever is asked for; no other short names are known.
  */
 #ifndef SIP_DIALOG_H
 #define SIP_DIALOG_H

@@ -250,7 +250,7 @@ static void test_header(void)
     CHECK(is_at(header(block, "vIA"), 4, 2));
     CHECK(is_part(header(block, "to"), block, "to text"));
     CHECK(is_at(header(block, "E"), strlen(block) - 2, 0));
-    CHECK(is_nothing(header(block, "T")));
+    CHECK(is_part(header(block, "T"), block, "to text"));
     CHECK(is_nothing(header(block, "Too")));
     CHECK(is_nothing(header(block, "To:")));
     CHECK(is_nothing(header(block, "")));
@@ -307,6 +307,40 @@ static void test_next_header(void)
     CHECK(is_refused(next_header(long_block(buffer, "", LONGEST + 1), "X-1", 0), 1));
     CHECK(is_nothing(next_header(block, filled(buffer, "", 'a', "", LONGEST), 0)));
     CHECK(is_refused(next_header("Via", filled(buffer, "", 'a', "", LONGEST + 1), 0), 1));
+}
+
+/* The five short names, in the block and asked for; the block's order decides. */
+static void test_short_names(void)
+{
+    static const char *const names[] = {"i", "Call-ID", "f", "From", "t", "To", "m", "Contact", "x", "Session-Expires"};
+    static const char *const recased[] = {"I", "CALL-ID", "F", "fROM", "T", "tO", "M", "cONTACT", "X", "session-expires"};
+    const char *block = "i:a\r\nTo:t\r\nCall-ID:b\r\nI:c\r\n";
+    char line[32];
+    struct lookup l = next_header(block, "call-id", 0);
+    size_t k;
+    CHECK(is_at(l, 2, 1) && l.next == 5);
+    l = next_header(block, "i", l.next);
+    CHECK(is_at(l, 19, 1) && l.next == 22);
+    l = next_header(block, "Call-ID", l.next);
+    CHECK(is_at(l, 24, 1) && l.next == strlen(block));
+    CHECK(is_nothing(next_header(block, "i", l.next)));
+    for (k = 0; k < sizeof names / sizeof names[0]; k++) {
+        sprintf(line, "%s:1\r\n", names[k]);
+        CHECK(is_at(header(line, names[k ^ 1]), strlen(names[k]) + 1, 1));
+        CHECK(is_at(header(line, recased[k ^ 1]), strlen(names[k]) + 1, 1));
+        CHECK(is_nothing(header(line, names[(k + 2) % 10])));
+        sprintf(line, "%s:1\r\n", recased[k]);
+        CHECK(is_at(header(line, names[k]), strlen(names[k]) + 1, 1));
+        CHECK(is_at(header(line, names[k ^ 1]), strlen(names[k]) + 1, 1));
+        sprintf(line, "%s:1\r\n%s:2\r\n", names[k], names[k ^ 1]);
+        CHECK(is_at(header(line, names[k]), strlen(names[k]) + 1, 1));
+        CHECK(is_at(header(line, names[k ^ 1]), strlen(names[k]) + 1, 1));
+    }
+    CHECK(is_at(header("i:a\r\nCall-ID:b\r\n", "Call-ID"), 2, 1));
+    CHECK(is_at(header("Call-ID:b\r\ni:a\r\n", "I"), 8, 1));
+    CHECK(is_nothing(header("v:1\r\n", "Via")));
+    CHECK(is_nothing(header("Via:1\r\n", "v")));
+    CHECK(is_nothing(header("ii:1\r\n", "Call-ID")));
 }
 
 /* ---- Status codes */
@@ -663,7 +697,7 @@ static void test_identifier(identifier_function *read, const char *local, const 
     CHECK(id_is_refused(read, "From:\"a;tag=one\"\r\nTo:;tag=two\r\nCall-ID:c\r\n", 4));
     CHECK(id_is_refused(read, "From:;tag=one\r\nTo:<b;tag=two>\r\nCall-ID:c\r\n", 4));
     CHECK(id_is_refused(read, "From:;tag=one\r\nCall-ID:c\r\n", 4));
-    CHECK(id_is_refused(read, "f:;tag=one\r\nt:;tag=two\r\ni:c\r\n", 4));
+    CHECK(id_is(read, "f:;tag=one\r\nT:;tag=two\r\ni:c\r\nCall-ID:d\r\n", "c", local, remote));
     CHECK(id_is_refused(read, "", 4));
     CHECK(id_is_refused(read, NULL, 4));
     CHECK(id_is_refused(read, "From:;tag=one\r\nTo:;tag=two\r\nCall-ID:c", 2));
@@ -743,6 +777,8 @@ static void test_contact(void)
     CHECK(is_part(contact(block), block, "sip:p@h"));
     CHECK(is_at(contact("Contact:sip:p@h;x\r\n"), 8, 7));
     CHECK(is_nothing(contact("Contact:*\r\nContact:<sip:q@h>\r\n")));
+    CHECK(is_nothing(contact("m:*\r\nContact:<sip:o>\r\n")));
+    CHECK(is_at(contact("M:<sip:o>\r\nContact:*\r\n"), 3, 5));
     CHECK(is_nothing(contact("Contact:\r\n")));
     CHECK(is_nothing(contact("Contact: \t\r\n")));
     CHECK(is_nothing(contact("To:<sip:t@h>\r\n")));
@@ -933,7 +969,8 @@ static void test_session_expires(void)
     CHECK(expires_is(expires_of(read, "Session-Expires:7\r\n"), 7, 0));
     CHECK(no_expires(expires_of(read, "Session-Expires:x\r\nSession-Expires:91\r\n")));
     CHECK(no_expires(expires_of(read, "Session-Expires:\r\n")));
-    CHECK(no_expires(expires_of(read, "x:90\r\n")));
+    CHECK(expires_is(expires_of(read, "X:90\r\nSession-Expires:91\r\n"), 90, 0));
+    CHECK(no_expires(expires_of(read, "v:90\r\n")));
     CHECK(no_expires(expires_of(read, "")));
     CHECK(no_expires(expires_of(read, NULL)));
     CHECK(expires_is_refused(expires_of(read, "Session-Expires:90"), 2));
@@ -2490,7 +2527,8 @@ static void test_image_request_no_target(void)
     CHECK(request_becomes("BYE", "CSeq:8\r\nContact:<tel:1>\r\nContact:<sip:n@h>\r\n", sheet, RECORD, remote_is(8)));
     CHECK(request_becomes("BYE", "CSeq:8\r\nContact:<sip:n@h>,<sip:m@h>\r\nContact:<sip:k@h>\r\n", sheet, RECORD,
                           sheet_to(remote_is(8), "sip:n@h")));
-    CHECK(request_becomes("BYE", "CSeq:8\r\nm:<sip:n@h>\r\n", sheet, RECORD, remote_is(8)));
+    CHECK(request_becomes("BYE", "CSeq:8\r\nm:<sip:n@h>\r\n", sheet, RECORD, sheet_to(remote_is(8), "sip:n@h")));
+    CHECK(request_becomes("BYE", "CSeq:8\r\nm:*\r\nContact:<sip:n@h>\r\n", sheet, RECORD, remote_is(8)));
     /* an ACK brings one too; a refused request doesn't */
     CHECK(request_becomes("ACK", "CSeq:7\r\nContact:sip:n@hh\r\n", sheet, RECORD + 5, sheet_to(acked, "sip:n@hh")));
     CHECK(request_stays("ACK", "CSeq:7\r\nContact:sip:n@hh\r\n", sheet, RECORD + 4, RECORD, 18));
@@ -2821,6 +2859,7 @@ static void test_image_response_any_interval(void)
     struct image refresher = with_more(sheet, 0x097F, RECORD, 2);
     CHECK(response_becomes(200, "Session-Expires:0\r\n", sheet, 600, with_number(alone, RECORD, 0)));
     CHECK(response_becomes(200, "Session-Expires:89\r\n", sheet, 600, with_number(alone, RECORD, 89)));
+    CHECK(response_becomes(200, "x:89\r\nSession-Expires:90\r\n", sheet, 600, with_number(alone, RECORD, 89)));
     CHECK(response_becomes(200, "Session-Expires:86400\r\n", sheet, 600, with_number(alone, RECORD, 86400)));
     CHECK(response_becomes(200, "Session-Expires:86401\r\n", sheet, 600, with_number(alone, RECORD, 86401)));
     CHECK(response_becomes(200, "Session-Expires:4294967295\r\n", sheet, 600, with_number(alone, RECORD, UINT32_MAX)));
@@ -2829,7 +2868,8 @@ static void test_image_response_any_interval(void)
     CHECK(response_becomes(180, "Session-Expires:+90;refresher=uac\r\n", full, FULL_LENGTH, full));
     CHECK(response_becomes(180, "Session-Expires:;refresher=uac\r\n", full, FULL_LENGTH, full));
     CHECK(response_becomes(180, "Session-Expires:\r\nSession-Expires:90\r\n", full, FULL_LENGTH, full));
-    CHECK(response_becomes(180, "Min-SE:90\r\nx:90\r\n", full, FULL_LENGTH, full));
+    CHECK(response_becomes(180, "x:\r\nSession-Expires:90\r\n", full, FULL_LENGTH, full));
+    CHECK(response_becomes(180, "Min-SE:90\r\nv:90\r\n", full, FULL_LENGTH, full));
     CHECK(response_becomes(200, "Session-Expires:x\r\n", refresher, RECORD + 4, refresher));
 }
 
@@ -3244,7 +3284,7 @@ static void test_creation_routes(creation_function *call)
     struct creation c = creation_by(call);
     struct image plain = plain_image(call);
     bool uac = call == sip_dialog_new_uac;
-    const char *three = "Record-Route:<sip:a@h>, <x>, sip:b@h;lr\r\nX:x\r\nRECORD-ROUTE:\"C\" < sip:c@hh;lr >\r\n";
+    const char *three = "Record-Route:<sip:a@h>, <x>, sip:b@h;lr\r\nY:x\r\nRECORD-ROUTE:\"C\" < sip:c@hh;lr >\r\n";
     struct image in_order = IMAGE("\3" "\0\7" "sip:a@h" "\0\7" "sip:b@h" "\0\x0B" "sip:c@hh;lr");
     struct image reversed = IMAGE("\3" "\0\x0B" "sip:c@hh;lr" "\0\7" "sip:b@h" "\0\7" "sip:a@h");
     char buffer[LONGEST + 2];
@@ -3551,7 +3591,7 @@ static void test_counts(void)
 int main(void)
 {
     static void (*const tests[])(void) = {
-        test_check_block, test_bytes_of_blocks, test_header, test_next_header, test_status_codes, test_sip_uri,
+        test_check_block, test_bytes_of_blocks, test_header, test_next_header, test_short_names, test_status_codes, test_sip_uri,
         test_sip_uri_refused, test_uri_estimate, test_parse_uri_from_header, test_extract_tag, test_held_semicolons,
         test_dialog_id_new, test_bytes_of_identifiers, test_identifiers, test_next_header_value, test_contact, test_route_count,
         test_long_routes, test_route, test_parse_session_expires, test_session_expires, test_cseq_number, test_rseq,

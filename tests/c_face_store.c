@@ -942,7 +942,7 @@ static void test_request_finds(void)
         "Call-ID:c1\r\nFrom:;tag=bc\r\nTo:;tag=a\r\n", "From:;tag=R\r\nTo:;tag=L\r\n",
         "Call-ID:c1\r\nTo:;tag=L\r\n", "Call-ID:c1\r\nFrom:;tag=R\r\n", "Call-ID:c1\r\nFrom:r\r\nTo:;tag=L\r\n",
         "Call-ID:c1\r\nFrom:\"a;tag=R;b\" <sip:r@h>\r\nTo:;tag=L\r\n", "Call-ID:c1\r\nFrom:;tag=R\r\nTo:<sip:l@h;tag=L>\r\n",
-        "Call-ID:c1\r\nFrom:;tag=R\r\nTo:;tag\r\n", "i:c1\r\nf:;tag=R\r\nt:;tag=L\r\n",
+        "Call-ID:c1\r\nFrom:;tag=R\r\nTo:;tag\r\n", "i:c2\r\nCall-ID:c1\r\nFrom:;tag=R\r\nTo:;tag=L\r\n",
         "Call-ID:c2\r\nCall-ID:c1\r\nFrom:;tag=R\r\nTo:;tag=L\r\n", "Call-ID:\r\nFrom:;tag=\r\nTo:<sip:l@h>\r\n",
     };
     char block[256];
@@ -964,6 +964,8 @@ static void test_request_finds(void)
     /* names in any letter case, the parts in any order, tags behind a display name and a URI's parameters */
     CHECK(sheet_takes("BYE", "cseq:8\r\nTO:<sip:l@h;tag=x>;TAG=L\r\nFROM:\"a;tag=x;b\" <sip:r@h>;tag=R\r\nCALL-ID: c1\t\r\n",
                       remote_is(8)));
+    /* short names */
+    CHECK(sheet_takes("BYE", "i:c1\r\nF:;tag=R\r\nt:;tag=L\r\nCSeq:8\r\n", remote_is(8)));
 }
 
 /* 4, and what comes first where several causes hold. */

@@ -21,6 +21,7 @@ wrong() {
 # alter WHAT SED PATTERN: the list with the first line that has PATTERN changed by SED; just that line's call must differ.
 alter() {
     at=$(grep -n -m 1 -e "$3" "$list" | cut -d: -f1)
+    [ -n "$at" ] || wrong "$1 (no such line)"
     sed "${at}$2" "$list" >"$out/list"
     ! cmp -s "$list" "$out/list" || wrong "$1 (nothing was altered)"
     "$program" <"$out/list" >"$out/stdout"
@@ -33,6 +34,7 @@ alter() {
 # unreadable WHAT SED PATTERN: the same, but the line can't be read.
 unreadable() {
     at=$(grep -n -m 1 -e "$3" "$list" | cut -d: -f1)
+    [ -n "$at" ] || wrong "$1 (no such line)"
     sed "${at}$2" "$list" >"$out/list"
     ! cmp -s "$list" "$out/list" || wrong "$1 (nothing was altered)"
     "$program" <"$out/list" >"$out/stdout"
@@ -54,7 +56,7 @@ alter "an out number that is kept" 's/[0-9]*$/77/' '^cseq_number .* = 4 [0-9]*$'
 alter "the last of seven out numbers" 's/[0-9]*$/77/' '^sip_uri .* = 0 '
 alter "a place in a list" 's/[0-9]*$/777/' '^next_header_value .* = 0 1 '
 alter "an output byte" 's/"\([A-Z]\)\([A-Z]*\)"\([^"]*\)$/"a\2"\3/' '^method_text .* = 0 [0-9]* "[A-Z]*"$'
-alter "an output byte past the result" 's/\\xa5"$/\\xa4"/' '^listing .* = 0 .*total 0\\n\\xa5.*\\xa5"$'
+alter "an output byte past the result" 's/<"$/>"/' '^listing .* = 0 .*total 0\\n"[0-9]*\*"<"$'
 alter "an image's byte" 's/\(.*\)sip:/\1sap:/' '^image_confirm .* = 0 .*sip:'
 alter "a byte past the used length" 's/\(.*\*\)"[^"]*"$/\1"!"/' '^image_.* = 0 .*\*"[^"]*"$'
 alter "a used length" 's/ = 0 \([0-9]*\) / = 0 1\1 /' '^put .* = 0 '

@@ -13,7 +13,7 @@ use borrow.Author.Tests.{eq-eqb, ne_eqb, lt-ltb, le-ltb, ltb-true, ltb-false}
 use Rattle.std.proofs.lemmas.List.{take_rest}
 use Rattle.std.specs.Option.{MatchOption, IsSomeAnd}
 use Rattle.std.specs.Prelude.{None, Ok, Option, Some}
-use Rattle.text.specs.Text.{same, Piece}
+use Rattle.text.specs.Text.{Piece}
 use Rattle.limits.proofs.Laws.{some_pair}
 use Rattle.limits.specs.Limits.{LimitSet}
 use Rattle.limits.specs.declared.Refusal.TheVariants.{TextTooLong}
@@ -215,7 +215,7 @@ module _ (asked s : List ℕ) (f : HeaderLine) (b : ℕ) (t : List ℕ) (at : �
       → first_named asked (with_line l at (b ∷ t) (lines_from (tail_of l) (at + 1) t)) ≡ Some f → Placed s f.value
   unfolding first_named
   by_line (Some (n, m)) q more e =
-      by_name n m (same (take n (b ∷ t)) asked) (subst (λ (l : List ℕ). Placed s (line_of at l n m).value) here (placed_line s at n m h (ap line_at here ∙ q))) (more (n + m + 2)) e
+      by_name n m (named asked (take n (b ∷ t))) (subst (λ (l : List ℕ). Placed s (line_of at l n m).value) here (placed_line s at n m h (ap line_at here ∙ q))) (more (n + m + 2)) e
   by_line None q more e = absurd (let z : ◌≡◌ {A = ℕ} 0 1 = cc in omega arith)
 
 first_placed : (asked s : List ℕ) (f : HeaderLine) (t : List ℕ) (skip at : ℕ) → at ≤ length s → drop at s ≡ t → first_named asked (lines_from skip at t) ≡ Some f → Placed s f.value

@@ -8,10 +8,9 @@ use lib.ListN.{length, take, drop}
 use lib.Dec.{ltb}
 use borrow.Author.Tests.{ltb-true, ltb-false}
 use Rattle.std.specs.Prelude.{None, Option, Some}
-use Rattle.text.specs.Text.{same}
 use Rattle.text.specs.Spans.{part_in}
 use Rattle.text.specs.declared.Span.{Span}
-use Rattle.msg.specs.Block.{HeaderLine, line_at, line_of, first_named, all_named, found_of}
+use Rattle.msg.specs.Block.{HeaderLine, line_at, line_of, named, first_named, all_named, found_of}
 use Rattle.msg.specs.Lines.{values_of}
 use Rattle.msg.proofs.LineLaws.{line_fits}
 use Rattle.msg.proofs.LookupLaws.{lines_left, left_done, left_stop, left_line, Says, found_none}
@@ -22,9 +21,9 @@ named_left s asked at = all_named asked (lines_left s at)
 pub no_line_left : (asked : List ℕ) (ls : List HeaderLine) → first_named asked ls ≡ None → all_named asked ls ≡ []
 unfolding first_named all_named
 no_line_left asked [] e = refl
-no_line_left asked (l ∷ ls) e = by (same l.name asked) refl e (no_line_left asked ls)
+no_line_left asked (l ∷ ls) e = by (named asked l.name) refl e (no_line_left asked ls)
   where
-    by : (u : Bool) → same l.name asked ≡ u → first_named asked (l ∷ ls) ≡ None → (first_named asked ls ≡ None → all_named asked ls ≡ []) → all_named asked (l ∷ ls) ≡ []
+    by : (u : Bool) → named asked l.name ≡ u → first_named asked (l ∷ ls) ≡ None → (first_named asked ls ≡ None → all_named asked ls ≡ []) → all_named asked (l ∷ ls) ≡ []
     by true t e more = absurd (let x : Some l ≡ None = (rw t at e) in let z : ◌≡◌ {A = ℕ} 0 1 = cc in omega arith)
     by false t e more = rw t (more (rw t at e))
 
@@ -34,7 +33,7 @@ pub record FirstLine (s asked : List ℕ) (at : ℕ) (l : HeaderLine) : Type 0 w
   pub later : at < l.next
   pub within : l.next ≤ length s
 
-by_line : (s asked : List ℕ) (f : HeaderLine) (at : ℕ) (l : HeaderLine) (next : ℕ) (u : Bool) → same l.name asked ≡ u → lines_left s at ≡ l ∷ lines_left s next → l.next ≡ next → at < next → next ≤ length s
+by_line : (s asked : List ℕ) (f : HeaderLine) (at : ℕ) (l : HeaderLine) (next : ℕ) (u : Bool) → named asked l.name ≡ u → lines_left s at ≡ l ∷ lines_left s next → l.next ≡ next → at < next → next ≤ length s
     → (first_named asked (lines_left s next) ≡ Some f → FirstLine s asked next f) → first_named asked (lines_left s at) ≡ Some f → FirstLine s asked at f
 unfolding first_named all_named
 by_line s asked f at l next true t cut after h k more q =
@@ -56,7 +55,7 @@ line_by_lem s asked f (suc fuel) at h q = by (ltb at (length s)) refl (line_at (
     by true k (Some (n, m)) e more =
         let i : at < length s = ltb-true _ _ k in
         let w : at + (n + m + 3) ≤ length s = line_fits s at n m (omega arith) e in
-        by_line s asked f at (line_of at (drop at s) n m) (at + (n + m + 3)) (same (take n (drop at s)) asked) refl (left_line s at n m e) refl (omega arith) w (more (at + (n + m + 3)) (omega arith)) q
+        by_line s asked f at (line_of at (drop at s) n m) (at + (n + m + 3)) (named asked (take n (drop at s))) refl (left_line s at n m e) refl (omega arith) w (more (at + (n + m + 3)) (omega arith)) q
 
 pub line_told : (s asked : List ℕ) (at : ℕ) (f : HeaderLine) → first_named asked (lines_left s at) ≡ Some f → FirstLine s asked at f
 line_told s asked at f q = line_by_lem s asked f (suc (length s)) at (omega arith) q

@@ -15,10 +15,10 @@ use Rattle.std.specs.Prelude.{Err, None, Ok, Option, Some}
 use Rattle.std.specs.Option.{option_or}
 use Rattle.limits.specs.Outcome.{check_of}
 use Rattle.limits.specs.declared.Refusal.{Refusal}
-use Rattle.text.specs.Text.{alike, lower, same}
+use Rattle.text.specs.Text.{alike, lower}
 use Rattle.text.specs.Answers.{span_of}
 use Rattle.text.specs.declared.Span.{Span}
-use Rattle.msg.specs.Block.{HeaderLine, named, first_named, found_of, lines_of, value_of, text_of, value_named}
+use Rattle.msg.specs.Block.{HeaderLine, full_in, full_of, named, first_named, found_of, lines_of, value_of, text_of, value_named}
 use Rattle.msg.specs.Table.{names, name_in, name_at, slot_in, slot_of, tabled, headers_of, looked_up, or_found, kept, noted, text_at, value_at, end_of}
 use Rattle.msg.specs.declared.table.HeaderTable.{HeaderTable}
 use Rattle.msg.proofs.LookupLaws.{Says, found_at}
@@ -37,31 +37,31 @@ alike_both f (w ∷ x) (y ∷ a) (z ∷ b) p q =
     let t : f y ≡ f z = sym (eqb-true _ _ ((and_parts (eqb (f w) (f y)) (alike f x a) p).0)) ∙ eqb-true _ _ ((and_parts (eqb (f w) (f z)) (alike f x b) q).0) in
     rw (eq-eqb _ _ t) (alike_both f x a b (and_parts (eqb (f w) (f y)) (alike f x a) p).1 (and_parts (eqb (f w) (f z)) (alike f x b) q).1)
 
--- no two of some names are the same
+-- no two of some names are the same, in any spelling
 unfoldable differs : List ℕ → List (List ℕ) → Bool
 differs a [] = true
-differs a (b ∷ more) = not (same a b) && differs a more
+differs a (b ∷ more) = not (named b a) && differs a more
 
 unfoldable apart : List (List ℕ) → Bool
 apart [] = true
 apart (a ∷ more) = differs a more && apart more
 
 names_apart : apart names ≡ true
-unfolding apart differs alike
+unfolding apart differs full_in alike
 names_apart = refl
 
-not_both : (a b name : List ℕ) → same name a ≡ true → not (same a b) ≡ true → same name b ≡ false
-not_both a b name h d = by (same name b) refl
+not_both : (a b name : List ℕ) → named a name ≡ true → not (named b a) ≡ true → named b name ≡ false
+not_both a b name h d = by (named b name) refl
   where
-    by : (u : Bool) → same name b ≡ u → u ≡ false
+    by : (u : Bool) → named b name ≡ u → u ≡ false
     by false e = refl
-    by true e = absurd (false≢true (rw (alike_both lower name a b h e) at d))
+    by true e = absurd (false≢true (rw (alike_both lower (full_of name) (full_of a) (full_of b) h e) at d))
 
-other_names : (a name : List ℕ) → same name a ≡ true → (ns : List (List ℕ)) → differs a ns ≡ true → (k : ℕ) → k < length ns → named (name_in ns k) name ≡ false
+other_names : (a name : List ℕ) → named a name ≡ true → (ns : List (List ℕ)) → differs a ns ≡ true → (k : ℕ) → k < length ns → named (name_in ns k) name ≡ false
 unfolding differs
 other_names a name h [] d k l = absurd (omega arith)
-other_names a name h (b ∷ ns) d zero l = not_both a b name h (and_parts (not (same a b)) (differs a ns) d).0
-other_names a name h (b ∷ ns) d (suc k) l = other_names a name h ns (and_parts (not (same a b)) (differs a ns) d).1 k (omega arith)
+other_names a name h (b ∷ ns) d zero l = not_both a b name h (and_parts (not (named b a)) (differs a ns) d).0
+other_names a name h (b ∷ ns) d (suc k) l = other_names a name h ns (and_parts (not (named b a)) (differs a ns) d).1 k (omega arith)
 
 by_first : (a : List ℕ) (ns : List (List ℕ)) (name : List ℕ) (k : ℕ) (u : Bool) → named a name ≡ u → (k < length ns → eqb (slot_in ns name) k ≡ named (name_in ns k) name)
     → (u ≡ true → k < length ns → named (name_in ns k) name ≡ false)

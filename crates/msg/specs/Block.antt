@@ -1,6 +1,6 @@
 -- The header block of document 01, "Block": lines `name:value` CRLF; names of letters, digits, `-`, at least one; values of
 -- bytes 9 and 32 to 126, space and tab trimmed at both ends. An empty block is valid. RFC 3261 section 7.3.1 also has folded
--- lines and other bytes, and section 7.3.3 short names; here they are refused or not known.
+-- lines and other bytes; here they are refused. Of the short names of its section 7.3.3 five are known (document 02, request 1).
 use Rattle.text.specs.declared.Span.{Span}
 use Rattle.std.specs.Prelude.{ℕ, zero, suc, ◌+◌, Bool, true, false, cond, not, ◌&&◌, ◌||◌, List, [], ◌∷◌, length, take, drop, get_or, ltb, eqb, None, Ok, Option, Result, Some}
 use Rattle.limits.specs.Limits.{LimitSet}
@@ -88,9 +88,28 @@ lines_of s = lines_from 0 0 s
 
 -- ---- look-up
 
--- a line of this name is one that is asked for: the full name, letter case ignored
+-- the names with two spellings, the short one and the full one, as document 02, request 1, has them: `i` and `Call-ID`, `f` and
+-- `From`, `t` and `To`, `m` and `Contact` (RFC 3261, sections 7.3.3 and 20), `x` and `Session-Expires` (RFC 4028, section 4)
+abbrev pub short_names : List (List ℕ × List ℕ)
+short_names =
+    (105 ∷ [], 67 ∷ 97 ∷ 108 ∷ 108 ∷ 45 ∷ 73 ∷ 68 ∷ [])
+    ∷ (102 ∷ [], 70 ∷ 114 ∷ 111 ∷ 109 ∷ [])
+    ∷ (116 ∷ [], 84 ∷ 111 ∷ [])
+    ∷ (109 ∷ [], 67 ∷ 111 ∷ 110 ∷ 116 ∷ 97 ∷ 99 ∷ 116 ∷ [])
+    ∷ (120 ∷ [], 83 ∷ 101 ∷ 115 ∷ 115 ∷ 105 ∷ 111 ∷ 110 ∷ 45 ∷ 69 ∷ 120 ∷ 112 ∷ 105 ∷ 114 ∷ 101 ∷ 115 ∷ [])
+    ∷ []
+
+-- the full spelling of a name by such a list, letter case ignored; the name itself where it is none of the short ones
+unfoldable pub full_in : List (List ℕ × List ℕ) → List ℕ → List ℕ
+full_in [] name = name
+full_in ((short, full) ∷ more) name = cond (same name short) full (full_in more name)
+
+abbrev pub full_of : List ℕ → List ℕ
+full_of name = full_in short_names name
+
+-- a line of this name is one that is asked for: both have the same full spelling, letter case ignored
 abbrev pub named : List ℕ → List ℕ → Bool
-named asked name = same name asked
+named asked name = same (full_of name) (full_of asked)
 
 -- `header` and `Headers::get`: the first line of that name
 unfoldable pub first_named : List ℕ → List HeaderLine → Option HeaderLine

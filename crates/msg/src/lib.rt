@@ -6,7 +6,7 @@ ghost use Rattle.limits.specs.Limits.{rust_limits};
 ghost use Rattle.limits.specs.Outcome.{check_of};
 ghost use Rattle.text.specs.Text.{span};
 ghost use Rattle.text.specs.Answers.{lookup_of, next_of};
-ghost use Rattle.msg.specs.Block.{is_name, line_at, is_block, lines_from, lines_of, lines_since, named, first_named, found_of, part_of, part_place, pointer_at, value_named, block_cause, lookup, lookup_from};
+ghost use Rattle.msg.specs.Block.{is_name, line_at, is_block, lines_from, lines_of, lines_since, full_of, named, first_named, found_of, part_of, part_place, pointer_at, value_named, block_cause, lookup, lookup_from};
 
 use limits::Refusal;
 use lines::Lines;
@@ -108,11 +108,28 @@ pub fn find_from(block: &[u8], from: usize, name: &[u8]) -> Option<(Span, usize)
     None
 }
 
-// Whether a line of this name is one that is asked for: the full name, letter case ignored.
+// Whether a line of this name is one that is asked for: both have the same full spelling, letter case ignored.
 fn is_named(name: &[u8], asked: &[u8]) -> bool
     ensures { result ≡ named asked.now name.now }
 {
-    text::same_text(name, asked)
+    text::same_text(full_name(name), full_name(asked))
+}
+
+// The full spelling of a name: of the five short ones the full name, letter case ignored, and of every other the name itself.
+fn full_name(name: &[u8]) -> &[u8]
+    ensures { result.now ≡ full_of name.now }
+{
+    let [letter] = name else {
+        return name;
+    };
+    match letter.to_ascii_lowercase() {
+        b'i' => b"Call-ID",
+        b'f' => b"From",
+        b't' => b"To",
+        b'm' => b"Contact",
+        b'x' => b"Session-Expires",
+        _ => name,
+    }
 }
 
 // The place of the first line that starts at `from` or after it.

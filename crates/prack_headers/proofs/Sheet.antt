@@ -6,7 +6,7 @@ use Rattle.limits.specs.Limits.{rust_limits}
 use Rattle.limits.specs.declared.Refusal.TheVariants.{MissingHeader}
 use Rattle.text.specs.Text.{span, all, alike, split, filled, words, trimmed}
 use Rattle.text.specs.Number.{value, digits_below, read_number}
-use Rattle.msg.specs.Block.{line_at, lines_after, lines_from, first_named, block_cause}
+use Rattle.msg.specs.Block.{line_at, lines_after, lines_from, first_named, full_in, block_cause}
 use Rattle.prack_headers.specs.Sequence.{read_in, extract_cseq_number}
 
 -- `+5` reads 5
@@ -21,9 +21,9 @@ minus_zero_lem = refl
 
 -- as numbers of a CSeq: `CSeq:+5 ACK` says 5, and `CSeq:-0 ACK` is refused by 4
 pub cseq_plus_five : extract_cseq_number rust_limits (67 ∷ 83 ∷ 101 ∷ 113 ∷ 58 ∷ 43 ∷ 53 ∷ 32 ∷ 65 ∷ 67 ∷ 75 ∷ 13 ∷ 10 ∷ []) ≡ Ok 5
-unfolding read_in block_cause lines_after lines_from first_named line_at span all alike trimmed words split filled digits_below value
+unfolding read_in block_cause lines_after lines_from first_named full_in line_at span all alike trimmed words split filled digits_below value
 cseq_plus_five = refl
 
 pub cseq_minus_zero : extract_cseq_number rust_limits (67 ∷ 83 ∷ 101 ∷ 113 ∷ 58 ∷ 45 ∷ 48 ∷ 32 ∷ 65 ∷ 67 ∷ 75 ∷ 13 ∷ 10 ∷ []) ≡ Err MissingHeader
-unfolding read_in block_cause lines_after lines_from first_named line_at span all alike trimmed words split filled digits_below value
+unfolding read_in block_cause lines_after lines_from first_named full_in line_at span all alike trimmed words split filled digits_below value
 cseq_minus_zero = refl

@@ -123,7 +123,7 @@ fn letter_case(rt: &impl Print) -> io::Result<()> {
     )
 }
 
-// Full names alone are looked up: a line under a compact name is another line.
+// Five compact names are read as their full ones; under any other compact name a line is another line.
 fn fields(rt: &impl Print) -> io::Result<()> {
     let section_20_8: &[u8] = b"RFC 3261 20.8";
     let section_20_14: &[u8] = b"RFC 3261 20.14";

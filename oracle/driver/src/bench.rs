@@ -120,8 +120,8 @@ fn lines_block(size: usize) -> Vec<u8> {
     let line = b"Via: SIP/2.0/UDP h;rport\r\n";
     let last = b"CSeq: 7 BYE\r\n";
     let mut text = line.repeat((size - last.len()) / line.len() - 1);
-    let missing = size - text.len() - last.len() - b"X: \r\n".len();
-    text.extend([b"X: ", vec![b'x'; missing].as_slice(), b"\r\n", last].concat());
+    let missing = size - text.len() - last.len() - b"Q: \r\n".len();
+    text.extend([b"Q: ", vec![b'x'; missing].as_slice(), b"\r\n", last].concat());
     text
 }
 

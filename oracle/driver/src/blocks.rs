@@ -4,7 +4,7 @@
 use crate::random::Random;
 use crate::rules::LONGEST;
 use crate::run::Feed;
-use crate::texts::{damage, each_replacement, each_sequence, near, recased};
+use crate::texts::{damage, each_replacement, each_sequence, near, spelled};
 
 /// How an operation's blocks are made.
 pub struct Blocks {
@@ -41,7 +41,7 @@ pub fn each_block(feed: &mut Feed, blocks: &Blocks, give: &dyn Fn(&mut Feed, &[u
 fn around(turn: usize, name: &str, value: &[u8]) -> Vec<u8> {
     let (before, after) = match turn % 4 {
         0 => (format!("{name}:"), "\r\n".to_string()),
-        1 => (format!("X:1\r\n{}: ", name.to_uppercase()), "\t\r\n".to_string()),
+        1 => (format!("Q:1\r\n{}: ", name.to_uppercase()), "\t\r\n".to_string()),
         2 => (format!("{name}:"), format!("\r\n{name}:7 BYE;tag=z\r\n")),
         _ => (format!("{}:\t ", name.to_lowercase()), " \r\nY:\r\n".to_string()),
     };
@@ -60,7 +60,7 @@ fn random_block(random: &mut Random, blocks: &Blocks) -> Vec<u8> {
         }
     }
     for _ in 0..random.below(4) {
-        let name = random.pick(&["X", "Via", "-", "Subject2", "9"]);
+        let name = random.pick(&["Q", "v", "Via", "-", "Subject2", "9"]);
         lines.push(line(random, name, |random, _| vec![b'v'; random.below(9)]));
     }
     shuffle(random, &mut lines);
@@ -75,9 +75,9 @@ fn random_block(random: &mut Random, blocks: &Blocks) -> Vec<u8> {
     block
 }
 
-/// A line of that name in some letter case, at times of a name that only resembles it, its value between blanks.
+/// A line of that name in some spelling and letter case, at times of a name that only resembles it, its value between blanks.
 fn line(random: &mut Random, name: &str, write: impl Fn(&mut Random, &str) -> Vec<u8>) -> Vec<u8> {
-    let mut bytes = recased(random, name);
+    let mut bytes = spelled(random, name);
     match random.below(24) {
         0 => bytes.insert(0, b'X'),
         1 => bytes.push(b's'),
@@ -103,9 +103,9 @@ pub fn shuffle(random: &mut Random, lines: &mut [Vec<u8>]) {
 pub fn fill(random: &mut Random, lines: &mut Vec<Vec<u8>>, length: usize) {
     let held: usize = lines.iter().map(Vec::len).sum();
     let filler = random.pick(b"x \t;,:");
-    let overhead = b"F:\r\n".len();
+    let overhead = b"Q:\r\n".len();
     if let Some(missing) = length.checked_sub(held + overhead) {
-        let line = [b"F:", vec![filler; missing].as_slice(), b"\r\n"].concat();
+        let line = [b"Q:", vec![filler; missing].as_slice(), b"\r\n"].concat();
         lines.insert(random.below(lines.len() + 1), line);
     }
 }

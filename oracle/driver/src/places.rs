@@ -6,11 +6,25 @@ use sip_core::block::{self, Line};
 use sip_core::SipUri;
 use std::ops::Range;
 
-/// The lines of that name, letter case ignored. The block is known to be valid.
+/// The lines of that name in either spelling, letter case ignored. The block is known to be valid.
 pub fn lines(bytes: &[u8], name: &[u8]) -> Vec<Line> {
+    let asked = full_name(name);
     let mut lines = block::lines(bytes).expect("a valid block");
-    lines.retain(|line| bytes[line.name.clone()].eq_ignore_ascii_case(name));
+    lines.retain(|line| full_name(&bytes[line.name.clone()]) == asked);
     lines
+}
+
+/// The full spelling of a name (document 02, request 1), in small letters.
+fn full_name(name: &[u8]) -> Vec<u8> {
+    let name = name.to_ascii_lowercase();
+    match name.as_slice() {
+        b"i" => b"call-id".to_vec(),
+        b"f" => b"from".to_vec(),
+        b"t" => b"to".to_vec(),
+        b"m" => b"contact".to_vec(),
+        b"x" => b"session-expires".to_vec(),
+        _ => name,
+    }
 }
 
 /// The value of the first line of that name.

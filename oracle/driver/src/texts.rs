@@ -185,6 +185,20 @@ pub fn front_of_tag(random: &mut Random) -> &'static str {
     }
 }
 
+/// A header's name in either of its spellings, where it has two, the case of its letters chosen anew.
+pub fn spelled(random: &mut Random, name: &str) -> Vec<u8> {
+    let short = match name {
+        "Call-ID" => "i",
+        "From" => "f",
+        "To" => "t",
+        "Contact" => "m",
+        "Session-Expires" => "x",
+        _ => name,
+    };
+    let spelling = if random.one_in(3) { short } else { name };
+    recased(random, spelling)
+}
+
 /// Numbers around the bounds of the fields, as digits; some fit no width.
 const NUMBERS: [&str; 22] = [
     "0",

@@ -40,12 +40,12 @@ fn message(size: usize) -> Vec<u8> {
         To: <sip:bob@example.com>;tag=a6c85cf\r\nCSeq: 8 INVITE\r\nContact: <sip:bob@192.0.2.4>\r\n\
         Record-Route: <sip:p1.example.com;lr>\r\n";
     let line = b"Via: SIP/2.0/UDP h;rport\r\n";
-    let spare = size - front.len() - b"X: \r\n".len();
+    let spare = size - front.len() - b"Q: \r\n".len();
     let filling = vec![b'x'; spare % line.len()];
     [
         front,
         line.repeat(spare / line.len()).as_slice(),
-        b"X: ",
+        b"Q: ",
         &filling,
         b"\r\n",
     ]

@@ -7,7 +7,7 @@ use crate::blocks::{fill, shuffle};
 use crate::operations::values::{bracketed, full_route_block, route_value, session_value};
 use crate::random::Random;
 use crate::rules::LONGEST;
-use crate::texts::{damage, front_of_tag, method_text, near, number_text, recased, HELD_FRONTS};
+use crate::texts::{damage, front_of_tag, method_text, near, number_text, recased, spelled, HELD_FRONTS};
 use crate::uris::{long_uri, short_uri, uri_text};
 use sip_dialog::DialogId;
 
@@ -467,16 +467,16 @@ fn noise(random: &mut Random, lines: &mut Vec<Vec<u8>>) {
 /// The same without Call-ID, From and To.
 fn noise_but_identifiers(random: &mut Random, lines: &mut Vec<Vec<u8>>) {
     for _ in 0..random.below(3) {
-        let name = random.pick(&["Via", "X", "-", "Froms", "m", "Route", "Session-Expire"]);
+        let name = random.pick(&["Via", "Q", "-", "Froms", "v", "Route", "Session-Expire"]);
         lines.push(line(random, name, &|random: &mut Random| {
             random.pick(&["", "1", "<sip:v>"]).into()
         }));
     }
 }
 
-/// A line of that name in some letter case, its value between blanks.
+/// A line of that name in some spelling and letter case, its value between blanks.
 fn line(random: &mut Random, name: &str, value: &dyn Fn(&mut Random) -> Vec<u8>) -> Vec<u8> {
-    let mut bytes = recased(random, name);
+    let mut bytes = spelled(random, name);
     bytes.push(b':');
     bytes.extend(random.pick(&["", "", " ", "\t"]).bytes());
     bytes.extend(value(random));

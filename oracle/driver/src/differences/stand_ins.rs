@@ -42,9 +42,9 @@ pub const CASES: &[Case] = &[
         let mut record = record(|parts| parts.remote = 1);
         row.both(record.request("", &["CSeq:2 X"]), "taken");
     }),
-    case("2.9", "`i:c`, asked for `Call-ID`: nothing", |row| {
-        let input = block(&["i:c"]);
-        row.both(part("header", &Input::text(&input).and_text(1, b"Call-ID")), "nothing");
+    case("2.9", "`v:1`, asked for `Via`: nothing", |row| {
+        let input = block(&["v:1"]);
+        row.both(part("header", &Input::text(&input).and_text(1, b"Via")), "nothing");
     }),
     case("2.10", "`sip:.`: readable", |row| row.both(uri("sip:."), "accepted")),
     case("2.11", "`sip:[.]`: readable", |row| {
@@ -77,8 +77,5 @@ pub const CASES: &[Case] = &[
     case("2.20", "value `0`: 0 s", |row| row.both(value("0"), "0 s, none")),
     case("2.21", "value `4294967296`: nothing", |row| {
         row.both(value("4294967296"), "nothing");
-    }),
-    case("2.22", "`x:90`: nothing", |row| {
-        row.both(expires("session_expires", &block(&["x:90"])), "nothing");
     }),
 ];

@@ -7,7 +7,7 @@ use crate::places;
 use crate::random::Random;
 use crate::rules;
 use crate::run::{Feed, Operation};
-use crate::texts::{damage, near, recased, sequence};
+use crate::texts::{damage, near, recased, sequence, spelled};
 use sip_core::block::Line;
 
 pub const OPERATIONS: &[Operation] = &[
@@ -63,6 +63,58 @@ pub const OPERATIONS: &[Operation] = &[
         fault: "an empty value ends the list",
         distort: distort_all_headers,
     },
+    Operation {
+        name: "header, either spelling",
+        against: "stand-in from 02, request 1 (Headers::get)",
+        texts: &["block", "name"],
+        numbers: &[],
+        outs: PART,
+        rows: &[0, 1, 2, NOTHING],
+        expect: expect_header,
+        ask: ask_header,
+        inputs: |feed| each_block(feed, &SPELLINGS, &give_spelled),
+        fault: "a line of the full name is preferred to an earlier one of the short name",
+        distort: distort_full_first,
+    },
+    Operation {
+        name: "header, asked by a short name",
+        against: "stand-in from 02, request 1 (Headers::get)",
+        texts: &["block", "name"],
+        numbers: &[],
+        outs: PART,
+        rows: &[0, 1, 2, NOTHING],
+        expect: expect_header,
+        ask: ask_header,
+        inputs: |feed| each_block(feed, &SPELLINGS, &give_spelled),
+        fault: "a line of the full name isn't found by its short name",
+        distort: distort_one_direction,
+    },
+    Operation {
+        name: "header, five short names",
+        against: "stand-in from 02, request 1 (Headers::get)",
+        texts: &["block", "name"],
+        numbers: &[],
+        outs: PART,
+        rows: &[0, 1, 2, NOTHING],
+        expect: expect_header,
+        ask: ask_header,
+        inputs: |feed| each_block(feed, &SPELLINGS, &give_spelled),
+        fault: "lines named `x` are passed over",
+        distort: distort_without_x,
+    },
+    Operation {
+        name: "next_header, either spelling",
+        against: "stand-in from 02, request 1 (get_all_smol)",
+        texts: &["block", "name"],
+        numbers: &[],
+        outs: LIST_PART,
+        rows: &[0, 1, 2, NOTHING],
+        expect: expect_all_headers,
+        ask: ask_all_headers,
+        inputs: |feed| each_block(feed, &SPELLINGS, &give_spelled),
+        fault: "of all lines those with a name of one letter are left out",
+        distort: distort_full_alone,
+    },
 ];
 
 /// Blocks that are at the bounds of the form.
@@ -97,6 +149,90 @@ const LINES: Blocks = Blocks {
     names: &["a", "Aa", "-", "a"],
     write: some_value,
 };
+
+/// Blocks whose lines have both spellings of the five names, in every order, and names of one letter that are no spelling.
+const SPELLINGS: Blocks = Blocks {
+    templates: &["i:1\r\nCall-ID: 2\r\nx:3\r\n"],
+    name: "Session-Expires",
+    pieces: &["a", " ", ":", "\r\n", "X:", "t:"],
+    longest: 4,
+    lines: &[
+        "i:1\r\n",
+        "Call-ID:2\r\n",
+        "F: 3\r\n",
+        "from:4\r\n",
+        "t:\t5\r\n",
+        "To:6 \r\n",
+        "M:7\r\n",
+        "CONTACT:8\r\n",
+        "x:9\r\n",
+        "Session-Expires:\r\n",
+        "v:1\r\n",
+    ],
+    longest_lines: 4,
+    names: &["Call-ID", "From", "To", "Contact", "Session-Expires", "Via", "v", "c"],
+    write: some_value,
+};
+
+/// Asks for a name with two spellings, in one of them and in some letter case, or for one of another header.
+fn give_spelled(feed: &mut Feed, block: &[u8]) {
+    let random = &mut feed.random;
+    let name = random.pick(&["Call-ID", "From", "To", "Contact", "Session-Expires"]);
+    let mut name = match random.below(8) {
+        0 => recased(random, "Via"),
+        1 => recased(random, "v"),
+        _ => spelled(random, name),
+    };
+    if random.one_in(20) {
+        damage(random, &mut name);
+    } else if random.one_in(200) {
+        name = vec![b'i'; near(random, rules::LONGEST)];
+    }
+    feed.compare(&Input::text(block).and_text(1, &name));
+}
+
+/// Whether a line has a name of one letter.
+fn is_short(line: &Line) -> bool {
+    line.name.len() == 1
+}
+
+/// Gives the first line of the full name, if there is one.
+fn distort_full_first(input: &Input, answer: &mut Answer) {
+    let lines = named_lines(input).unwrap_or_default();
+    if let Some(full) = lines.iter().find(|line| !is_short(line)) {
+        answer.give_part(Some(full.value.clone()));
+    }
+}
+
+/// Finds by a short name the lines of the short name alone.
+fn distort_one_direction(input: &Input, answer: &mut Answer) {
+    let lines = named_lines(input).unwrap_or_default();
+    if input.texts[1].len() == 1 && !lines.is_empty() {
+        answer.keep_all(PART);
+        let short = lines.iter().find(|line| is_short(line));
+        answer.give_part(short.map(|line| line.value.clone()));
+    }
+}
+
+/// Passes over the lines named `x`.
+fn distort_without_x(input: &Input, answer: &mut Answer) {
+    let lines = named_lines(input).unwrap_or_default();
+    let is_x = |line: &Line| input.texts[0][line.name.clone()].eq_ignore_ascii_case(b"x");
+    if lines.iter().any(is_x) {
+        answer.keep_all(PART);
+        let other = lines.iter().find(|line| !is_x(line));
+        answer.give_part(other.map(|line| line.value.clone()));
+    }
+}
+
+/// Leaves out the steps of short names.
+fn distort_full_alone(input: &Input, answer: &mut Answer) {
+    let lines = named_lines(input).unwrap_or_default();
+    let mut lines = lines.iter();
+    answer
+        .steps
+        .retain(|step| step[1] == 0 || lines.next().is_none_or(|line| !is_short(line)));
+}
 
 /// A short value.
 fn some_value(random: &mut Random, _: &str) -> Vec<u8> {

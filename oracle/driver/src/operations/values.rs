@@ -193,7 +193,7 @@ const CONTACTS: Blocks = Blocks {
         "contact:\r\n",
         "Contact:x\r\n",
         "m:<sip:d>\r\n",
-        "X:1\r\n",
+        "Q:1\r\n",
         "Contact:<sip:e\r\n",
     ],
     longest_lines: 4,

@@ -74,7 +74,7 @@ fn blocks() -> Vec<Vec<u8>> {
     let malformed = values.map(|value| [value, "\r\n"].concat().into_bytes());
     let filled = |length: usize| {
         let filling = vec![b'x'; length - values[0].len() - 4];
-        [values[0].as_bytes(), b"F:", &filling, b"\r\n"].concat()
+        [values[0].as_bytes(), b"Q:", &filling, b"\r\n"].concat()
     };
     let mut too_long = filled(LENGTHS[1]);
     too_long[1] = b'\r';

@@ -110,6 +110,7 @@ pub fn each_call() {
     intervals();
     contests();
     test_sheet();
+    spellings();
     for method in 0..=15 {
         feed("method_text", &[], &[method, 12]);
     }
@@ -232,6 +233,34 @@ fn test_sheet() {
     feed("route_count", &["Record-Route: \"a<b\" <sip:p@h>, <sip:q@h>\r\n"], &[]);
 }
 
+/// Each of the five names with two spellings by the other one, both in one block, and a letter that is no spelling: change request 1.
+fn spellings() {
+    for (short, full) in SPELLINGS {
+        for (line, asked) in [(short, full), (full, short)] {
+            let block = format!("{line}:1\r\n");
+            feed("header", &[&block, asked], &[]);
+            let both = format!("{line}:1\r\n{asked}:2\r\n");
+            feed("header", &[&both, full], &[]);
+            feed("next_header, to the end", &[&both, short], &[]);
+        }
+    }
+    feed("header", &["v:1\r\n", "Via"], &[]);
+    for name in ["from_request", "from_response_uac", "from_response_uas"] {
+        feed(name, &["f:;tag=x\r\nT:;tag=y\r\ni:c\r\nCall-ID:d\r\n"], &[]);
+    }
+    feed("contact", &["m:*\r\nContact:<sip:o>\r\n"], &[]);
+    feed("session_expires", &["X:90\r\nSession-Expires:91\r\n"], &[]);
+}
+
+/// The names with two spellings: the short one, and the full one.
+const SPELLINGS: [(&str, &str); 5] = [
+    ("i", "Call-ID"),
+    ("f", "From"),
+    ("t", "To"),
+    ("m", "Contact"),
+    ("x", "Session-Expires"),
+];
+
 /// Values with semicolons in quotes or in brackets, or with what only looks like it: change request 3. The first is a line of the
 /// test sheet.
 const TAGS: [&str; 12] = [
@@ -277,7 +306,7 @@ fn longest_texts(length: usize) {
 
 /// Blocks of a length, and names.
 fn longest_blocks(length: usize) {
-    let block = |line: &str| format!("{line}\r\nX:{}\r\n", "x".repeat(length - line.len() - 6));
+    let block = |line: &str| format!("{line}\r\nQ:{}\r\n", "x".repeat(length - line.len() - 6));
     for (name, line) in BLOCKS {
         feed(name, &[&block(line)], &[]);
     }

@@ -177,7 +177,7 @@ impl Recorder {
     }
 }
 
-/// The C function of an operation that asks for a list to its end.
+/// The C function of an operation that asks for a list to its end, or in a run of its own.
 fn base_name(name: &'static str) -> &'static str {
     name.split(',').next().unwrap_or(name)
 }
@@ -205,7 +205,7 @@ fn lines(operation: &Operation, input: &Input, expected: &Answer) -> Vec<String>
 
 /// The line of a call that isn't a list.
 fn one_line(operation: &Operation, input: &Input, expected: &Answer) -> String {
-    let name = operation.name;
+    let name = base_name(operation.name);
     let form = form_of(name);
     let mut after = expected.bytes.clone();
     let after: &[u8] = if form.kinds.contains('o') {

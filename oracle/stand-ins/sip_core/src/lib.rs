@@ -1,5 +1,6 @@
 //! Stand-in for `sip-core`. msg.rs is the Rust's own file, copied in by `prepare` and unchanged; the other modules are
-//! in no listed file, and their bodies are written from document 01.
+//! in no listed file, and their bodies are written from document 01, the five short
+//! names from document 02, request 1.
 
 pub mod block;
 pub mod headers;

@@ -1,9 +1,9 @@
-//! Stand-in for `sip-parse`, written from document 01: `header` ("Block") and `parse_session_expires` ("Response").
+//! Stand-in for `sip-parse`, written from document 01: `header` ("Block", and document 02, request 1) and `parse_session_expires` ("Response").
 
 use sip_core::{Headers, RefresherRole};
 use smol_str::SmolStr;
 
-/// The value of the first line of that full name, letter case ignored.
+/// The value of the first line of that name in either spelling, letter case ignored.
 pub fn header<'a>(headers: &'a Headers, name: &str) -> Option<&'a SmolStr> {
     headers.first(name)
 }
