@@ -39,7 +39,7 @@ pub fn read_two(bytes: &[u8], at: usize) -> usize
 }
 
 // The four bytes at a place, as a number.
-// Kept (5): each caller has the bytes and a place among them; lent a slice, each would cut it.
+// Kept (5): most callers have the bytes and a place among them; lent a slice, those would cut it.
 // Kept (2): one line each: `from_be_bytes` is each number type's own, so that a function over the type would need a trait of ours for it.
 pub fn read_four(bytes: &[u8], at: usize) -> u32
     requires { at + 4 ≤ length bytes.now }
@@ -49,7 +49,7 @@ pub fn read_four(bytes: &[u8], at: usize) -> u32
 }
 
 // The eight bytes at a place, as a number.
-// Kept (5): each caller has the bytes and a place among them; lent a slice, each would cut it.
+// Kept (5): most callers have the bytes and a place among them; lent a slice, those would cut it.
 // Kept (2): one line each: `from_be_bytes` is each number type's own, so that a function over the type would need a trait of ours for it.
 pub fn read_eight(bytes: &[u8], at: usize) -> u64
     requires { at + 8 ≤ length bytes.now }

@@ -79,8 +79,8 @@ pub fn search<W: Wanted>(held: Held<'_>, wanted: &W) -> Option<(usize, RecordAt)
 }
 
 // The texts at these places are the identifier's.
-// Kept (4): part by part, as `named_at` says it, the clause is found alone; the derived `==` of `IdTexts`, which takes the same instructions (PERFORMANCE), would
-// need a proof that it is `named_at`.
+// Kept (4): part by part, as `named_at` says it, the clause is found alone; by the derived `==` of `IdTexts` two lines less and a lemma more, that it is
+// `named_at`, and 0 to 5 instructions more (PERFORMANCE).
 // Kept (5): the parameters are those of `is_at`.
 fn is_named(bytes: &[u8], ids: IdsAt, id: IdTexts<'_>) -> bool
     requires { IdsWithin bytes.now ids }

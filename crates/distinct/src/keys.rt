@@ -9,7 +9,8 @@ use record_walk::{ids_end, two};
 use std::cmp::Ordering;
 
 // How the key of the record at one place stands to that at another.
-// Kept (5): the places are those of a table or a walk.
+// Kept (5): the places are bare numbers of a table (`merge`) or a walk (`is_alone`); a struct of bytes and place with `At` as its ghost field would be made
+// twice for each comparison, and taken apart in it.
 // Kept (4): by `cmp` and `then_with` two numbers, then two others, take 14 instructions, by tests 10 (PERFORMANCE). A sort of 1,000 records compares 8,929 times:
 // 36 instructions more for each, where a request takes 3,578 and has a bar of 3,600.
 pub fn compare(bytes: &[u8], p: usize, q: usize) -> Ordering

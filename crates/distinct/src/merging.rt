@@ -69,8 +69,8 @@ fn merge(bytes: &[u8], places: &[usize], mid: usize, out: &mut [usize]) -> bool
 }
 
 // `piece` over the places from `at` on.
-// Kept (4): `copy_from_slice` is 73 instructions of `memcpy` for each of 10,000 records; with this loop a request at 1,000 takes 3,578 for each, and its
-// bar is 3,600 (PERFORMANCE). `out[at..].iter_mut().zip(piece)` does not close: after an adapter of `iter_mut` a proof knows how long `out` is, and not
+// Kept (4): a request at 1,000 records took 3,904 instructions for each with this by `copy_from_slice` and two more forms of std's, 3,592 with the three
+// loops; its bar is 3,600 (PERFORMANCE; this one was not measured alone). `out[at..].iter_mut().zip(piece)` does not close: after an adapter of `iter_mut` a proof knows how long `out` is, and not
 // its elements.
 fn copy_at(out: &mut [usize], at: usize, piece: &[usize])
     requires { at + length piece.now ≤ length out.old }

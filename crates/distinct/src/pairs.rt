@@ -7,8 +7,8 @@ use crate::keys::compare;
 use record_walk::Records;
 
 // None of the records that are left has the identifier of the record at `p`.
-// Kept (5): over `others.bytes` alone, without `bytes`, the proof doesn't close (tried): `Records` has no ghost field, as `Held` has `fit`, that each byte is
-// below 256, which each place that makes one would have to prove.
+// Kept (5): over `others.bytes` alone, without `bytes`, the proof doesn't close (tried): that each byte is below 256 is known of a slice that is a parameter, of
+// a struct's only by a ghost field (`fit` of `Held`), and `Records` has none; `bytes` beside it spares one that only this would read.
 pub fn is_alone(bytes: &[u8], p: usize, others: Records<'_>) -> bool
     requires { At bytes.now p × (others.bytes.now ≡ bytes.now) }
     ensures { result ≡ alone_from bytes.now p others.entry.at }

@@ -145,7 +145,7 @@ pub fn read_state(bytes: &[u8], at: usize) -> Option<(State, bool, bool)>
 }
 
 // The number that the state byte has for a state.
-// Kept (4): the enum's own number by `as`; a `From` would be this line, without the bound that its callers add up with.
+// Kept (4): the enum's own number by `as`; a `From` would be this line, without the bound that image_writer's `state_byte` adds up with.
 pub fn state_number(state: State) -> u8
     ensures { (result ≡ state_number (state_in state)) × (result ≤ 3) }
 {

@@ -90,7 +90,8 @@ pub fn new_map(x: Numbers, ids: IdsAt, routes: usize) -> usize
 }
 
 // 1 where there are some.
-// Kept (2): image_writer's `number_bit` of a length: no type parameter is compared with 0.
+// Kept (2): image_writer's `number_bit`, which is private there, of a length: one for both would be public, of a `usize`, and lent the two numbers by `as`, for
+// one line.
 fn bit(n: usize) -> usize
     ensures { (result ≡ bit_of (ltb 0 n)) × (result ≤ 1) }
 {

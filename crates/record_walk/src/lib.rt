@@ -20,7 +20,7 @@ pub struct IdEnds {
 }
 
 // The place past the record at a place.
-// Kept (5): the tables of `distinct` hold bare places, and `close_up` writes the bytes that a struct of bytes and place with `At` as its ghost field
+// Kept (5): `Records` has the place as its own field, and `close_up` writes the bytes that a struct of bytes and place with `At` as its ghost field
 // would borrow.
 pub fn record_end(bytes: &[u8], p: usize) -> usize
     requires { At bytes.now p }
@@ -89,7 +89,7 @@ pub fn past(bytes: &[u8], at: usize) -> usize
 }
 
 // The number in two bytes.
-// Kept (4, 5): a place is a number that the code adds up, and each reading goes on at the one before's end. By `u16::from_be_bytes`, which
+// Kept (4, 5): a place is a number that the code adds up: a record's, for its map, or a text's, at the end of the one before. By `u16::from_be_bytes`, which
 // `codec::read_two` is, a request at 1,000 records takes 3,637 instructions a record, by these products 3,578; issue 19 gives 3,600 (PERFORMANCE).
 pub fn two(bytes: &[u8], at: usize) -> usize
     requires { at + 1 < length bytes.now }

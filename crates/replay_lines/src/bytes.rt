@@ -17,7 +17,7 @@ pub fn copy_at(s: &[u8], out: &mut [u8], at: usize) {
 }
 
 // Writes the last digits of n in decimal over the places from `at` to before `end`.
-// Kept (4): std's `write!` and `io::decimal` write a number's own digits, no zeros before them and none left out.
+// Kept (4): `write!` and `io::decimal` leave no digit out; here the first ones go where the places are fewer, and places outside the bytes are passed over.
 pub fn write_digits(n: u64, out: &mut [u8], at: usize, end: usize) {
     let mut left = n;
     // Kept (3): places outside are passed over one by one while the digits go on; a slice would be none where one is outside.

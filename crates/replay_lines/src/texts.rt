@@ -30,9 +30,8 @@ fn repeated<'a>(line: &'a [u8], bytes: &mut [u8], to: usize) -> Option<(usize, &
     if let [b'"', rest @ ..] = line {
         return quoted(rest, bytes, to);
     }
-    let (times, [b'*', b'"', rest @ ..]) = read_number(line)? else {
-        return None;
-    };
+    let (times, rest) = read_number(line)?;
+    let rest = rest.strip_prefix(b"*\"")?;
     let (end, after) = quoted(rest, bytes, to)?;
     Some((repeat(bytes, to, end, times)?, after))
 }

@@ -101,7 +101,8 @@ pub fn message(
     requested(rt, Request { method, block }, record)
 }
 
-// Kept (2): `answered` is this of a response, by another call.
+// Kept (2): `answered` is this of a response, by another call: one function of the two would be lent that call as a closure over the record's bytes, and what
+// they share is `updated`.
 fn requested(rt: &impl Print, request: Request<'_>, record: &mut Record) -> io::Result<()> {
     let used = record.used;
     let answer = dialog_requests::update_from_request(request, &mut record.bytes, used);
@@ -137,7 +138,7 @@ pub fn answer(
     answered(rt, Response { status, block }, record)
 }
 
-// Kept (2): `requested` is this of a request, by another call.
+// Kept (2): as `requested`.
 fn answered(rt: &impl Print, response: Response<'_>, record: &mut Record) -> io::Result<()> {
     let used = record.used;
     let answer = dialog_responses::update_from_response(response, &mut record.bytes, used);

@@ -10,6 +10,7 @@ use std::io;
 const INVITE: u8 = 1;
 
 // The beginning of a line: where the example stands, the call, and the dialog.
+// Kept (2): `ask_of` of sheet_lines begins so, but ends by `: `; here the call's arguments follow.
 pub fn begin(rt: &impl Print, place: &[u8], call: &[u8], id: &[u8]) -> io::Result<()> {
     rt.write_all(place)?;
     rt.write_all(b"  ")?;

@@ -10,8 +10,8 @@ use record_walk::id_ends;
 use text::Span;
 
 // The parts of the identifier of the record at a place.
-// Kept (5): the tables of `distinct` hold bare places, and `close_up` writes the bytes that a struct of bytes and place with `At` as its ghost field
-// would borrow.
+// Kept (5): its callers, four loops over `Records`, have a bare place from it; a struct of bytes and place with `At` as its ghost field would be made at
+// each turn for this call, and taken apart in it.
 pub fn ids_at(bytes: &[u8], p: usize) -> IdsAt
     requires { At bytes.now p }
     ensures { IdsRead bytes.now p result }

@@ -45,8 +45,8 @@ fn close_up(bytes: &mut [u8]) -> usize
 }
 
 // The state byte of the record at a place stands behind its identifier; its low two bits tell the state.
-// Kept (5): the tables of `distinct` hold bare places, and `close_up` writes the bytes that a struct of bytes and place with `At` as its ghost field
-// would borrow.
+// Kept (5): `close_up`, its one caller, writes the bytes as it walks; a struct of bytes and place with `At` as its ghost field would borrow them, and be
+// made anew for each record.
 fn is_terminated(bytes: &[u8], at: usize) -> bool
     requires { At bytes.now at }
     ensures { TerminatedAt bytes.now at result }
