@@ -21,7 +21,7 @@ int main(int count, char **words)
     for (size_t i = 0; i < 4; i++)
         image[length - 4 + i] = (uint8_t)(seconds >> (24 - 8 * i));
     uint8_t due = 2;
-    int refused = sip_dialog_image_needs_refresh(image, length, elapsed, &due);
+    int refused = sip_dialog_image_needs_refresh(SIP_DIALOG_RUST_SETTINGS, image, length, elapsed, &due);
     printf("%d %d\n", refused, due);
     return refused;
 }

@@ -88,7 +88,7 @@ static double count_once(struct given *g)
 {
     size_t count = 0;
     double from = nanoseconds();
-    uint8_t number = sip_dialog_count(g->store, g->records * RECORD, g->records * RECORD, &count);
+    uint8_t number = sip_dialog_count(SIP_DIALOG_RUST_SETTINGS, g->store, g->records * RECORD, g->records * RECORD, &count);
     double to = nanoseconds();
     return number == 0 && count == g->records ? to - from : -1;
 }
@@ -100,8 +100,8 @@ static double request_once(struct given *g)
     uint8_t number;
     memcpy(g->copy, g->store, used);
     from = nanoseconds();
-    number = sip_dialog_request((const uint8_t *)"INVITE", 6, (const uint8_t *)g->block, strlen(g->block), g->copy,
-        g->records * RECORD + ROOM, &used);
+    number = sip_dialog_request(SIP_DIALOG_RUST_SETTINGS, (const uint8_t *)"INVITE", 6, (const uint8_t *)g->block, strlen(g->block),
+        g->copy, g->records * RECORD + ROOM, &used);
     to = nanoseconds();
     return number == 0 ? to - from : -1;
 }

@@ -28,6 +28,9 @@ static uint64_t terminated;
 static uint8_t verdicts[SIP_DIALOG_RUN_SIZE];
 static size_t verdicts_used;
 
+/* What the site has set: these are the Rust's own figures. Every call on the store gets the same for the store's whole life. */
+static const sip_dialog_settings site = {.cseq_jump = 1000, .pending = 10, .cleanup_seconds = 300, .timeout_seconds = 300, .early_cap = 100};
+
 /* The clock, in nanoseconds: here a request comes every 20 s. */
 static uint64_t now;
 
@@ -110,7 +113,7 @@ static void open_line(const char *line, uint16_t status)
 
     must("new_uas", sip_dialog_new_uas(TEXT("INVITE"), TEXT(invite), status, TEXT(response), TEXT(our_uri), TEXT(DESK_URI),
                                        image, sizeof image, &length, &least));
-    must("put", sip_dialog_put(image, length, store, sizeof store, &used, &created));
+    must("put", sip_dialog_put(site, image, length, store, sizeof store, &used, &created));
     printf("INVITE for %s, answered %u: record held\n", line, (unsigned)status);
 }
 
@@ -122,7 +125,7 @@ static void close_line(const char *bye)
     size_t call_id = 0, call_id_len = 0, from = 0, from_len = 0, to = 0, to_len = 0;
 
     must("from_request", sip_dialog_from_request(TEXT(bye), &call_id, &call_id_len, &from, &from_len, &to, &to_len));
-    must("terminate", sip_dialog_terminate(block + call_id, call_id_len, block + to, to_len, block + from, from_len,
+    must("terminate", sip_dialog_terminate(site, block + call_id, call_id_len, block + to, to_len, block + from, from_len,
                                            store, sizeof store, &used));
     puts("    the line is closed");
 }
@@ -130,7 +133,7 @@ static void close_line(const char *bye)
 /* Asks whether a request may move its record. A refused one leaves every record as it was, and the line as it is. */
 static void judge(const char *method, const char *block)
 {
-    uint8_t number = sip_dialog_request(TEXT(method), TEXT(block), store, sizeof store, &used);
+    uint8_t number = sip_dialog_request(site, TEXT(method), TEXT(block), store, sizeof store, &used);
 
     must("add_verdict", sip_dialog_add_verdict(now, number, verdicts, sizeof verdicts, &verdicts_used));
     now += 20 * (uint64_t)SECOND;
@@ -159,8 +162,8 @@ static void print_identifiers(void)
     static uint8_t ids[4096];
     size_t count = 0, length = 0, at = 0, part = 0;
 
-    must("count", sip_dialog_count(store, sizeof store, used, &count));
-    must("all_ids", sip_dialog_all_ids(store, sizeof store, used, ids, sizeof ids, &length));
+    must("count", sip_dialog_count(site, store, sizeof store, used, &count));
+    must("all_ids", sip_dialog_all_ids(site, store, sizeof store, used, ids, sizeof ids, &length));
     printf("%zu records\n", count);
     while (at < length) {
         size_t text_len = (size_t)ids[at] * 256 + ids[at + 1];
@@ -210,16 +213,16 @@ int main(void)
     print_worst_minute();
     print_identifiers();
 
-    must("sweep", sip_dialog_sweep(store, sizeof store, &used));
+    must("sweep", sip_dialog_sweep(site, store, sizeof store, &used));
     puts("swept: closed lines are gone");
-    must("remove", sip_dialog_remove(TEXT("yard@control.example"), TEXT(OUR_TAG), TEXT(DESK_TAG),
+    must("remove", sip_dialog_remove(site, TEXT("yard@control.example"), TEXT(OUR_TAG), TEXT(DESK_TAG),
                                      store, sizeof store, &used, &terminated));
     puts("removed: yard");
     print_identifiers();
     /* a sweep moves no count */
     printf("created %llu, terminated %llu\n", (unsigned long long)created, (unsigned long long)terminated);
 
-    must("listing", sip_dialog_listing(store, used, listing, sizeof listing, &length));
+    must("listing", sip_dialog_listing(site, store, used, listing, sizeof listing, &length));
     printf("%.*s", (int)length, (const char *)listing);
     return fflush(stdout) == 0 && !ferror(stdout) ? EXIT_SUCCESS : EXIT_FAILURE;
 }

@@ -8,9 +8,9 @@
  * - A byte run is a pointer and its length in bytes; no zero byte ends it. A null pointer is allowed only with length 0.
  * - Byte runs of one call must not overlap, neither each other nor a lent number. (Runs that are only read do no harm where they
  *   are the same bytes, as a compiler may make of equal literals: no call writes them. The proofs speak of runs apart.)
- * - Stack, as read off the archive's code, frame by frame along the calls: sip_dialog_request up to 540,000 bytes, every other call on a
- *   store of records up to 270,000, however small the store is (tables for the comparison of identifiers), sip_dialog_listing up to
- *   50,000, every other call less than 2,700. The archive calls memcpy, memmove and memset, whose own are not counted.
+ * - Stack, as read off the archive's code, frame by frame along the calls (tests/stack.sh): a call on a store of records, the listing too, up to
+ *   44,000 bytes, however small the store is (tables for the comparison of identifiers), every other call less than 1,600. Of what memcpy,
+ *   memmove and memset take, which the archive calls, 256 bytes are counted.
  * - A lent number (found, place, ..) is a pointer to a number of its own, never null. It keeps its value except where its
  *   answer is given: a refused call changes none of them (but 13's `least`, and `used` of sip_dialog_prack_validate with 19 to 24),
  *   and with `found` 0 the others keep theirs.
@@ -40,7 +40,7 @@ enum sip_dialog_refusal {
     SIP_DIALOG_ACCEPTED = 0,
     SIP_DIALOG_TEXT_TOO_LONG = 1,              /* a given text or block is over 8,192 bytes */
     SIP_DIALOG_MALFORMED = 2,                  /* a block, or a value given alone, isn't of its form */
-    SIP_DIALOG_BAD_STORE = 3,                  /* a store isn't of its layout, or a record no whole image; an identifier stands twice; used over the lent length */
+    SIP_DIALOG_BAD_STORE = 3,                  /* a store or a record isn't of its layout; an identifier twice; a PRACK list over the site's pending; used over the lent length */
     SIP_DIALOG_MISSING_HEADER = 4,             /* an identifier part, CSeq or RSeq is absent or unreadable */
     SIP_DIALOG_INVALID_STATUS = 5,             /* status outside 100 to 299 at creation */
     SIP_DIALOG_INVALID_URI = 6,                /* a given URI is unreadable */
@@ -49,12 +49,12 @@ enum sip_dialog_refusal {
     SIP_DIALOG_CSEQ_ZERO = 9,                  /* CSeq 0 */
     SIP_DIALOG_CSEQ_TOO_LARGE = 10,            /* CSeq over 2,147,483,647 */
     SIP_DIALOG_INVALID_CSEQ = 11,              /* CSeq not above the last one; ACK's unequal to it */
-    SIP_DIALOG_CSEQ_JUMP_TOO_LARGE = 12,       /* CSeq over 1,000 above the last one */
+    SIP_DIALOG_CSEQ_JUMP_TOO_LARGE = 12,       /* CSeq further above the last one than the site's jump */
     SIP_DIALOG_SESSION_EXPIRES_TOO_SMALL = 13, /* interval too short; the minimum is answered beside it */
     SIP_DIALOG_SESSION_EXPIRES_TOO_LARGE = 14, /* interval over 86,400 s */
     SIP_DIALOG_NOT_FOUND = 15,                 /* no such record; no RSeq number held */
     SIP_DIALOG_TOO_MANY_DIALOGS = 16,          /* 10,000 records held */
-    SIP_DIALOG_TOO_MANY_EARLY_DIALOGS = 17,    /* 100 other Early records of this Call-ID */
+    SIP_DIALOG_TOO_MANY_EARLY_DIALOGS = 17,    /* as many other Early records of this Call-ID as the site's cap, or more */
     SIP_DIALOG_NO_ROOM = 18,                   /* the result is larger than the lent bytes */
     SIP_DIALOG_INVALID_RACK = 19,              /* RAck absent, not three parts, or a part unreadable */
     SIP_DIALOG_NO_PENDING_LIST = 20,           /* no PRACK list of this identifier */
@@ -65,8 +65,26 @@ enum sip_dialog_refusal {
     SIP_DIALOG_IDENTIFIER_EMPTY = 25,          /* an identifier part is empty */
     SIP_DIALOG_IDENTIFIER_TOO_LONG = 26,       /* Call-ID over 256 bytes, or a tag over 128 */
     SIP_DIALOG_CONTROL_CHARACTERS = 27,        /* an identifier part has bytes 0 to 31 or over 126 */
-    SIP_DIALOG_INVALID_METHOD = 28             /* method number outside 1 to 14 */
+    SIP_DIALOG_INVALID_METHOD = 28,            /* method number outside 1 to 14 */
+    SIP_DIALOG_SETTING_OUT_OF_BOUNDS = 30      /* one of the site's settings lies outside its bounds */
 };
+
+/*
+ * A site's settings, given to every call on a record image, on a store of records and on a PRACK store. They aren't kept in it: give the
+ * same ones for its whole life. Each call goes by those that it is given: with a smaller `pending` than before, a PRACK store may be refused
+ * by 3. Where one lies outside its bounds, also one that the call doesn't use, the call is refused by 30, before any other cause, and changes
+ * nothing.
+ */
+typedef struct sip_dialog_settings {
+    uint32_t cseq_jump;       /* 1 to 65,535: the most that a request's CSeq, ACK's apart, may be above a remote number that isn't 0 (12) */
+    uint32_t pending;         /* 1 to 32: the most responses of a PRACK list: one more drops the first; a store with a longer list is refused (3) */
+    uint32_t cleanup_seconds; /* 1 to 3,600: a PRACK list is cleaned when so long or longer has passed since its last cleanup */
+    uint32_t timeout_seconds; /* 1 to 3,600: a cleanup drops responses that were registered longer ago */
+    uint32_t early_cap;       /* 1 to 100: an Early record is put only where fewer others of its Call-ID are Early (17) */
+} sip_dialog_settings;
+
+/* The Rust's own figures. */
+static const sip_dialog_settings SIP_DIALOG_RUST_SETTINGS = {1000, 10, 300, 300, 100};
 
 /* The numbers of the methods. */
 enum sip_dialog_method {
@@ -236,41 +254,42 @@ uint8_t sip_dialog_determine_refresher_role(bool given, const uint8_t *text, siz
 /* ---- One record image: docs/LAYOUTS.md has its bytes. The run given as `image` is exactly one image. 3: it isn't, or bytes
    stand after it. None of these functions changes a byte of it; places are counted from its start. */
 
-/* Where the parts of the identifier lie. An empty part has length 0 and the place where it would begin. Refuses with 3. */
-uint8_t sip_dialog_image_id(const uint8_t *image, size_t image_len, size_t *call_id, size_t *call_id_length,
-                            size_t *local_tag, size_t *local_tag_length, size_t *remote_tag, size_t *remote_tag_length);
+/* Where the parts of the identifier lie. An empty part has length 0 and the place where it would begin. Refuses with 30, 3. */
+uint8_t sip_dialog_image_id(sip_dialog_settings settings, const uint8_t *image, size_t image_len, size_t *call_id, size_t *call_id_length,
+    size_t *local_tag, size_t *local_tag_length, size_t *remote_tag, size_t *remote_tag_length);
 
 /* The state: 1 Early, 2 Confirmed, 3 Terminated; we_are_uac 1 for uac, 0 for uas; secure 1 where the local or the remote URI
-   is `sips:`, else 0. Refuses with 3. */
-uint8_t sip_dialog_image_state(const uint8_t *image, size_t image_len, uint8_t *state, uint8_t *we_are_uac, uint8_t *secure);
+   is `sips:`, else 0. Refuses with 30, 3. */
+uint8_t sip_dialog_image_state(sip_dialog_settings settings, const uint8_t *image, size_t image_len, uint8_t *state, uint8_t *we_are_uac,
+    uint8_t *secure);
 
-/* Where the texts of the target, the local URI and the remote URI lie. Refuses with 3. */
-uint8_t sip_dialog_image_uris(const uint8_t *image, size_t image_len, size_t *target, size_t *target_length,
-                              size_t *local_uri, size_t *local_uri_length, size_t *remote_uri, size_t *remote_uri_length);
+/* Where the texts of the target, the local URI and the remote URI lie. Refuses with 30, 3. */
+uint8_t sip_dialog_image_uris(sip_dialog_settings settings, const uint8_t *image, size_t image_len, size_t *target, size_t *target_length,
+    size_t *local_uri, size_t *local_uri_length, size_t *remote_uri, size_t *remote_uri_length);
 
 /* The local and the remote number, 0 where the image has none; has_last_ack 1 with last_ack, or 0 (last_ack keeps its value);
    has_seconds 1 with the session's seconds, or 0 (seconds keeps its value); refresher 0 none, 1 uac, 2 uas. A last ACK or
-   seconds of 0 are present. Refuses with 3. */
-uint8_t sip_dialog_image_numbers(const uint8_t *image, size_t image_len, uint32_t *local, uint32_t *remote,
-                                 uint8_t *has_last_ack, uint32_t *last_ack, uint8_t *has_seconds, uint32_t *seconds,
-                                 uint8_t *refresher);
+   seconds of 0 are present. Refuses with 30, 3. */
+uint8_t sip_dialog_image_numbers(sip_dialog_settings settings, const uint8_t *image, size_t image_len, uint32_t *local, uint32_t *remote,
+    uint8_t *has_last_ack, uint32_t *last_ack, uint8_t *has_seconds, uint32_t *seconds, uint8_t *refresher);
 
-/* How many routes the record has, at most 50. Refuses with 3. */
-uint8_t sip_dialog_image_route_count(const uint8_t *image, size_t image_len, size_t *count);
+/* How many routes the record has, at most 50. Refuses with 30, 3. */
+uint8_t sip_dialog_image_route_count(sip_dialog_settings settings, const uint8_t *image, size_t image_len, size_t *count);
 
 /* The route at an index from 0: found 1 with place and length of its URI in the image, or found 0 from the count on. Refuses
-   with 3, whatever the index. */
-uint8_t sip_dialog_image_route(const uint8_t *image, size_t image_len, size_t index,
-                               uint8_t *found, size_t *place, size_t *length);
+   with 30, 3, whatever the index. */
+uint8_t sip_dialog_image_route(sip_dialog_settings settings, const uint8_t *image, size_t image_len, size_t index, uint8_t *found,
+    size_t *place, size_t *length);
 
 /* Whether a request from the peer belongs to the record: matches 1 where its Call-ID is the record's, the tag of From the
-   remote one and the tag of To the local one, byte by byte; else 0, where one of them is absent too. Refuses with 1, 2, 3. */
-uint8_t sip_dialog_image_matches_request(const uint8_t *block, size_t block_len, const uint8_t *image, size_t image_len,
-                                         uint8_t *matches);
+   remote one and the tag of To the local one, byte by byte; else 0, where one of them is absent too. Refuses with 30, 1, 2, 3. */
+uint8_t sip_dialog_image_matches_request(sip_dialog_settings settings, const uint8_t *block, size_t block_len, const uint8_t *image,
+    size_t image_len, uint8_t *matches);
 
 /* Whether two thirds of the record's interval have passed, with elapsed in nanoseconds: due 1 for yes, 0 for no. Without an
-   interval: no. Refuses with 3. */
-uint8_t sip_dialog_image_needs_refresh(const uint8_t *image, size_t image_len, uint64_t elapsed, uint8_t *due);
+   interval: no. Refuses with 30, 3. */
+uint8_t sip_dialog_image_needs_refresh(sip_dialog_settings settings, const uint8_t *image, size_t image_len, uint64_t elapsed,
+    uint8_t *due);
 
 /* ---- A new record image, at the front of out; `written` answers its length. `request` and `response` are header blocks,
    status is the response's: 100 to 199 makes an Early record, 200 to 299 a Confirmed one. Call-ID, tags and interval are the
@@ -302,42 +321,44 @@ uint8_t sip_dialog_new_uas(const uint8_t *method, size_t method_len, const uint8
    one image. 18: the changed image is larger than image_len. Refused, every lent byte stays and `used` keeps its value;
    accepted, bytes past the new length stay. */
 
-/* Early becomes Confirmed; any other state stays. The length stays. Refuses with 3. */
-uint8_t sip_dialog_image_confirm(uint8_t *image, size_t image_len, size_t *used);
+/* Early becomes Confirmed; any other state stays. The length stays. Refuses with 30, 3. */
+uint8_t sip_dialog_image_confirm(sip_dialog_settings settings, uint8_t *image, size_t image_len, size_t *used);
 
-/* Any state becomes Terminated. The length stays. Refuses with 3. */
-uint8_t sip_dialog_image_terminate(uint8_t *image, size_t image_len, size_t *used);
+/* Any state becomes Terminated. The length stays. Refuses with 30, 3. */
+uint8_t sip_dialog_image_terminate(sip_dialog_settings settings, uint8_t *image, size_t image_len, size_t *used);
 
 /* Raises the local number by one, or leaves it at 4,294,967,295, and answers it in number. The image grows by four bytes
-   where it had none. Refuses with 3, 18. */
-uint8_t sip_dialog_image_next_local_cseq(uint8_t *image, size_t image_len, size_t *used, uint32_t *number);
+   where it had none. Refuses with 30, 3, 18. */
+uint8_t sip_dialog_image_next_local_cseq(sip_dialog_settings settings, uint8_t *image, size_t image_len, size_t *used, uint32_t *number);
 
 /* Sets the session's interval, in seconds; who refreshes stays. The image grows by four bytes where it had none. Refuses with
-   3; 13 below 90 and then answers 90 in least, in seconds; 14 over 86,400; 18. But for 13, least keeps its value. */
-uint8_t sip_dialog_image_set_session_expires(uint8_t *image, size_t image_len, size_t *used, uint64_t seconds, uint64_t *least);
+   30, 3; 13 below 90 and then answers 90 in least, in seconds; 14 over 86,400; 18. But for 13, least keeps its value. */
+uint8_t sip_dialog_image_set_session_expires(sip_dialog_settings settings, uint8_t *image, size_t image_len, size_t *used, uint64_t seconds,
+    uint64_t *least);
 
-/* Takes a request. Its CSeq becomes the remote number: 1 to 2,147,483,647 and, where the record has a remote number, 1 to
-   1,000 above that. The CSeq of an ACK, exactly these letters in capitals, must be the remote number and becomes the last
+/* Takes a request. Its CSeq becomes the remote number: 1 to 2,147,483,647 and, where the record has a remote number, above
+   that by 1 to the site's jump. The CSeq of an ACK, exactly these letters in capitals, must be the remote number and becomes the last
    ACK; no largest number holds for it. The URI of the first Contact line, if it is readable, becomes the target, whatever its
-   estimate. Nothing else changes, in any state, and the block's identifier isn't compared. Refuses with 1 (method, block); 2;
+   estimate. Nothing else changes, in any state, and the block's identifier isn't compared. Refuses with 30, 1 (method, block); 2;
    3; 4 (CSeq); 9, for ACK too; an ACK then with 11, any other with 10, 11, 12; 18. */
-uint8_t sip_dialog_image_update_from_request(const uint8_t *method, size_t method_len, const uint8_t *block, size_t block_len,
-                                             uint8_t *image, size_t image_len, size_t *used);
+uint8_t sip_dialog_image_update_from_request(sip_dialog_settings settings, const uint8_t *method, size_t method_len, const uint8_t *block,
+    size_t block_len, uint8_t *image, size_t image_len, size_t *used);
 
 /* Takes a response of any status. The URI of the first Contact line, if it is readable, becomes the target, whatever its
    estimate. A readable Session-Expires replaces interval and refresher, 0 and over 86,400 s too; without a refresher there
    the record has none. Status 200 to 299 makes Early Confirmed, and the block's routes, reversed over all lines, then replace
    the record's; where there are none, or reading them is refused (7, 8), the record's stay. Any other state stays, with its
    routes. The block's identifier isn't compared. A uas that has sent a 2xx calls sip_dialog_image_confirm instead: given here,
-   its own Contact would become the target, and its routes would be reversed. Refuses with 1, 2, 3, 18. */
-uint8_t sip_dialog_image_update_from_response(uint16_t status, const uint8_t *block, size_t block_len,
-                                              uint8_t *image, size_t image_len, size_t *used);
+   its own Contact would become the target, and its routes would be reversed. Refuses with 30, 1, 2, 3, 18. */
+uint8_t sip_dialog_image_update_from_response(sip_dialog_settings settings, uint16_t status, const uint8_t *block, size_t block_len,
+    uint8_t *image, size_t image_len, size_t *used);
 
 /* ---- Stores of records: docs/LAYOUTS.md has their bytes.
 
    A store is lent as `store`, and its first `used` bytes are its records; an empty store has used 0. Every function below reads
    the whole store before it looks for a record, and refuses with 3 where used is over store_len, where the used bytes aren't whole
-   record images, or where one identifier stands twice. The lent length may differ from call to call.
+   record images, or where one identifier stands twice; more Early records of a Call-ID than the site's cap are no cause. The lent length
+   may differ from call to call.
 
    A function that changes the store takes a pointer to used: accepted, it holds the new used length; refused, it keeps its value
    and every byte of the store stays. Bytes past the new used length stay. A record keeps its place, whatever changes in it.
@@ -346,75 +367,76 @@ uint8_t sip_dialog_image_update_from_response(uint16_t status, const uint8_t *bl
 
 /* Puts the record image: in the place of the record of its identifier, or behind all others. Adds one to created, for a
    replacement too; the largest number stays. The image must not lie in the lent store: one that was made in its free end is copied
-   out first. Refuses with 3 (the store, or image isn't exactly one record image), 16 (10,000 held,
-   even for a replacement), 17 (image is Early, and 100 other Early records have its Call-ID), 18. */
-uint8_t sip_dialog_put(const uint8_t *image, size_t image_len,
-                       uint8_t *store, size_t store_len, size_t *used, uint64_t *created);
+   out first. Refuses with 30, 3 (the store, or image isn't exactly one record image), 16 (10,000 held,
+   even for a replacement), 17 (image is Early, and as many other Early records as the site's cap have its Call-ID), 18. */
+uint8_t sip_dialog_put(sip_dialog_settings settings, const uint8_t *image, size_t image_len, uint8_t *store, size_t store_len, size_t *used,
+    uint64_t *created);
 
 /* The request entry: finds the record that the block names (the tag of From is its remote tag) and changes it by the request, as
    sip_dialog_image_update_from_request does. 0: the request is taken. No method changes the state: after a BYE that was taken,
-   sip_dialog_terminate ends the record. Refuses with 1, 2, 3, 15 (also where a part of the identifier
+   sip_dialog_terminate ends the record. Refuses with 30, 1, 2, 3, 15 (also where a part of the identifier
    can't be read), 4 (CSeq), 9; method ACK: 11; others: 10, 11, 12; 18. */
-uint8_t sip_dialog_request(const uint8_t *method, size_t method_len, const uint8_t *block, size_t block_len,
-                           uint8_t *store, size_t store_len, size_t *used);
+uint8_t sip_dialog_request(sip_dialog_settings settings, const uint8_t *method, size_t method_len, const uint8_t *block, size_t block_len,
+    uint8_t *store, size_t store_len, size_t *used);
 
 /* Changes a record by a response that was received, as sip_dialog_image_update_from_response does. A uas that has sent a 2xx does
    not give that block here: it gives 200 with an empty block, which makes Early Confirmed and changes nothing else. (It can also copy
    the record out by sip_dialog_get, call sip_dialog_image_confirm and put it again; but a put counts as created, and is refused with
-   16 where 10,000 are held.) Refuses with 1, 2, 3, 15, 18. */
-uint8_t sip_dialog_response(const uint8_t *call_id, size_t call_id_len, const uint8_t *local_tag, size_t local_tag_len,
-                            const uint8_t *remote_tag, size_t remote_tag_len, uint16_t status,
-                            const uint8_t *block, size_t block_len, uint8_t *store, size_t store_len, size_t *used);
+   16 where 10,000 are held.) Refuses with 30, 1, 2, 3, 15, 18. */
+uint8_t sip_dialog_response(sip_dialog_settings settings, const uint8_t *call_id, size_t call_id_len, const uint8_t *local_tag,
+    size_t local_tag_len, const uint8_t *remote_tag, size_t remote_tag_len, uint16_t status, const uint8_t *block, size_t block_len,
+    uint8_t *store, size_t store_len, size_t *used);
 
-/* A record becomes Terminated, and stays in the store until it is removed or swept. Refuses with 1, 3, 15. */
-uint8_t sip_dialog_terminate(const uint8_t *call_id, size_t call_id_len, const uint8_t *local_tag, size_t local_tag_len,
-                             const uint8_t *remote_tag, size_t remote_tag_len,
-                             uint8_t *store, size_t store_len, size_t *used);
+/* A record becomes Terminated, and stays in the store until it is removed or swept. Refuses with 30, 1, 3, 15. */
+uint8_t sip_dialog_terminate(sip_dialog_settings settings, const uint8_t *call_id, size_t call_id_len, const uint8_t *local_tag,
+    size_t local_tag_len, const uint8_t *remote_tag, size_t remote_tag_len, uint8_t *store, size_t store_len, size_t *used);
 
-/* Raises a record's local number by one, or leaves it at 4,294,967,295, and answers it in number. Refuses with 1, 3, 15, 18. */
-uint8_t sip_dialog_next_local_cseq(const uint8_t *call_id, size_t call_id_len, const uint8_t *local_tag, size_t local_tag_len,
-                                   const uint8_t *remote_tag, size_t remote_tag_len,
-                                   uint8_t *store, size_t store_len, size_t *used, uint32_t *number);
+/* Raises a record's local number by one, or leaves it at 4,294,967,295, and answers it in number. Refuses with 30, 1, 3, 15, 18. */
+uint8_t sip_dialog_next_local_cseq(sip_dialog_settings settings, const uint8_t *call_id, size_t call_id_len, const uint8_t *local_tag,
+    size_t local_tag_len, const uint8_t *remote_tag, size_t remote_tag_len, uint8_t *store, size_t store_len, size_t *used,
+    uint32_t *number);
 
-/* Sets a record's session interval, in seconds; who refreshes stays. Refuses with 1, 3, 15; 13 below 90 and then answers 90 in
+/* Sets a record's session interval, in seconds; who refreshes stays. Refuses with 30, 1, 3, 15; 13 below 90 and then answers 90 in
    least, in seconds; 14 over 86,400; 18. But for 13, least keeps its value. */
-uint8_t sip_dialog_set_session_expires(const uint8_t *call_id, size_t call_id_len,
-                                       const uint8_t *local_tag, size_t local_tag_len,
-                                       const uint8_t *remote_tag, size_t remote_tag_len, uint64_t seconds,
-                                       uint8_t *store, size_t store_len, size_t *used, uint64_t *least);
+uint8_t sip_dialog_set_session_expires(sip_dialog_settings settings, const uint8_t *call_id, size_t call_id_len, const uint8_t *local_tag,
+    size_t local_tag_len, const uint8_t *remote_tag, size_t remote_tag_len, uint64_t seconds, uint8_t *store, size_t store_len,
+    size_t *used, uint64_t *least);
 
-/* Takes a record out; those behind it move up. Adds one to terminated; the largest number stays. Refuses with 1, 3, 15. A caller
+/* Takes a record out; those behind it move up. Adds one to terminated; the largest number stays. Refuses with 30, 1, 3, 15. A caller
    that wants the record copies it out before, at the place that sip_dialog_get answers. */
-uint8_t sip_dialog_remove(const uint8_t *call_id, size_t call_id_len, const uint8_t *local_tag, size_t local_tag_len,
-                          const uint8_t *remote_tag, size_t remote_tag_len,
-                          uint8_t *store, size_t store_len, size_t *used, uint64_t *terminated);
+uint8_t sip_dialog_remove(sip_dialog_settings settings, const uint8_t *call_id, size_t call_id_len, const uint8_t *local_tag,
+    size_t local_tag_len, const uint8_t *remote_tag, size_t remote_tag_len, uint8_t *store, size_t store_len, size_t *used,
+    uint64_t *terminated);
 
 /* Takes all Terminated records out; the others keep their order. No count moves, so that created less terminated need not be what
-   is held. Refuses with 3. */
-uint8_t sip_dialog_sweep(uint8_t *store, size_t store_len, size_t *used);
+   is held. Refuses with 30, 3. */
+uint8_t sip_dialog_sweep(sip_dialog_settings settings, uint8_t *store, size_t store_len, size_t *used);
 
 /* Where the image of a record lies in the store: of an identifier; the first of a Call-ID; of the identifier that a request's block
-   names (the tag of From is its remote tag). Refuse with 1, 3, 15; find_by_request with 1, 2, 3, 15, the last also where a part of
-   the identifier can't be read. They change no byte of the store. */
-uint8_t sip_dialog_get(const uint8_t *call_id, size_t call_id_len, const uint8_t *local_tag, size_t local_tag_len,
-                       const uint8_t *remote_tag, size_t remote_tag_len,
-                       const uint8_t *store, size_t store_len, size_t used, size_t *place, size_t *length);
-uint8_t sip_dialog_find_by_call_id(const uint8_t *call_id, size_t call_id_len,
-                                   const uint8_t *store, size_t store_len, size_t used, size_t *place, size_t *length);
-uint8_t sip_dialog_find_by_request(const uint8_t *block, size_t block_len,
-                                   const uint8_t *store, size_t store_len, size_t used, size_t *place, size_t *length);
+   names (the tag of From is its remote tag). Refuse with 30, 1, 3, 15; find_by_request with 30, 1, 2, 3, 15, the last also where a part
+   of the identifier can't be read. They change no byte of the store. */
+uint8_t sip_dialog_get(sip_dialog_settings settings, const uint8_t *call_id, size_t call_id_len, const uint8_t *local_tag,
+    size_t local_tag_len, const uint8_t *remote_tag, size_t remote_tag_len, const uint8_t *store, size_t store_len, size_t used,
+    size_t *place, size_t *length);
+uint8_t sip_dialog_find_by_call_id(sip_dialog_settings settings, const uint8_t *call_id, size_t call_id_len, const uint8_t *store,
+    size_t store_len, size_t used, size_t *place, size_t *length);
+uint8_t sip_dialog_find_by_request(sip_dialog_settings settings, const uint8_t *block, size_t block_len, const uint8_t *store,
+    size_t store_len, size_t used, size_t *place, size_t *length);
 
-/* How many records a store holds. Refuses with 3. */
-uint8_t sip_dialog_count(const uint8_t *store, size_t store_len, size_t used, size_t *count);
+/* How many records a store holds. Refuses with 30, 3. */
+uint8_t sip_dialog_count(sip_dialog_settings settings, const uint8_t *store, size_t store_len, size_t used, size_t *count);
 
 /* Writes the identifiers of all records to the front of out, in store order, each as three texts with two length bytes (the higher
-   first), and answers in written how many bytes it wrote: never more than used. Refuses with 3, 18. */
-uint8_t sip_dialog_all_ids(const uint8_t *store, size_t store_len, size_t used, uint8_t *out, size_t out_len, size_t *written);
+   first), and answers in written how many bytes it wrote: never more than used. Refuses with 30, 3, 18. */
+uint8_t sip_dialog_all_ids(sip_dialog_settings settings, const uint8_t *store, size_t store_len, size_t used, uint8_t *out, size_t out_len,
+    size_t *written);
 
 /* Writes the handover listing of a store to the front of out, without a zero byte, and answers its length in written: a line for each
    record, then `total` and their number, each line ended by a line feed. `bytes` are the used bytes of the store, and nothing after
-   them. Refuses with 1 (over 65,536 bytes), 3, 18. A line is shorter than two times its image: 131,072 bytes are enough for any listing. */
-uint8_t sip_dialog_listing(const uint8_t *bytes, size_t bytes_len, uint8_t *out, size_t out_len, size_t *written);
+   them. Refuses with 30, 1 (over 65,536 bytes), 3, 18. A line is shorter than two times its image: 131,072 bytes are enough for any
+   listing. */
+uint8_t sip_dialog_listing(sip_dialog_settings settings, const uint8_t *bytes, size_t bytes_len, uint8_t *out, size_t out_len,
+    size_t *written);
 
 /* ---- RSeq numbers: one for each dialog that sends reliable provisional responses, in a store of their own (docs/LAYOUTS.md, "The
    RSeq store"). An identifier is three texts of any bytes: Call-ID, local tag, remote tag. The lent bytes and the used length are
@@ -443,50 +465,52 @@ uint8_t sip_dialog_rseq_is_empty(const uint8_t *store, size_t store_len, size_t 
 
 /* ---- PRACK lists: the reliable provisional responses of a dialog that wait for their PRACK (RFC 3262), in a store of their own
    (docs/LAYOUTS.md, "The PRACK store"). A dialog is named by one text of any bytes, which may be empty. Held for it are the time of
-   its last cleanup and, maybe, a list of at most ten responses; an empty list is not the same as none. The lent bytes and the used
-   length are as for a store of records, but for 19 to 24 of validate; neither the text nor the block may lie in the lent store.
-   3: used over store_len, or used bytes that aren't of the layout. A dialog takes at most 212 bytes and the length of its text.
+   its last cleanup and, maybe, a list of responses, at most the site's pending; an empty list is not the same as none. The lent bytes
+   and the used length are as for a store of records, but for 19 to 24 of validate; neither the text nor the block may lie in the lent
+   store. 3: used over store_len, used bytes that aren't of the layout, or any dialog's list longer than the site's pending. A dialog
+   takes at most 12 bytes, 20 for each of the site's pending (652 in all where it is 32), and the length of its text.
 
    time is the caller's clock, in nanoseconds, one clock for all calls on a store; where it goes back, no time has passed. register,
-   validate and get_pending clean the dialog's list first: where nothing is held for it, or 300 s or more after its last cleanup,
-   they store time as that of the last cleanup and drop the responses that are acknowledged or were registered more than 300 s ago.
-   No other function cleans. So validate, with 19 and 20 too, and get_pending of a dialog of which nothing is held make the store
-   larger, by 11 bytes and the length of its text; no cleanup takes that back, only sip_dialog_prack_remove_dialog. */
+   validate and get_pending clean the dialog's list first: where nothing is held for it, or the site's cleanup or longer after its last
+   cleanup, they store time as that of the last cleanup and drop the responses that are acknowledged or were registered longer ago than
+   the site's timeout. No other function cleans. So validate, with 19 and 20 too, and get_pending of a dialog of which nothing is held
+   make the store larger, by 11 bytes and the length of its text; no cleanup takes that back, only sip_dialog_prack_remove_dialog. */
 
-/* Registers a response that was sent: not acknowledged, at the end of the dialog's list. Where ten are in it the first is dropped.
-   rseq and code are the response's; cseq and method (of enum sip_dialog_method, otherwise 28) those of the request that it answers,
-   not the PRACK's. Any numbers are taken, also ones that are in the list. Refuses with 1, 28, 3, 18 (the response doesn't fit). */
-uint8_t sip_dialog_prack_register(const uint8_t *id, size_t id_len, uint32_t rseq, uint32_t cseq, uint8_t method,
-                                  uint16_t code, uint64_t time, uint8_t *store, size_t store_len, size_t *used);
+/* Registers a response that was sent: not acknowledged, at the end of the dialog's list. Where the site's pending are in it, the
+   first is dropped. rseq and code are the response's; cseq and method (of enum sip_dialog_method, otherwise 28) those of the request that
+   it answers, not the PRACK's. Any numbers are taken, also ones that are in the list. Refuses with 30, 1, 28, 3, 18 (the response
+   doesn't fit). */
+uint8_t sip_dialog_prack_register(sip_dialog_settings settings, const uint8_t *id, size_t id_len, uint32_t rseq, uint32_t cseq,
+    uint8_t method, uint16_t code, uint64_t time, uint8_t *store, size_t store_len, size_t *used);
 
 /* Holds the RAck of a PRACK's block against the dialog's list. The first response of its RSeq decides: it is marked as acknowledged,
-   and rseq, cseq and method are the RAck's. Refuses with 1, 2, 3, 18 (the time of a dialog of which nothing is held doesn't fit; nothing is
-   changed), 19 (RAck absent or unreadable), 20 (no list), 21 (no such RSeq), 22 (another CSeq), 23 (another method), 24 (already
+   and rseq, cseq and method are the RAck's. Refuses with 30, 1, 2, 3, 18 (the time of a dialog of which nothing is held doesn't fit;
+   nothing is changed), 19 (RAck absent or unreadable), 20 (no list), 21 (no such RSeq), 22 (another CSeq), 23 (another method), 24 (already
    acknowledged). With 19 to 24 the cleaned list stays: the store's bytes and used may then change, used up or down; the other
    numbers keep their values. */
-uint8_t sip_dialog_prack_validate(const uint8_t *id, size_t id_len, const uint8_t *block, size_t block_len, uint64_t time,
-                                  uint8_t *store, size_t store_len, size_t *used,
-                                  uint32_t *rseq, uint32_t *cseq, uint8_t *method);
+uint8_t sip_dialog_prack_validate(sip_dialog_settings settings, const uint8_t *id, size_t id_len, const uint8_t *block, size_t block_len,
+    uint64_t time, uint8_t *store, size_t store_len, size_t *used, uint32_t *rseq, uint32_t *cseq, uint8_t *method);
 
 /* Whether the first response of an RSeq in the dialog's list is acknowledged (1); 0 also where there is no list or no such RSeq. It
-   changes no byte of the store. Refuses with 1, 3. */
-uint8_t sip_dialog_prack_is_pracked(const uint8_t *id, size_t id_len, uint32_t rseq,
-                                    const uint8_t *store, size_t store_len, size_t used, uint8_t *pracked);
+   changes no byte of the store. Refuses with 30, 1, 3. */
+uint8_t sip_dialog_prack_is_pracked(sip_dialog_settings settings, const uint8_t *id, size_t id_len, uint32_t rseq, const uint8_t *store,
+    size_t store_len, size_t used, uint8_t *pracked);
 
 /* Writes the responses of the dialog that aren't acknowledged to the front of out, in list order, each as its RSeq in four bytes and
-   its code in two, the highest first, and answers in written how many bytes it wrote: at most 60. out must not lie in the store.
-   Refuses with 1, 3, 18 (out, or the store, is too small; nothing is changed). */
-uint8_t sip_dialog_prack_get_pending(const uint8_t *id, size_t id_len, uint64_t time,
-                                     uint8_t *store, size_t store_len, size_t *used,
-                                     uint8_t *out, size_t out_len, size_t *written);
+   its code in two, the highest first, and answers in written how many bytes it wrote: at most 6 for each of
+   the site's pending, 192 where it is 32. out must not lie in the store. Refuses with 30, 1, 3, 18 (out, or the store, is too small;
+   nothing is changed). */
+uint8_t sip_dialog_prack_get_pending(sip_dialog_settings settings, const uint8_t *id, size_t id_len, uint64_t time, uint8_t *store,
+    size_t store_len, size_t *used, uint8_t *out, size_t out_len, size_t *written);
 
-/* Drops all that is held for a dialog, the time too; where nothing is held, nothing changes. Refuses with 1, 3. */
-uint8_t sip_dialog_prack_remove_dialog(const uint8_t *id, size_t id_len, uint8_t *store, size_t store_len, size_t *used);
+/* Drops all that is held for a dialog, the time too; where nothing is held, nothing changes. Refuses with 30, 1, 3. */
+uint8_t sip_dialog_prack_remove_dialog(sip_dialog_settings settings, const uint8_t *id, size_t id_len, uint8_t *store, size_t store_len,
+    size_t *used);
 
 /* Drops every acknowledged response of an RSeq from the dialog's list, which may become empty; where there is none, nothing changes.
-   Refuses with 1, 3. */
-uint8_t sip_dialog_prack_remove_pracked(const uint8_t *id, size_t id_len, uint32_t rseq,
-                                        uint8_t *store, size_t store_len, size_t *used);
+   Refuses with 30, 1, 3. */
+uint8_t sip_dialog_prack_remove_pracked(sip_dialog_settings settings, const uint8_t *id, size_t id_len, uint32_t rseq, uint8_t *store,
+    size_t store_len, size_t *used);
 
 /* ---- Counts of dialogs */
 

@@ -1571,7 +1571,7 @@ static bool count_of_is(const uint8_t *store, size_t lent, size_t used, uint8_t 
     if (lent > 0) {
         memcpy(bytes, store, lent);
     }
-    holds = sip_dialog_count(bytes, lent, used, &count) == number && count == (number == 0 ? expected : KEPT);
+    holds = sip_dialog_count(RUST, bytes, lent, used, &count) == number && count == (number == 0 ? expected : KEPT);
     holds = holds && (lent == 0 || memcmp(bytes, store, lent) == 0);
     free(bytes);
     return holds;
@@ -1617,7 +1617,7 @@ static bool listing_is(const uint8_t *store, size_t used, size_t room, uint8_t n
     if (room > 0) {
         memset(out, KEPT, room);
     }
-    holds = sip_dialog_listing(bytes, used, out, room, &length) == number;
+    holds = sip_dialog_listing(RUST, bytes, used, out, room, &length) == number;
     holds = holds && length == (number == 0 ? written : KEPT);
     holds = holds && (written == 0 || memcmp(out, text, written) == 0);
     for (i = written; i < room; i++) {
@@ -1768,13 +1768,13 @@ struct places {
 
 static const struct places fresh_places = {KEPT, {KEPT, KEPT, KEPT}, {KEPT, KEPT, KEPT}};
 
-typedef uint8_t places_function(const uint8_t *, size_t, size_t *, size_t *, size_t *, size_t *, size_t *, size_t *);
+typedef uint8_t places_function(sip_dialog_settings, const uint8_t *, size_t, size_t *, size_t *, size_t *, size_t *, size_t *, size_t *);
 
 static struct places places_of(places_function *read, struct image i)
 {
     uint8_t *bytes = lend_image(&i);
     struct places p = fresh_places;
-    p.number = read(bytes, i.length, &p.place[0], &p.length[0], &p.place[1], &p.length[1], &p.place[2], &p.length[2]);
+    p.number = read(RUST, bytes, i.length, &p.place[0], &p.length[0], &p.place[1], &p.length[1], &p.place[2], &p.length[2]);
     take_image_back(&i, bytes);
     return p;
 }
@@ -1806,7 +1806,7 @@ static struct image_state state_of(struct image i)
 {
     uint8_t *bytes = lend_image(&i);
     struct image_state s = {KEPT, {KEPT, KEPT}, {KEPT, KEPT}, {KEPT, KEPT}};
-    s.number = sip_dialog_image_state(bytes, i.length, s.state, s.we_are_uac, s.secure);
+    s.number = sip_dialog_image_state(RUST, bytes, i.length, s.state, s.we_are_uac, s.secure);
     take_image_back(&i, bytes);
     return s;
 }
@@ -1833,7 +1833,7 @@ static struct image_numbers numbers_of(struct image i)
     uint8_t *bytes = lend_image(&i);
     struct image_numbers n = {KEPT,         {KEPT, KEPT}, {KEPT, KEPT}, {KEPT, KEPT},
                               {KEPT, KEPT}, {KEPT, KEPT}, {KEPT, KEPT}, {KEPT, KEPT}};
-    n.number = sip_dialog_image_numbers(bytes, i.length, n.local, n.remote, n.has_last_ack, n.last_ack, n.has_seconds,
+    n.number = sip_dialog_image_numbers(RUST, bytes, i.length, n.local, n.remote, n.has_last_ack, n.last_ack, n.has_seconds,
                                         n.seconds, n.refresher);
     take_image_back(&i, bytes);
     CHECK(n.local[1] == KEPT && n.remote[1] == KEPT && n.has_last_ack[1] == KEPT && n.last_ack[1] == KEPT);
@@ -1867,7 +1867,7 @@ static bool routes_are(struct image i, uint8_t number, size_t expected)
 {
     uint8_t *bytes = lend_image(&i);
     size_t count = KEPT;
-    bool holds = sip_dialog_image_route_count(bytes, i.length, &count) == number && count == expected;
+    bool holds = sip_dialog_image_route_count(RUST, bytes, i.length, &count) == number && count == expected;
     take_image_back(&i, bytes);
     return holds;
 }
@@ -1876,7 +1876,7 @@ static struct lookup image_route(struct image i, size_t index)
 {
     uint8_t *bytes = lend_image(&i);
     struct lookup l = fresh_lookup;
-    l.number = sip_dialog_image_route(bytes, i.length, index, l.found, &l.place, &l.length);
+    l.number = sip_dialog_image_route(RUST, bytes, i.length, index, l.found, &l.place, &l.length);
     take_image_back(&i, bytes);
     return l;
 }
@@ -1887,7 +1887,7 @@ static bool match_is(const char *block, struct image i, uint8_t number, uint8_t 
     struct run b = lend(block);
     uint8_t *bytes = lend_image(&i);
     uint8_t matches[2] = {KEPT, KEPT};
-    bool holds = sip_dialog_image_matches_request(b.bytes, b.length, bytes, i.length, matches) == number;
+    bool holds = sip_dialog_image_matches_request(RUST, b.bytes, b.length, bytes, i.length, matches) == number;
     holds = holds && matches[0] == expected && matches[1] == KEPT;
     take_image_back(&i, bytes);
     take_back(b);
@@ -1898,7 +1898,7 @@ static bool refresh_is(struct image i, uint64_t elapsed, uint8_t number, uint8_t
 {
     uint8_t *bytes = lend_image(&i);
     uint8_t due[2] = {KEPT, KEPT};
-    bool holds = sip_dialog_image_needs_refresh(bytes, i.length, elapsed, due) == number;
+    bool holds = sip_dialog_image_needs_refresh(RUST, bytes, i.length, elapsed, due) == number;
     holds = holds && due[0] == expected && due[1] == KEPT;
     take_image_back(&i, bytes);
     return holds;
@@ -2116,19 +2116,19 @@ static bool stayed(struct change c, uint8_t number, uint8_t expected, size_t use
     return holds;
 }
 
-typedef uint8_t state_function(uint8_t *, size_t, size_t *);
+typedef uint8_t state_function(sip_dialog_settings, uint8_t *, size_t, size_t *);
 
 static bool state_becomes(state_function *call, struct image before, size_t room, struct image after)
 {
     struct change c = lend_room(before, room, before.length);
-    uint8_t number = call(c.bytes, c.room, &c.used);
+    uint8_t number = call(RUST, c.bytes, c.room, &c.used);
     return became(c, number, after);
 }
 
 static bool state_stays(state_function *call, struct image before, size_t room, size_t used)
 {
     struct change c = lend_room(before, room, used);
-    uint8_t number = call(c.bytes, c.room, &c.used);
+    uint8_t number = call(RUST, c.bytes, c.room, &c.used);
     return stayed(c, number, 3, used);
 }
 
@@ -2174,7 +2174,7 @@ static bool raised_to(struct image before, size_t room, uint32_t expected, struc
 {
     struct change c = lend_room(before, room, before.length);
     uint32_t next[2] = {KEPT, KEPT};
-    uint8_t number = sip_dialog_image_next_local_cseq(c.bytes, c.room, &c.used, next);
+    uint8_t number = sip_dialog_image_next_local_cseq(RUST, c.bytes, c.room, &c.used, next);
     bool holds = next[0] == expected && next[1] == KEPT;
     return became(c, number, after) && holds;
 }
@@ -2183,7 +2183,7 @@ static bool not_raised(struct image before, size_t room, size_t used, uint8_t ex
 {
     struct change c = lend_room(before, room, used);
     uint32_t next[2] = {KEPT, KEPT};
-    uint8_t number = sip_dialog_image_next_local_cseq(c.bytes, c.room, &c.used, next);
+    uint8_t number = sip_dialog_image_next_local_cseq(RUST, c.bytes, c.room, &c.used, next);
     bool holds = next[0] == KEPT && next[1] == KEPT;
     return stayed(c, number, expected, used) && holds;
 }
@@ -2222,7 +2222,7 @@ static bool interval_becomes(struct image before, size_t room, uint64_t seconds,
 {
     struct change c = lend_room(before, room, before.length);
     uint64_t least = KEPT;
-    uint8_t number = sip_dialog_image_set_session_expires(c.bytes, c.room, &c.used, seconds, &least);
+    uint8_t number = sip_dialog_image_set_session_expires(RUST, c.bytes, c.room, &c.used, seconds, &least);
     return became(c, number, after) && least == KEPT;
 }
 
@@ -2231,7 +2231,7 @@ static bool interval_stays(struct image before, size_t room, size_t used, uint64
 {
     struct change c = lend_room(before, room, used);
     uint64_t least = KEPT;
-    uint8_t number = sip_dialog_image_set_session_expires(c.bytes, c.room, &c.used, seconds, &least);
+    uint8_t number = sip_dialog_image_set_session_expires(RUST, c.bytes, c.room, &c.used, seconds, &least);
     return stayed(c, number, expected, used) && least == (expected == 13 ? 90 : KEPT);
 }
 
@@ -2326,7 +2326,7 @@ static bool request_becomes(const char *method, const char *block, struct image 
     struct run m = lend(method);
     struct run b = lend(block);
     struct change c = lend_room(before, room, before.length);
-    uint8_t number = sip_dialog_image_update_from_request(m.bytes, m.length, b.bytes, b.length, c.bytes, c.room, &c.used);
+    uint8_t number = sip_dialog_image_update_from_request(RUST, m.bytes, m.length, b.bytes, b.length, c.bytes, c.room, &c.used);
     take_back(m);
     take_back(b);
     return became(c, number, after);
@@ -2338,7 +2338,7 @@ static bool request_stays(const char *method, const char *block, struct image be
     struct run m = lend(method);
     struct run b = lend(block);
     struct change c = lend_room(before, room, used);
-    uint8_t number = sip_dialog_image_update_from_request(m.bytes, m.length, b.bytes, b.length, c.bytes, c.room, &c.used);
+    uint8_t number = sip_dialog_image_update_from_request(RUST, m.bytes, m.length, b.bytes, b.length, c.bytes, c.room, &c.used);
     take_back(m);
     take_back(b);
     return stayed(c, number, expected, used);
@@ -2480,10 +2480,11 @@ static void test_image_request_methods(void)
         CHECK(request_is_refused(others[i], "CSeq:1008 ACK\r\n", sheet, 12));
         CHECK(request_is_refused(others[i], "CSeq:2147483648 ACK\r\n", remote_is(2147483648), 10));
     }
-    number = sip_dialog_image_update_from_request(zero_ended, sizeof zero_ended, block, sizeof block, c.bytes, c.room, &c.used);
+    number = sip_dialog_image_update_from_request(RUST, zero_ended, sizeof zero_ended, block, sizeof block, c.bytes, c.room,
+                                                  &c.used);
     CHECK(stayed(c, number, 11, RECORD));
     c = lend_room(sheet, 600, RECORD);
-    number = sip_dialog_image_update_from_request(zero_ended, 3, block, sizeof block, c.bytes, c.room, &c.used);
+    number = sip_dialog_image_update_from_request(RUST, zero_ended, 3, block, sizeof block, c.bytes, c.room, &c.used);
     CHECK(became(c, number, with_more(sheet, 0x037F, RECORD, 7)));
     CHECK(request_becomes(filled(buffer, "ACK", 'K', "", LONGEST), "CSeq:8 ACK\r\n", sheet, RECORD, remote_is(8)));
     CHECK(request_is_refused(filled(buffer, "ACK", 'K', "", LONGEST + 1), "CSeq:8 ACK\r\n", sheet, 1));
@@ -2650,7 +2651,7 @@ static bool response_becomes(uint16_t status, const char *block, struct image be
 {
     struct run b = lend(block);
     struct change c = lend_room(before, room, before.length);
-    uint8_t number = sip_dialog_image_update_from_response(status, b.bytes, b.length, c.bytes, c.room, &c.used);
+    uint8_t number = sip_dialog_image_update_from_response(RUST, status, b.bytes, b.length, c.bytes, c.room, &c.used);
     take_back(b);
     return became(c, number, after);
 }
@@ -2659,7 +2660,7 @@ static bool response_stays(uint16_t status, const char *block, struct image befo
 {
     struct run b = lend(block);
     struct change c = lend_room(before, room, used);
-    uint8_t number = sip_dialog_image_update_from_response(status, b.bytes, b.length, c.bytes, c.room, &c.used);
+    uint8_t number = sip_dialog_image_update_from_response(RUST, status, b.bytes, b.length, c.bytes, c.room, &c.used);
     take_back(b);
     return stayed(c, number, expected, used);
 }
@@ -3605,7 +3606,7 @@ int main(void)
         test_image_request_rest, test_image_request_order, test_image_response_state, test_image_response_routes,
         test_image_response_most_routes, test_image_response_no_routes, test_image_response_interval,
         test_image_response_any_interval, test_image_response_target, test_image_response_parts, test_image_response_order,
-        test_new_uac, test_new_uas, test_counts, test_stores, test_rseq_stores, test_prack_stores, test_rfc_rows, test_verdicts,
+        test_new_uac, test_new_uas, test_counts, test_stores, test_rseq_stores, test_prack_stores, test_rfc_rows, test_verdicts, test_settings,
     };
     size_t i;
     for (i = 0; i < sizeof tests / sizeof tests[0]; i++) {

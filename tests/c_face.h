@@ -17,6 +17,9 @@ enum {
     LARGEST = 12000 /* the largest image here */
 };
 
+/* What every call is given, but those of tests/c_face_settings.c. */
+#define RUST SIP_DIALOG_RUST_SETTINGS
+
 #define CHECK(expression) check((expression), __FILE__, __LINE__, #expression)
 
 void check(bool holds, const char *file, int line, const char *expression);
@@ -152,6 +155,10 @@ void test_prack_stores(void);
 /* ---- Tests of the calls on runs of verdicts, in tests/c_face_verdicts.c */
 
 void test_verdicts(void);
+
+/* ---- Tests of the settings, in tests/c_face_settings.c */
+
+void test_settings(void);
 
 /* ---- Rows of docs/DIFFERENCES.md, in tests/c_face_rfc.c */
 

@@ -19,7 +19,7 @@ fi
 mkdir -p "$out"
 [ -n "${PORT_LIB:-}" ] || tools/build archive >&2
 set --
-for part in c_face c_face_store c_face_rseq c_face_prack c_face_rfc c_face_verdicts; do
+for part in c_face c_face_store c_face_rseq c_face_prack c_face_rfc c_face_verdicts c_face_settings; do
     cc -std=c99 -Wall -Wextra -Werror -pedantic -Iinclude -g -c "tests/$part.c" -o "$out/$part.o"
     set -- "$@" "$out/$part.o"
 done

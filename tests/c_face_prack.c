@@ -75,23 +75,25 @@ static uint8_t ask(const struct call *c, struct area s, struct area out, struct 
     uint8_t returned;
     switch (c->function) {
     case REGISTER:
-        returned = sip_dialog_prack_register(RUN(id), c->rseq, c->cseq, c->method, c->code, c->time, s.bytes, s.room, used);
+        returned = sip_dialog_prack_register(RUST, RUN(id), c->rseq, c->cseq, c->method, c->code, c->time, s.bytes, s.room,
+                                             used);
         break;
     case VALIDATE:
-        returned = sip_dialog_prack_validate(RUN(id), RUN(block), c->time, s.bytes, s.room, used, &n->rseq[1], &n->cseq[1],
-                                             &n->method[1]);
+        returned = sip_dialog_prack_validate(RUST, RUN(id), RUN(block), c->time, s.bytes, s.room, used, &n->rseq[1],
+                                             &n->cseq[1], &n->method[1]);
         break;
     case IS_PRACKED:
-        returned = sip_dialog_prack_is_pracked(RUN(id), c->rseq, s.bytes, s.room, *used, &n->pracked[1]);
+        returned = sip_dialog_prack_is_pracked(RUST, RUN(id), c->rseq, s.bytes, s.room, *used, &n->pracked[1]);
         break;
     case GET_PENDING:
-        returned = sip_dialog_prack_get_pending(RUN(id), c->time, s.bytes, s.room, used, out.bytes, out.room, &n->written[1]);
+        returned = sip_dialog_prack_get_pending(RUST, RUN(id), c->time, s.bytes, s.room, used, out.bytes, out.room,
+                                                &n->written[1]);
         break;
     case REMOVE_DIALOG:
-        returned = sip_dialog_prack_remove_dialog(RUN(id), s.bytes, s.room, used);
+        returned = sip_dialog_prack_remove_dialog(RUST, RUN(id), s.bytes, s.room, used);
         break;
     default:
-        returned = sip_dialog_prack_remove_pracked(RUN(id), c->rseq, s.bytes, s.room, used);
+        returned = sip_dialog_prack_remove_pracked(RUST, RUN(id), c->rseq, s.bytes, s.room, used);
         break;
     }
     take_back(id);
@@ -840,23 +842,23 @@ static const uint8_t *const ID_D = (const uint8_t *)"d";
 
 static uint8_t day_register(struct day *d, uint32_t rseq, uint64_t time, size_t room)
 {
-    return sip_dialog_prack_register(ID_D, 1, rseq, 1, 1, 180, time, d->bytes, room, &d->used);
+    return sip_dialog_prack_register(RUST, ID_D, 1, rseq, 1, 1, 180, time, d->bytes, room, &d->used);
 }
 
 static uint8_t day_prack(struct day *d, const char *block, uint64_t time, size_t room)
 {
-    return sip_dialog_prack_validate(ID_D, 1, (const uint8_t *)block, strlen(block), time, d->bytes, room, &d->used, &d->rseq, &d->cseq,
-                                     &d->method);
+    return sip_dialog_prack_validate(RUST, ID_D, 1, (const uint8_t *)block, strlen(block), time, d->bytes, room, &d->used, &d->rseq,
+                                     &d->cseq, &d->method);
 }
 
 static uint8_t day_pending(struct day *d, uint64_t time, size_t room)
 {
-    return sip_dialog_prack_get_pending(ID_D, 1, time, d->bytes, room, &d->used, d->out, sizeof d->out, &d->written);
+    return sip_dialog_prack_get_pending(RUST, ID_D, 1, time, d->bytes, room, &d->used, d->out, sizeof d->out, &d->written);
 }
 
 static uint8_t day_prune(struct day *d, uint32_t rseq, size_t room)
 {
-    return sip_dialog_prack_remove_pracked(ID_D, 1, rseq, d->bytes, room, &d->used);
+    return sip_dialog_prack_remove_pracked(RUST, ID_D, 1, rseq, d->bytes, room, &d->used);
 }
 
 static void test_a_day(void)
@@ -880,7 +882,7 @@ static void test_a_day(void)
     CHECK(day_prack(&d, RACK2, T600 + 1, 33) == 0 && day_is(&d, IMAGE("\0\1" "d" AT600 LIST("\1") DONE(TWO, AT300))));
     CHECK(day_prack(&d, RACK2, 3 * T300, 33) == 21 && day_is(&d, IMAGE("\0\1" "d" AT900 EMPTY)));
     CHECK(day_pending(&d, 3 * T300, 13) == 0 && d.written == 0 && day_is(&d, IMAGE("\0\1" "d" AT900 EMPTY)));
-    CHECK(sip_dialog_prack_remove_dialog(ID_D, 1, d.bytes, 13, &d.used) == 0 && day_is(&d, nothing()));
+    CHECK(sip_dialog_prack_remove_dialog(RUST, ID_D, 1, d.bytes, 13, &d.used) == 0 && day_is(&d, nothing()));
     CHECK(day_prack(&d, RACK2, T300, 12) == 20 && day_is(&d, IMAGE(D NONE)));
 }
 
@@ -906,10 +908,10 @@ static void test_departures(void)
     CHECK(day_prack(&d, RACK1, 0, 300) == 21);
     begin(&d);
     CHECK(day_register(&d, 1, 0, 300) == 0);
-    CHECK(sip_dialog_prack_register(ID_D, 1, 1, 2, 1, 180, 0, d.bytes, 300, &d.used) == 0);
+    CHECK(sip_dialog_prack_register(RUST, ID_D, 1, 1, 2, 1, 180, 0, d.bytes, 300, &d.used) == 0);
     CHECK(day_prack(&d, "RAck:1 2 INVITE\r\n", 0, 300) == 22);
     begin(&d);
-    CHECK(sip_dialog_prack_register(ID_D, 1, 1, 1, 2, 0, 0, d.bytes, 300, &d.used) == 0);
+    CHECK(sip_dialog_prack_register(RUST, ID_D, 1, 1, 1, 2, 0, 0, d.bytes, 300, &d.used) == 0);
     CHECK(day_prack(&d, "RAck:1 1 ACK\r\n", 0, 300) == 0);
     begin(&d);
     CHECK(day_register(&d, 1, 0, 300) == 0 && day_prack(&d, RACK1, 0, 300) == 0);

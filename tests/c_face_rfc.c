@@ -23,26 +23,26 @@ static struct held hold(struct image i)
 
 static uint8_t request(struct held *h, const char *method, const char *block)
 {
-    return sip_dialog_image_update_from_request((const uint8_t *)method, strlen(method), (const uint8_t *)block, strlen(block),
-        h->bytes, ROOM, &h->used);
+    return sip_dialog_image_update_from_request(RUST, (const uint8_t *)method, strlen(method), (const uint8_t *)block,
+        strlen(block), h->bytes, ROOM, &h->used);
 }
 
 static uint8_t response(struct held *h, uint16_t status, const char *block)
 {
-    return sip_dialog_image_update_from_response(status, (const uint8_t *)block, strlen(block), h->bytes, ROOM, &h->used);
+    return sip_dialog_image_update_from_response(RUST, status, (const uint8_t *)block, strlen(block), h->bytes, ROOM, &h->used);
 }
 
 static bool target_is(const struct held *h, const char *text)
 {
     size_t target, length, local, local_length, remote, remote_length;
-    return sip_dialog_image_uris(h->bytes, h->used, &target, &length, &local, &local_length, &remote, &remote_length) == 0
+    return sip_dialog_image_uris(RUST, h->bytes, h->used, &target, &length, &local, &local_length, &remote, &remote_length) == 0
         && length == strlen(text) && memcmp(h->bytes + target, text, length) == 0;
 }
 
 static uint8_t state_of(const uint8_t *image, size_t length)
 {
     uint8_t state = 0, we_are_uac, secure;
-    CHECK(sip_dialog_image_state(image, length, &state, &we_are_uac, &secure) == 0);
+    CHECK(sip_dialog_image_state(RUST, image, length, &state, &we_are_uac, &secure) == 0);
     return state;
 }
 
@@ -114,12 +114,13 @@ static void test_refreshers(void)
     struct held h = hold(with_number(full_image(), FULL_SECONDS, 90));
     uint32_t local, remote, last_ack, seconds = 0;
     uint8_t has_last_ack, has_seconds = 0, refresher = 0, state, we_are_uac = KEPT, secure, due = 0;
-    CHECK(sip_dialog_image_needs_refresh(h.bytes, h.used, 60000000000, &due) == 0 && due == 1); /* RFC 4028 7.2, 9, 10 */
+    CHECK(sip_dialog_image_needs_refresh(RUST, h.bytes, h.used, 60000000000, &due) == 0 && due == 1); /* RFC 4028 7.2, 9, 10 */
     h = sheet(7);
     CHECK(response(&h, 200, "Session-Expires:90;refresher=uac\r\n") == 0); /* RFC 4028 3, 7.2 */
-    CHECK(sip_dialog_image_numbers(h.bytes, h.used, &local, &remote, &has_last_ack, &last_ack, &has_seconds, &seconds, &refresher) == 0);
+    CHECK(sip_dialog_image_numbers(RUST, h.bytes, h.used, &local, &remote, &has_last_ack, &last_ack, &has_seconds, &seconds,
+              &refresher) == 0);
     CHECK(has_seconds == 1 && seconds == 90 && refresher == 1);
-    CHECK(sip_dialog_image_state(h.bytes, h.used, &state, &we_are_uac, &secure) == 0 && we_are_uac == 0);
+    CHECK(sip_dialog_image_state(RUST, h.bytes, h.used, &state, &we_are_uac, &secure) == 0 && we_are_uac == 0);
 }
 
 /* RFC 3261 13.2.2.4: the other early dialog of the INVITE stays */
@@ -130,12 +131,13 @@ static void test_forked(void)
     uint8_t store[ROOM];
     size_t used = 0, place = 0, length = 0;
     uint64_t created = 0;
-    CHECK(sip_dialog_put(first.bytes, first.length, store, ROOM, &used, &created) == 0);
-    CHECK(sip_dialog_put(second.bytes, second.length, store, ROOM, &used, &created) == 0 && used == first.length + second.length);
-    CHECK(sip_dialog_response((const uint8_t *)"c1", 2, (const uint8_t *)"L", 1, (const uint8_t *)"R", 1, 200, NULL, 0, store, ROOM, &used) == 0);
-    CHECK(sip_dialog_get((const uint8_t *)"c1", 2, (const uint8_t *)"L", 1, (const uint8_t *)"R", 1, store, ROOM, used, &place, &length) == 0);
+    CHECK(sip_dialog_put(RUST, first.bytes, first.length, store, ROOM, &used, &created) == 0);
+    CHECK(sip_dialog_put(RUST, second.bytes, second.length, store, ROOM, &used, &created) == 0);
+    CHECK(used == first.length + second.length);
+    CHECK(sip_dialog_response(RUST, (const uint8_t *)"c1", 2, (const uint8_t *)"L", 1, (const uint8_t *)"R", 1, 200, NULL, 0, store, ROOM, &used) == 0);
+    CHECK(sip_dialog_get(RUST, (const uint8_t *)"c1", 2, (const uint8_t *)"L", 1, (const uint8_t *)"R", 1, store, ROOM, used, &place, &length) == 0);
     CHECK(state_of(store + place, length) == 2);
-    CHECK(sip_dialog_get((const uint8_t *)"c1", 2, (const uint8_t *)"L", 1, (const uint8_t *)"S", 1, store, ROOM, used, &place, &length) == 0);
+    CHECK(sip_dialog_get(RUST, (const uint8_t *)"c1", 2, (const uint8_t *)"L", 1, (const uint8_t *)"S", 1, store, ROOM, used, &place, &length) == 0);
     CHECK(state_of(store + place, length) == 1);
 }
 
@@ -164,11 +166,11 @@ static void test_acknowledged(void)
     uint8_t store[ROOM], method = 0;
     uint32_t rseq = 0, cseq = 0;
     size_t used = 0;
-    CHECK(sip_dialog_prack_register(id, 1, 1, 1, 1, 180, 0, store, ROOM, &used) == 0);
-    CHECK(sip_dialog_prack_validate(id, 1, (const uint8_t *)first, strlen(first), 0, store, ROOM, &used, &rseq, &cseq, &method) == 0);
+    CHECK(sip_dialog_prack_register(RUST, id, 1, 1, 1, 1, 180, 0, store, ROOM, &used) == 0);
+    CHECK(sip_dialog_prack_validate(RUST, id, 1, (const uint8_t *)first, strlen(first), 0, store, ROOM, &used, &rseq, &cseq, &method) == 0);
     CHECK(rseq == 1 && cseq == 1 && method == 1);
-    CHECK(sip_dialog_prack_register(id, 1, 1, 2, 1, 180, 0, store, ROOM, &used) == 0);
-    CHECK(sip_dialog_prack_validate(id, 1, (const uint8_t *)second, strlen(second), 0, store, ROOM, &used, &rseq, &cseq, &method) == 22);
+    CHECK(sip_dialog_prack_register(RUST, id, 1, 1, 2, 1, 180, 0, store, ROOM, &used) == 0);
+    CHECK(sip_dialog_prack_validate(RUST, id, 1, (const uint8_t *)second, strlen(second), 0, store, ROOM, &used, &rseq, &cseq, &method) == 22);
 }
 
 void test_rfc_rows(void)

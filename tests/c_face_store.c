@@ -76,21 +76,21 @@ static uint8_t change(const struct call *c, const struct runs *t, struct area s,
 {
     switch (c->function) {
     case PUT:
-        return sip_dialog_put(RUN(t->image), s.bytes, s.room, &n->used[1], &n->count[1]);
+        return sip_dialog_put(RUST, RUN(t->image), s.bytes, s.room, &n->used[1], &n->count[1]);
     case REQUEST:
-        return sip_dialog_request(RUN(t->method), RUN(t->block), s.bytes, s.room, &n->used[1]);
+        return sip_dialog_request(RUST, RUN(t->method), RUN(t->block), s.bytes, s.room, &n->used[1]);
     case RESPONSE:
-        return sip_dialog_response(IDENTIFIER(t), c->status, RUN(t->block), s.bytes, s.room, &n->used[1]);
+        return sip_dialog_response(RUST, IDENTIFIER(t), c->status, RUN(t->block), s.bytes, s.room, &n->used[1]);
     case TERMINATE:
-        return sip_dialog_terminate(IDENTIFIER(t), s.bytes, s.room, &n->used[1]);
+        return sip_dialog_terminate(RUST, IDENTIFIER(t), s.bytes, s.room, &n->used[1]);
     case NEXT_LOCAL_CSEQ:
-        return sip_dialog_next_local_cseq(IDENTIFIER(t), s.bytes, s.room, &n->used[1], &n->next[1]);
+        return sip_dialog_next_local_cseq(RUST, IDENTIFIER(t), s.bytes, s.room, &n->used[1], &n->next[1]);
     case SET_SESSION_EXPIRES:
-        return sip_dialog_set_session_expires(IDENTIFIER(t), c->seconds, s.bytes, s.room, &n->used[1], &n->least[1]);
+        return sip_dialog_set_session_expires(RUST, IDENTIFIER(t), c->seconds, s.bytes, s.room, &n->used[1], &n->least[1]);
     case REMOVE:
-        return sip_dialog_remove(IDENTIFIER(t), s.bytes, s.room, &n->used[1], &n->count[1]);
+        return sip_dialog_remove(RUST, IDENTIFIER(t), s.bytes, s.room, &n->used[1], &n->count[1]);
     default:
-        return sip_dialog_sweep(s.bytes, s.room, &n->used[1]);
+        return sip_dialog_sweep(RUST, s.bytes, s.room, &n->used[1]);
     }
 }
 
@@ -99,15 +99,15 @@ static uint8_t reading(const struct call *c, const struct runs *t, struct area s
 {
     switch (c->function) {
     case GET:
-        return sip_dialog_get(IDENTIFIER(t), s.bytes, s.room, n->used[1], &n->place[1], &n->length[1]);
+        return sip_dialog_get(RUST, IDENTIFIER(t), s.bytes, s.room, n->used[1], &n->place[1], &n->length[1]);
     case FIND_BY_CALL_ID:
-        return sip_dialog_find_by_call_id(RUN(t->call_id), s.bytes, s.room, n->used[1], &n->place[1], &n->length[1]);
+        return sip_dialog_find_by_call_id(RUST, RUN(t->call_id), s.bytes, s.room, n->used[1], &n->place[1], &n->length[1]);
     case FIND_BY_REQUEST:
-        return sip_dialog_find_by_request(RUN(t->block), s.bytes, s.room, n->used[1], &n->place[1], &n->length[1]);
+        return sip_dialog_find_by_request(RUST, RUN(t->block), s.bytes, s.room, n->used[1], &n->place[1], &n->length[1]);
     case COUNT:
-        return sip_dialog_count(s.bytes, s.room, n->used[1], &n->length[1]);
+        return sip_dialog_count(RUST, s.bytes, s.room, n->used[1], &n->length[1]);
     default:
-        return sip_dialog_all_ids(s.bytes, s.room, n->used[1], out.bytes, out.room, &n->length[1]);
+        return sip_dialog_all_ids(RUST, s.bytes, s.room, n->used[1], out.bytes, out.room, &n->length[1]);
     }
 }
 
@@ -524,9 +524,9 @@ static void test_zero_byte(void)
     struct image store = held();
     size_t place = KEPT;
     size_t length = KEPT;
-    uint8_t number = sip_dialog_find_by_call_id(call_id, 3, store.bytes, store.length, store.length, &place, &length);
+    uint8_t number = sip_dialog_find_by_call_id(RUST, call_id, 3, store.bytes, store.length, store.length, &place, &length);
     CHECK(number == 15 && place == KEPT && length == KEPT);
-    number = sip_dialog_find_by_call_id(call_id, 2, store.bytes, store.length, store.length, &place, &length);
+    number = sip_dialog_find_by_call_id(RUST, call_id, 2, store.bytes, store.length, store.length, &place, &length);
     CHECK(number == 0 && place == HELD_SHEET && length == SHEET_LENGTH);
 }
 
@@ -1250,10 +1250,10 @@ static void test_found_image(void)
     size_t place = KEPT;
     size_t length = KEPT;
     uint8_t state[3] = {KEPT, KEPT, KEPT};
-    CHECK(sip_dialog_get(TEXT("c1"), TEXT("L"), TEXT("R"), store.bytes, store.length, store.length, &place, &length) == 0);
-    CHECK(sip_dialog_image_state(store.bytes + place, length, &state[0], &state[1], &state[2]) == 0);
+    CHECK(sip_dialog_get(RUST, TEXT("c1"), TEXT("L"), TEXT("R"), store.bytes, store.length, store.length, &place, &length) == 0);
+    CHECK(sip_dialog_image_state(RUST, store.bytes + place, length, &state[0], &state[1], &state[2]) == 0);
     CHECK(state[0] == 1 && state[1] == 0 && state[2] == 0);
-    CHECK(sip_dialog_image_confirm(store.bytes + place, length, &length) == 0 && length == SHEET_LENGTH);
+    CHECK(sip_dialog_image_confirm(RUST, store.bytes + place, length, &length) == 0 && length == SHEET_LENGTH);
     CHECK(memcmp(store.bytes, confirmed.bytes, sizeof store.bytes) == 0);
 }
 
@@ -1325,12 +1325,12 @@ static bool day_is(struct day *d, struct image store)
 
 static uint8_t day_put(struct day *d, struct image i, size_t room)
 {
-    return sip_dialog_put(i.bytes, i.length, d->bytes, room, &d->used, &d->created);
+    return sip_dialog_put(RUST, i.bytes, i.length, d->bytes, room, &d->used, &d->created);
 }
 
 static uint8_t day_request(struct day *d, const char *method, const char *block, size_t room)
 {
-    return sip_dialog_request(TEXT(method), TEXT(block), d->bytes, room, &d->used);
+    return sip_dialog_request(RUST, TEXT(method), TEXT(block), d->bytes, room, &d->used);
 }
 
 static void test_a_day(void)
@@ -1349,20 +1349,20 @@ static void test_a_day(void)
     CHECK(day_request(&d, "BYE", FROM_SHEET "CSeq:7\r\n", 400) == 11);
     CHECK(day_request(&d, "BYE", FROM_SHEET "CSeq:8\r\n", 165) == 3);
     CHECK(day_is(&d, three(acked, full_image(), least_image())));
-    CHECK(sip_dialog_terminate(TEXT("c1"), TEXT("L"), TEXT("R"), d.bytes, 166, &d.used) == 0);
+    CHECK(sip_dialog_terminate(RUST, TEXT("c1"), TEXT("L"), TEXT("R"), d.bytes, 166, &d.used) == 0);
     CHECK(day_is(&d, three(ended, full_image(), least_image())));
     /* a Terminated record stays, and takes requests, until it is swept */
     CHECK(day_request(&d, "BYE", FROM_SHEET "CSeq:8\r\n", 166) == 0);
     CHECK(day_is(&d, three(with_number(ended, SHEET_REMOTE, 8), full_image(), least_image())));
-    CHECK(sip_dialog_sweep(d.bytes, 300, &d.used) == 0 && day_is(&d, join(full_image(), least_image())));
+    CHECK(sip_dialog_sweep(RUST, d.bytes, 300, &d.used) == 0 && day_is(&d, join(full_image(), least_image())));
     CHECK(day_request(&d, "BYE", FROM_SHEET "CSeq:9\r\n", 300) == 15);
     /* the line comes back, now behind the others */
     CHECK(day_put(&d, remote_is(9), 162) == 0 && d.created == 4);
     CHECK(day_is(&d, three(full_image(), least_image(), remote_is(9))) && d.terminated == 0);
-    CHECK(sip_dialog_remove(TEXT("id@x"), TEXT("a"), TEXT("bc"), d.bytes, 162, &d.used, &d.terminated) == 0);
+    CHECK(sip_dialog_remove(RUST, TEXT("id@x"), TEXT("a"), TEXT("bc"), d.bytes, 162, &d.used, &d.terminated) == 0);
     CHECK(day_is(&d, join(least_image(), remote_is(9))) && d.terminated == 1);
-    CHECK(sip_dialog_remove(TEXT("id@x"), TEXT("a"), TEXT("bc"), d.bytes, 162, &d.used, &d.terminated) == 15);
-    CHECK(sip_dialog_remove(NULL, 0, NULL, 0, NULL, 0, d.bytes, 74, &d.used, &d.terminated) == 0);
+    CHECK(sip_dialog_remove(RUST, TEXT("id@x"), TEXT("a"), TEXT("bc"), d.bytes, 162, &d.used, &d.terminated) == 15);
+    CHECK(sip_dialog_remove(RUST, NULL, 0, NULL, 0, NULL, 0, d.bytes, 74, &d.used, &d.terminated) == 0);
     CHECK(day_is(&d, remote_is(9)) && d.terminated == 2 && d.created == 4);
 }
 

@@ -15,7 +15,7 @@ use Rattle.limits.specs.Limits.{LimitSet}
 use Rattle.limits.specs.Outcome.{number_in, cause_if, or_else, refuse_by, refuse_if, and_then, or_refuse}
 use Rattle.limits.specs.Refusal.{number_of, least_of}
 use Rattle.limits.specs.declared.Refusal.{Refusal}
-use Rattle.limits.specs.declared.Refusal.TheVariants.{TextTooLong, Malformed, BadStore, MissingHeader, InvalidStatus, InvalidUri, UriTooLong, RouteSetTooLarge, CSeqZero, CSeqTooLarge, InvalidCSeq, CSeqJumpTooLarge, SessionExpiresTooSmall, SessionExpiresTooLarge, NotFound, TooManyDialogs, TooManyEarlyDialogs, NoRoom, InvalidRAck, NoPendingList, UnknownRSeq, RAckCSeqMismatch, RAckMethodMismatch, DuplicatePrack, IdentifierEmpty, IdentifierTooLong, ControlCharacters, InvalidMethod}
+use Rattle.limits.specs.declared.Refusal.TheVariants.{TextTooLong, Malformed, BadStore, MissingHeader, InvalidStatus, InvalidUri, UriTooLong, RouteSetTooLarge, CSeqZero, CSeqTooLarge, InvalidCSeq, CSeqJumpTooLarge, SessionExpiresTooSmall, SessionExpiresTooLarge, NotFound, TooManyDialogs, TooManyEarlyDialogs, NoRoom, InvalidRAck, NoPendingList, UnknownRSeq, RAckCSeqMismatch, RAckMethodMismatch, DuplicatePrack, IdentifierEmpty, IdentifierTooLong, ControlCharacters, InvalidMethod, SettingOutOfBounds}
 use Rattle.limits.proofs.Laws.{number_positive}
 use Rattle.text.specs.Text.{equal}
 use Rattle.text.specs.Answers.{length_cause}
@@ -84,6 +84,7 @@ least_none IdentifierEmpty n = refl
 least_none IdentifierTooLong n = refl
 least_none ControlCharacters n = refl
 least_none InvalidMethod n = refl
+least_none SettingOutOfBounds n = refl
 
 module _ (L : LimitSet) (x : Contents) (c : Call) (e : Returned) (held : Contents) (s : Saw L x c e held) where
   saw_refused : (cause : Refusal) → decide L c x ≡ Err cause → e.number ≡ number_of cause

@@ -152,7 +152,7 @@ early_of t (r ∷ b) = early_in t r + early_of t b
 unfoldable pub is_full : LimitSet → Book → Bool
 is_full L b = leb L.dialogs (length b)
 
--- 17: "Early put, 100 other Early of this Call-ID"
+-- 17: "Early put, 100 other Early of this Call-ID"; the set's Early cap in place of 100 (document 02, request 7)
 unfoldable pub is_crowded : LimitSet → Record → Book → Bool
 is_crowded L r b = is_early r.numbers.state && leb L.early_per_call_id (early_of r.call_id (keep (others (ident_of r)) b))
 

@@ -130,7 +130,7 @@ id_texts (r ∷ b) = (text.write r.call_id ++ (text.write r.local_tag ++ text.wr
 unfoldable pub is_early_other : Record → Record → Bool
 is_early_other r y = equal y.call_id r.call_id && (eqb (stage y.numbers.state) 1 && not (equal y.local_tag r.local_tag && equal y.remote_tag r.remote_tag))
 
--- "10,000 held"; "Early put, 100 other Early of this Call-ID": neither
+-- "10,000 held"; "Early put, 100 other Early of this Call-ID", the set's cap in place of 100: neither
 pub record Free (L : LimitSet) (r : Record) (b : Book) : Type 0 where
   pub few : length b < L.dialogs
   pub few_early : r.numbers.state ≡ early → length (those (is_early_other r) b) < L.early_per_call_id

@@ -6,13 +6,13 @@ use mathlib.Core.Bool.{false}
 use mathlib.Core.List.{List}
 use Rattle.std.specs.Prelude.{Bool, Err, Ok, Result}
 use Rattle.std.specs.Int.{from_bool}
-use Rattle.limits.specs.Limits.{rust_limits}
+use Rattle.limits.specs.Limits.{LimitSet}
 use Rattle.limits.specs.Outcome.{and_then, number_in}
 use Rattle.limits.specs.declared.Refusal.{Refusal}
 use Rattle.output.specs.Output.{fitted}
 use Rattle.rack.specs.declared.RAck.{RAck}
 use Rattle.ordered_store.specs.Entries.{set_entry}
-use Rattle.ordered_store.specs.Run.{Decided, Returns}
+use Rattle.ordered_store.specs.Run.{Left, Decided, Returns}
 use Rattle.ordered_store.proofs.RunLaws.{answer_has}
 use Rattle.prack_body.specs.Lists.{Tracked, open_in}
 use Rattle.prack_body.specs.Layout.{tracked_form, open_bytes}
@@ -34,28 +34,28 @@ abbrev Racked : Result Value Refusal → Type 0
 Racked (Err cause) = Unit {0}
 Racked (Ok v) = (old : RAck) → rack_after (Ok v) no_rack ≡ rack_after (Ok v) old
 
-racked : (id block : List ℕ) (time : ℕ) (bytes : List ℕ) (used : ℕ) → Racked (ran rust_limits (validate id block time) bytes used).answer
+racked : (L : LimitSet) (id block : List ℕ) (time : ℕ) (bytes : List ℕ) (used : ℕ) → Racked (ran L (validate id block time) bytes used).answer
 unfolding judge
-racked id block time bytes used =
-    answer_has (tracked_form rust_limits) key_of (action_cause rust_limits (validate id block time)) (judge rust_limits (validate id block time)) bytes used Racked (λ one. tt)
-    (λ ts d j. subst Racked (decided j) (by (judged_for rust_limits id block time ts)))
+racked L id block time bytes used =
+    answer_has (tracked_form L) key_of (action_cause L (validate id block time)) (judge L (validate id block time)) bytes used Racked (λ one. tt)
+    (λ ts d j. subst Racked (decided j) (by (judged_for L id block time ts)))
   where
     by : (v : Result RAck Refusal) → Racked (rack_value v)
     by (Err cause) = tt
     by (Ok k) = λ old. refl
 
-pub validated_returns : (id block : List ℕ) (time : ℕ) (bytes : List ℕ) (used : ℕ) (w : Validated) (after : List ℕ) (old : RAck) (left : ValidatedNumbers) (r : ℕ)
-    → w ≡ validated_in (ran rust_limits (validate id block time) bytes used) → after ≡ (ran rust_limits (validate id block time) bytes used).bytes
+pub validated_returns : (L : LimitSet) (id block : List ℕ) (time : ℕ) (bytes : List ℕ) (used : ℕ) (w : Validated) (after : List ℕ) (old : RAck) (left : ValidatedNumbers) (r : ℕ)
+    → w ≡ validated_in (ran L (validate id block time) bytes used) → after ≡ (ran L (validate id block time) bytes used).bytes
     → ValidatedGives w (record { used = used; rack = old }) r left
-    → Returns (ran rust_limits (validate id block time) bytes used) after left.used r × (left.rack ≡ rack_after (ran rust_limits (validate id block time) bytes used).answer old)
-validated_returns id block time bytes used w after old left r e b g =
-    let l = ran rust_limits (validate id block time) bytes used in (
+    → Returns (ran L (validate id block time) bytes used) after left.used r × (left.rack ≡ rack_after (ran L (validate id block time) bytes used).answer old)
+validated_returns L id block time bytes used w after old left r e b g =
+    let l = ran L (validate id block time) bytes used in (
       record {
         bytes_are = b;
         used_is = ap (λ (x : ValidatedNumbers). x.used) g.left_is ∙ (ap (λ (x : Validated). (validated_after x (record { used = used; rack = old })).used) e ∙ used_same l.answer l.used);
         number_is = g.number_is ∙ (ap validated_number e ∙ number_same l.answer l.used);
       },
-      ap (λ (x : ValidatedNumbers). x.rack) g.left_is ∙ (ap (λ (x : Validated). (validated_after x (record { used = used; rack = old })).rack) e ∙ rack_same l.answer l.used (racked id block time bytes used)),
+      ap (λ (x : ValidatedNumbers). x.rack) g.left_is ∙ (ap (λ (x : Validated). (validated_after x (record { used = used; rack = old })).rack) e ∙ rack_same l.answer l.used (racked L id block time bytes used)),
     )
   where
     used_same : (a : Result Value Refusal) (m : ℕ) → (validated_after (validated_by a m) (record { used = used; rack = old })).used ≡ m
@@ -77,19 +77,19 @@ abbrev Flagged : Result Value Refusal → Type 0
 Flagged (Err cause) = Unit {0}
 Flagged (Ok v) = (old : ℕ) → from_bool (flag_after (Ok v) false) ≡ pracked_after (Ok v) old
 
-flagged : (id : List ℕ) (r : ℕ) (bytes : List ℕ) (used : ℕ) → Flagged (ran rust_limits (is_pracked id r) bytes used).answer
+flagged : (L : LimitSet) (id : List ℕ) (r : ℕ) (bytes : List ℕ) (used : ℕ) → Flagged (ran L (is_pracked id r) bytes used).answer
 unfolding judge
-flagged id r bytes used =
-    answer_has (tracked_form rust_limits) key_of (action_cause rust_limits (is_pracked id r)) (judge rust_limits (is_pracked id r)) bytes used Flagged (λ one. tt)
+flagged L id r bytes used =
+    answer_has (tracked_form L) key_of (action_cause L (is_pracked id r)) (judge L (is_pracked id r)) bytes used Flagged (λ one. tt)
     (λ ts d j. subst Flagged (decided j) (λ old. refl))
 
-pub pracked_returns : (id : List ℕ) (rseq : ℕ) (bytes : List ℕ) (used : ℕ) (w : Result Bool Refusal) (old left r : ℕ)
-    → w ≡ pracked_of (ran rust_limits (is_pracked id rseq) bytes used).answer → bytes ≡ (ran rust_limits (is_pracked id rseq) bytes used).bytes → used ≡ (ran rust_limits (is_pracked id rseq) bytes used).used
+pub pracked_returns : (L : LimitSet) (id : List ℕ) (rseq : ℕ) (bytes : List ℕ) (used : ℕ) (w : Result Bool Refusal) (old left r : ℕ)
+    → w ≡ pracked_of (ran L (is_pracked id rseq) bytes used).answer → bytes ≡ (ran L (is_pracked id rseq) bytes used).bytes → used ≡ (ran L (is_pracked id rseq) bytes used).used
     → FlagGives w old r left
-    → Returns (ran rust_limits (is_pracked id rseq) bytes used) bytes used r × (left ≡ pracked_after (ran rust_limits (is_pracked id rseq) bytes used).answer old)
-pracked_returns id rseq bytes used w old left r e b u g =
-    let a = (ran rust_limits (is_pracked id rseq) bytes used).answer in
-    (record { bytes_are = b; used_is = u; number_is = g.number_is ∙ (ap number_in e ∙ number_same a) }, g.left_is ∙ (ap (λ (x : Result Bool Refusal). flag_left x old) e ∙ flag_same a (flagged id rseq bytes used)))
+    → Returns (ran L (is_pracked id rseq) bytes used) bytes used r × (left ≡ pracked_after (ran L (is_pracked id rseq) bytes used).answer old)
+pracked_returns L id rseq bytes used w old left r e b u g =
+    let a = (ran L (is_pracked id rseq) bytes used).answer in
+    (record { bytes_are = b; used_is = u; number_is = g.number_is ∙ (ap number_in e ∙ number_same a) }, g.left_is ∙ (ap (λ (x : Result Bool Refusal). flag_left x old) e ∙ flag_same a (flagged L id rseq bytes used)))
   where
     number_same : (a : Result Value Refusal) → number_in (pracked_of a) ≡ number_in a
     number_same (Err cause) = refl
@@ -106,28 +106,28 @@ abbrev Sized : Result Value Refusal → Type 0
 Sized (Err cause) = Unit {0}
 Sized (Ok v) = (old : ℕ) → length_after (Ok v) 0 ≡ length_after (Ok v) old
 
-sized : (id : List ℕ) (time room : ℕ) (bytes : List ℕ) (used : ℕ) → Sized (ran rust_limits (get_pending id time room) bytes used).answer
+sized : (L : LimitSet) (id : List ℕ) (time room : ℕ) (bytes : List ℕ) (used : ℕ) → Sized (ran L (get_pending id time room) bytes used).answer
 unfolding judge
-sized id time room bytes used =
-    answer_has (tracked_form rust_limits) key_of (action_cause rust_limits (get_pending id time room)) (judge rust_limits (get_pending id time room)) bytes used Sized (λ one. tt)
-    (λ ts d j. by ts d (fitted room (open_bytes (open_in (clean_for rust_limits time id ts).list))) j)
+sized L id time room bytes used =
+    answer_has (tracked_form L) key_of (action_cause L (get_pending id time room)) (judge L (get_pending id time room)) bytes used Sized (λ one. tt)
+    (λ ts d j. by ts d (fitted room (open_bytes (open_in (clean_for L time id ts).list))) j)
   where
-    by : (ts : List Tracked) (d : Decided Tracked Value) (o : Result (List ℕ) Refusal) → and_then o (λ s. deciding (set_entry key_of (clean_for rust_limits time id ts) ts) (Ok (written s))) ≡ Ok d → Sized d.answer
+    by : (ts : List Tracked) (d : Decided Tracked Value) (o : Result (List ℕ) Refusal) → and_then o (λ s. deciding (set_entry key_of (clean_for L time id ts) ts) (Ok (written s))) ≡ Ok d → Sized d.answer
     by ts d (Err cause) e = absurd (let z : ◌≡◌ {A = ℕ} 0 1 = cc in omega arith)
     by ts d (Ok s) e = subst Sized (decided e) (λ old. refl)
 
-pub listed_returns : (id : List ℕ) (time room : ℕ) (bytes : List ℕ) (used : ℕ) (w : Result (ℕ × ℕ) Refusal) (after : List ℕ) (old : ℕ) (left : WithUsedNumbers ℕ) (r : ℕ)
-    → w ≡ listed_in (ran rust_limits (get_pending id time room) bytes used) → after ≡ (ran rust_limits (get_pending id time room) bytes used).bytes
-    → used_listed w used ≡ (ran rust_limits (get_pending id time room) bytes used).used → WithUsedGives w (record { used = used; value = old }) r left
-    → Returns (ran rust_limits (get_pending id time room) bytes used) after left.used r × (left.value ≡ length_after (ran rust_limits (get_pending id time room) bytes used).answer old)
-listed_returns id time room bytes used w after old left r e b u g =
-    let l = ran rust_limits (get_pending id time room) bytes used in (
+pub listed_returns : (L : LimitSet) (id : List ℕ) (time room : ℕ) (bytes : List ℕ) (used : ℕ) (w : Result (ℕ × ℕ) Refusal) (after : List ℕ) (old : ℕ) (left : WithUsedNumbers ℕ) (r : ℕ)
+    → w ≡ listed_in (ran L (get_pending id time room) bytes used) → after ≡ (ran L (get_pending id time room) bytes used).bytes
+    → used_listed w used ≡ (ran L (get_pending id time room) bytes used).used → WithUsedGives w (record { used = used; value = old }) r left
+    → Returns (ran L (get_pending id time room) bytes used) after left.used r × (left.value ≡ length_after (ran L (get_pending id time room) bytes used).answer old)
+listed_returns L id time room bytes used w after old left r e b u g =
+    let l = ran L (get_pending id time room) bytes used in (
       record {
         bytes_are = b;
         used_is = ap (λ (x : WithUsedNumbers ℕ). x.used) g.left_is ∙ (used_same w ∙ u);
         number_is = g.number_is ∙ (ap number_in e ∙ number_same l.answer l.used);
       },
-      ap (λ (x : WithUsedNumbers ℕ). x.value) g.left_is ∙ (ap (λ (x : Result (ℕ × ℕ) Refusal). (with_used_after x (record { used = used; value = old })).value) e ∙ size_same l.answer l.used (sized id time room bytes used)),
+      ap (λ (x : WithUsedNumbers ℕ). x.value) g.left_is ∙ (ap (λ (x : Result (ℕ × ℕ) Refusal). (with_used_after x (record { used = used; value = old })).value) e ∙ size_same l.answer l.used (sized L id time room bytes used)),
     )
   where
     used_same : (x : Result (ℕ × ℕ) Refusal) → (with_used_after x (record { used = used; value = old })).used ≡ used_listed x used
@@ -141,3 +141,11 @@ listed_returns id time room bytes used w after old left r e b u g =
     size_same : (a : Result Value Refusal) (m : ℕ) → Sized a → (with_used_after (listed_by a m) (record { used = used; value = old })).value ≡ length_after a old
     size_same (Err cause) m k = refl
     size_same (Ok v) m k = k old
+
+-- ---- two calls that leave the same
+
+pub moved : {l k : Left Value} {bytes : List ℕ} {used r : ℕ} → l ≡ k → Returns l bytes used r → Returns k bytes used r
+moved {l} {k} {bytes} {used} {r} q x = subst (λ y. Returns y bytes used r) q x
+
+pub moved_value : {A : Type 0} (value : Left Value → A) {l k : Left Value} {left : A} → l ≡ k → left ≡ value l → left ≡ value k
+moved_value {A} value q x = x ∙ ap value q

@@ -1,6 +1,6 @@
 -- What the entries promise is what a C caller is to be handed (book/specs/Returned.antt). Assumes nothing.
 use Prim.Native.Nat.{ℕ}
-use mathlib.Core.Path.{◌≡◌, refl, sym, ap, ◌∙◌}
+use mathlib.Core.Path.{◌≡◌, refl, sym, ap, subst, ◌∙◌}
 use mathlib.Core.List.{List}
 use Rattle.std.specs.Prelude.{Err, Ok, Result}
 use Rattle.limits.specs.Limits.{LimitSet}
@@ -9,11 +9,11 @@ use Rattle.limits.specs.declared.Refusal.{Refusal}
 use Rattle.codec.proofs.CodecLaws.{Bytes}
 use Rattle.book.specs.Calls.{Call, read, Reading, Answer}
 use Rattle.book.specs.Store.{Left, run}
-use Rattle.book.specs.Returned.{Returns, count_after}
+use Rattle.book.specs.Returned.{Returns, least_after, count_after}
 use Rattle.book.proofs.WayLaws.{refusal_keeps}
 use Rattle.book.proofs.ReadingLaws.{reading_run}
 use Rattle.dialog_manager.specs.Answers.{written_by, written_in}
-use Rattle.c_answers.specs.Given.{ValueGives, value_after}
+use Rattle.c_answers.specs.Given.{ValueGives, value_after, WithLeastNumbers, WithLeastGives, with_least_after}
 use Rattle.c_store_answers.specs.Given.{CountedGives, CountedNumbers, counted_after}
 
 -- ---- a refused call keeps the used length
@@ -39,6 +39,27 @@ module _ (L : LimitSet) (c : Call) (bytes : List ℕ) (used : ℕ) where
     used_is = g.left_is ∙ (ap (λ x. value_after x used) e ∙ used_after_lem);
     number_is = g.number_is ∙ (ap number_in e ∙ number_same (run L c bytes used).answer (run L c bytes used).used);
   }
+
+  -- a call that answers the new used length, or with 13 the least interval
+  pub least_returns : (w : Result ℕ Refusal) (after : List ℕ) (old : ℕ) (left : WithLeastNumbers ℕ) (r : ℕ) → w ≡ written_in (run L c bytes used) → after ≡ (run L c bytes used).bytes
+      → WithLeastGives w (record { value = used; least = old }) r left → Returns (run L c bytes used) after left.value r × (left.least ≡ least_after (run L c bytes used).answer old)
+  least_returns w after old left r e b g = (
+    record {
+      bytes_are = b;
+      used_is = ap (λ (x : WithLeastNumbers ℕ). x.value) g.left_is ∙ (used_same w ∙ (ap (λ x. value_after x used) e ∙ used_after_lem));
+      number_is = g.number_is ∙ (ap number_in e ∙ number_same (run L c bytes used).answer (run L c bytes used).used);
+    },
+    ap (λ (x : WithLeastNumbers ℕ). x.least) g.left_is
+        ∙ (ap (λ (x : Result ℕ Refusal). (with_least_after x (record { value = used; least = old })).least) e ∙ least_same (run L c bytes used).answer (run L c bytes used).used),
+  )
+    where
+      used_same : (x : Result ℕ Refusal) → (with_least_after x (record { value = used; least = old })).value ≡ value_after x used
+      used_same (Err cause) = refl
+      used_same (Ok n) = refl
+
+      least_same : (a : Answer) (n : ℕ) → (with_least_after (written_by n a) (record { value = used; least = old })).least ≡ least_after a old
+      least_same (Err cause) n = refl
+      least_same (Ok v) n = refl
 
   -- a call that answers the new used length, and counts
   pub counted_returns : (w : Result ℕ Refusal) (after : List ℕ) (old : ℕ) (left : CountedNumbers) (r : ℕ) → w ≡ written_in (run L c bytes used) → after ≡ (run L c bytes used).bytes
@@ -67,3 +88,11 @@ pub reading_returns : (L : LimitSet) (n : ℕ) (q : Reading) (bytes : List ℕ) 
 reading_returns L n q bytes used h r e =
     let k = reading_run L n q bytes used h in
     record { bytes_are = sym (ap (λ (l : Left). l.bytes) k); used_is = sym (ap (λ (l : Left). l.used) k); number_is = e }
+
+-- ---- two calls that leave the same
+
+pub moved : {l k : Left} {bytes : List ℕ} {used r : ℕ} → l ≡ k → Returns l bytes used r → Returns k bytes used r
+moved {l} {k} {bytes} {used} {r} q x = subst (λ y. Returns y bytes used r) q x
+
+pub moved_value : {A : Type 0} (value : Left → A) {l k : Left} {left : A} → l ≡ k → left ≡ value l → left ≡ value k
+moved_value {A} value q x = x ∙ ap value q

@@ -76,7 +76,7 @@ pub record Left (s : List ℕ) (at : ℕ) : Type 0 where
   pub whole : WholeFrom s at
   pub same : is_distinct s ≡ distinct whole.records
 
-distinct_given : (rs : List Record) → is_given (cond (distinct rs) (Some rs) None) ≡ distinct rs
+pub distinct_given : (rs : List Record) → is_given (cond (distinct rs) (Some rs) None) ≡ distinct rs
 distinct_given rs = by (distinct rs) refl
   where
     by : (t : Bool) → distinct rs ≡ t → is_given (cond (distinct rs) (Some rs) None) ≡ distinct rs

@@ -72,7 +72,7 @@ module _ (s : List ℕ) where
       by false t = rw t
 
   -- a key below the first of an ascending run stands nowhere in it
-  below : (k : List ℕ) (q : ℕ) (ps : List ℕ) → order k (key_at s q) ≡ Less → Ascending s (q ∷ ps) → tally s k (q ∷ ps) ≡ 0
+  pub below : (k : List ℕ) (q : ℕ) (ps : List ℕ) → order k (key_at s q) ≡ Less → Ascending s (q ∷ ps) → tally s k (q ∷ ps) ≡ 0
   unfolding tally Ascending
   below k q [] h a = omega (arith, other k q h)
   below k q (r ∷ ps) h a = omega (arith, other k q h, below k r ps (order_transitive k (key_at s q) (key_at s r) h a.0) a.1)

@@ -5,5 +5,8 @@ pub mod Counts
 pub mod Halves
 pub mod Identities
 pub mod KeysAt
+pub mod MarkLaws
 pub mod Merges
+pub mod RunLaws
+pub mod Searches
 pub mod Walks

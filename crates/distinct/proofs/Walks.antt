@@ -1,14 +1,12 @@
--- Whole records from a place on: their keys, and that a record stands at each place. Assumes nothing.
+-- Whole records from a place on: their keys, and that they are well-formed. Assumes nothing.
 use Prim.Native.Nat.{ℕ}
 use mathlib.Core.Path.{◌≡◌, ap, ◌∙◌}
 use mathlib.Core.List.{List, [], ◌∷◌}
 use Rattle.record.specs.Record.{Record}
-use Rattle.record.specs.Store.{places_from}
 use Rattle.codec.proofs.CodecLaws.{Bytes}
 use Rattle.record.proofs.StoreLaws.{EachFormed}
 use Rattle.record_walk.specs.Walk.{end_at}
 use Rattle.distinct.specs.Keys.{key_of, key_at}
-use Rattle.distinct.specs.Sorting.{EachAt}
 use Rattle.record_walk.proofs.Walks.{From, Next, next}
 use Rattle.distinct.proofs.KeysAt.{key_is}
 
@@ -20,8 +18,3 @@ module _ (s : List ℕ) (b : Bytes s) where
   pub each_formed : (rs : List Record) (at : ℕ) → From s at rs → EachFormed rs
   each_formed [] at e = tt
   each_formed (r ∷ rs) at e = let n = next s b at r rs e in (n.formed, each_formed rs (end_at s at) n.others)
-
-  pub each_place : (rs : List Record) (at : ℕ) → From s at rs → EachAt s (places_from at rs)
-  unfolding EachAt places_from
-  each_place [] at e = tt
-  each_place (r ∷ rs) at e = let n = next s b at r rs e in (n.here, rw n.ends at (each_place rs (end_at s at) n.others))

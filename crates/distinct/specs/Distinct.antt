@@ -2,11 +2,7 @@
 -- is, and nothing of how it is found.
 use Rattle.std.specs.Prelude.{ℕ, ◌≡◌, Bool, List, length, Some}
 use Rattle.record.specs.Record.{Record, is_given}
-use Rattle.record.specs.Store.{records_in, decode_all, places_from}
-
--- the bytes are whole records, and these are the places of their images
-abbrev pub Places : List ℕ → List ℕ → Type 0
-Places s places = (rs : List Record) × ((records_in (length s) s ≡ Some rs) × (places ≡ places_from 0 rs))
+use Rattle.record.specs.Store.{records_in, decode_all}
 
 -- the bytes are whole records
 abbrev pub Whole : List ℕ → Type 0

@@ -9,7 +9,7 @@ use std::cmp::Ordering;
 // Kept (4): std's `sort_unstable_by` would need no scratch, but asks for a closure that may be called with any two numbers; `compare` may be with places of
 // records alone, and the proof of that call does not close (tried).
 // Kept (5, 6): no heap: the caller lends the table of places and one as long to merge into; a struct of the two would be made anew for each half.
-pub fn sort(bytes: &[u8], places: &mut [usize], scratch: &mut [usize]) -> bool
+pub fn sort(bytes: &[u8], places: &mut [u32], scratch: &mut [u32]) -> bool
     requires each_at { EachAt bytes.now places.old }
     requires scratch_len { length scratch.old ≡ length places.old }
     ensures { SortedOr result bytes.now places.old places.new }
@@ -26,7 +26,7 @@ pub fn sort(bytes: &[u8], places: &mut [usize], scratch: &mut [usize]) -> bool
 
 // Two ascending runs, the places before `mid` and the others, as one; or `false`, if two keys are equal.
 // Kept (5, 6): as for `sort`, and where its second half begins.
-fn join(bytes: &[u8], places: &mut [usize], mid: usize, scratch: &mut [usize]) -> bool
+fn join(bytes: &[u8], places: &mut [u32], mid: usize, scratch: &mut [u32]) -> bool
     requires { Runs bytes.now places.old mid scratch.old }
     ensures { SortedOr result bytes.now places.old places.new }
 {
@@ -39,7 +39,7 @@ fn join(bytes: &[u8], places: &mut [usize], mid: usize, scratch: &mut [usize]) -
 
 // The same, with the one run in `out`.
 // Kept (5, 6): as for `join`: here the places are read and `out` is written.
-fn merge(bytes: &[u8], places: &[usize], mid: usize, out: &mut [usize]) -> bool
+fn merge(bytes: &[u8], places: &[u32], mid: usize, out: &mut [u32]) -> bool
     requires { Runs bytes.now places.now mid out.old }
     ensures { SortedOr result bytes.now places.now out.new }
 {
@@ -50,7 +50,7 @@ fn merge(bytes: &[u8], places: &[usize], mid: usize, out: &mut [usize]) -> bool
         let p = places[i];
         let q = places[j];
         let k = i + (j - mid);
-        let way = compare(bytes, p, q);
+        let way = compare(bytes, p as usize, q as usize);
         match way {
             Ordering::Less => {
                 out[k] = p;
@@ -72,7 +72,7 @@ fn merge(bytes: &[u8], places: &[usize], mid: usize, out: &mut [usize]) -> bool
 // Kept (4): a request at 1,000 records took 3,904 instructions for each with this by `copy_from_slice` and two more forms of std's, 3,592 with the three
 // loops; its bar is 3,600 (PERFORMANCE; this one was not measured alone). `out[at..].iter_mut().zip(piece)` does not close: after an adapter of `iter_mut` a proof knows how long `out` is, and not
 // its elements.
-fn copy_at(out: &mut [usize], at: usize, piece: &[usize])
+fn copy_at(out: &mut [u32], at: usize, piece: &[u32])
     requires { at + length piece.now ≤ length out.old }
     ensures { out.new ≡ put out.old at piece.now }
 {

@@ -7,7 +7,7 @@ use Rattle.std.specs.Prelude.{Err, None, Ok, Option, Result, Some}
 use Rattle.limits.specs.Outcome.{check_of}
 use Rattle.limits.specs.Refusal.{number_of}
 use Rattle.limits.specs.declared.Refusal.{Refusal}
-use Rattle.limits.specs.declared.Refusal.TheVariants.{TextTooLong, Malformed, BadStore, MissingHeader, InvalidStatus, InvalidUri, UriTooLong, RouteSetTooLarge, CSeqZero, CSeqTooLarge, InvalidCSeq, CSeqJumpTooLarge, SessionExpiresTooSmall, SessionExpiresTooLarge, NotFound, TooManyDialogs, TooManyEarlyDialogs, NoRoom, InvalidRAck, NoPendingList, UnknownRSeq, RAckCSeqMismatch, RAckMethodMismatch, DuplicatePrack, IdentifierEmpty, IdentifierTooLong, ControlCharacters, InvalidMethod}
+use Rattle.limits.specs.declared.Refusal.TheVariants.{TextTooLong, Malformed, BadStore, MissingHeader, InvalidStatus, InvalidUri, UriTooLong, RouteSetTooLarge, CSeqZero, CSeqTooLarge, InvalidCSeq, CSeqJumpTooLarge, SessionExpiresTooSmall, SessionExpiresTooLarge, NotFound, TooManyDialogs, TooManyEarlyDialogs, NoRoom, InvalidRAck, NoPendingList, UnknownRSeq, RAckCSeqMismatch, RAckMethodMismatch, DuplicatePrack, IdentifierEmpty, IdentifierTooLong, ControlCharacters, InvalidMethod, SettingOutOfBounds}
 
 pub number_positive : (cause : Refusal) → 0 < number_of cause
 number_positive TextTooLong = omega arith
@@ -38,6 +38,7 @@ number_positive IdentifierEmpty = omega arith
 number_positive IdentifierTooLong = omega arith
 number_positive ControlCharacters = omega arith
 number_positive InvalidMethod = omega arith
+number_positive SettingOutOfBounds = omega arith
 
 -- a check that was passed has no cause
 pub passed : (o : Option Refusal) → check_of o ≡ Ok tt → o ≡ None

@@ -1,7 +1,7 @@
--- Document 01, "Turned back": the number of each cause, and the value that is returned beside it.
+-- Document 01, "Turned back", and document 02's 30: the number of each cause, and the value that is returned beside it.
 use Rattle.std.specs.Prelude.{ℕ, None, Option, Some}
 use Rattle.limits.specs.declared.Refusal.{Refusal}
-use Rattle.limits.specs.declared.Refusal.TheVariants.{TextTooLong, Malformed, BadStore, MissingHeader, InvalidStatus, InvalidUri, UriTooLong, RouteSetTooLarge, CSeqZero, CSeqTooLarge, InvalidCSeq, CSeqJumpTooLarge, SessionExpiresTooSmall, SessionExpiresTooLarge, NotFound, TooManyDialogs, TooManyEarlyDialogs, NoRoom, InvalidRAck, NoPendingList, UnknownRSeq, RAckCSeqMismatch, RAckMethodMismatch, DuplicatePrack, IdentifierEmpty, IdentifierTooLong, ControlCharacters, InvalidMethod}
+use Rattle.limits.specs.declared.Refusal.TheVariants.{TextTooLong, Malformed, BadStore, MissingHeader, InvalidStatus, InvalidUri, UriTooLong, RouteSetTooLarge, CSeqZero, CSeqTooLarge, InvalidCSeq, CSeqJumpTooLarge, SessionExpiresTooSmall, SessionExpiresTooLarge, NotFound, TooManyDialogs, TooManyEarlyDialogs, NoRoom, InvalidRAck, NoPendingList, UnknownRSeq, RAckCSeqMismatch, RAckMethodMismatch, DuplicatePrack, IdentifierEmpty, IdentifierTooLong, ControlCharacters, InvalidMethod, SettingOutOfBounds}
 
 abbrev pub number_of : Refusal → ℕ
 number_of TextTooLong = 1
@@ -32,6 +32,7 @@ number_of IdentifierEmpty = 25
 number_of IdentifierTooLong = 26
 number_of ControlCharacters = 27
 number_of InvalidMethod = 28
+number_of SettingOutOfBounds = 30
 
 -- 13 returns the least interval that is taken; no other cause returns a value
 abbrev pub least_of : Refusal → Option ℕ
@@ -63,3 +64,4 @@ least_of IdentifierEmpty = None
 least_of IdentifierTooLong = None
 least_of ControlCharacters = None
 least_of InvalidMethod = None
+least_of SettingOutOfBounds = None

@@ -1,4 +1,4 @@
-// The limits of the Rust as associated constants, and the refusals of document 01's table "Turned back".
+// The limits of the Rust as associated constants, the five that a site sets, and the refusals of document 01's table "Turned back" with document 02's.
 #![tactic(auto)]
 
 ghost use Rattle.std.specs.Prelude.{◌≡◌};
@@ -26,29 +26,25 @@ impl Limits {
 
     pub const MAX_ROUTE_SET_SIZE: usize = 50;
 
-    pub const MAX_EARLY_DIALOGS_PER_CALL_ID: usize = 100;
-
     pub const MAX_CONFIRMED_DIALOGS: usize = 10000;
 
     // lib.rs: CSeq numbers, and session intervals in seconds.
     pub const MAX_CSEQ_VALUE: u32 = 2147483647;
 
-    pub const MAX_CSEQ_JUMP: u32 = 1000;
-
     pub const MIN_SESSION_EXPIRES: u32 = 90;
 
     pub const MAX_SESSION_EXPIRES: u32 = 86400;
 
-    // prack_validator.rs.
-    pub const MAX_PENDING_PRACK_PER_DIALOG: usize = 10;
-
-    pub const PENDING_PRACK_CLEANUP_INTERVAL_SECS: u64 = 300;
-
-    pub const PENDING_PRACK_TIMEOUT_SECS: u64 = 300;
+    // Document 02, request 7: the most entries that a site may have in a PRACK list.
+    pub const MAX_PENDING_SETTING: usize = 32;
 }
 
-// Why a call is turned back, in the order of the numbers 1 to 28. The names are DialogError's where it has one.
-// Kept (1): the error enum itself, a choice of 28.
+mod settings;
+
+pub use settings::Settings;
+
+// Why a call is turned back, in the order of the numbers 1 to 28, and 30. The names are DialogError's where it has one.
+// Kept (1): the error enum itself, a choice of 29.
 #[derive(Clone, Copy)]
 pub enum Refusal {
     TextTooLong,
@@ -80,10 +76,11 @@ pub enum Refusal {
     IdentifierTooLong,
     ControlCharacters,
     InvalidMethod,
+    SettingOutOfBounds,
 }
 
 impl Refusal {
-    // The number of document 01's table.
+    // The number of document 01's table, and document 02's 30.
     // Kept (4): one variant has a field, so that no cast takes the enum; a `From` would be this match.
     pub fn number(self) -> u8
         ensures { result ≡ number_of self }
@@ -117,6 +114,7 @@ impl Refusal {
             Refusal::IdentifierTooLong => 26,
             Refusal::ControlCharacters => 27,
             Refusal::InvalidMethod => 28,
+            Refusal::SettingOutOfBounds => 30,
         }
     }
 }

@@ -20,10 +20,10 @@ use Rattle.ordered_store.proofs.PlaceLaws.{whole_says, broken_says, Here, past, 
 module _ {A P : Type 0} (F : Layout A P) (k : Key) (s : List ℕ) where
   -- what is asked of the store, and what of the entries from a place on
   abbrev asked : Option (Slot A)
-  asked = slot_read F.form F.key_of k (decode_entries F.form F.key_of s)
+  asked = slot_read F.form F.parts.key_of k (decode_entries F.form F.parts.key_of s)
 
   abbrev among : ℕ → List A → Slot A
-  among at es = slot_in F.form F.key_of k at es
+  among at es = slot_in F.form F.parts.key_of k at es
 
   -- what is asked of the store is asked of the entries from `at` on
   pub record Left (at : ℕ) : Type 0 where
@@ -33,10 +33,10 @@ module _ {A P : Type 0} (F : Layout A P) (k : Key) (s : List ℕ) where
     pub inside : at ≤ length s
     pub same : Some (among at rest) ≡ asked
 
-  pub start : Lawful F → Bytes s → Stored F.form F.key_of s → Left 0
+  pub start : Lawful F → Bytes s → Stored F.form F.parts.key_of s → Left 0
   start laws b g =
-      let d = decoded F.form F.key_of F.Good laws.exact s g.list b g.are in
-      record { rest = g.list; good = d.1; are = d.0; inside = omega arith; same = ap (slot_read F.form F.key_of k) (sym g.are) }
+      let d = decoded F.form F.parts.key_of F.Good laws.exact s g.list b g.are in
+      record { rest = g.list; good = d.1; are = d.0; inside = omega arith; same = ap (slot_read F.form F.parts.key_of k) (sym g.are) }
 
   module _ (at : ℕ) where
     -- the first of the entries left, and the others
@@ -46,7 +46,7 @@ module _ {A P : Type 0} (F : Layout A P) (k : Key) (s : List ℕ) where
       pub good : GoodAll F.Good more
       pub starts : drop at s ≡ F.form.write value ++ encode_entries F.form more
       pub reads : F.form.read (drop at s) ≡ Some (record { value = value; rest = encode_entries F.form more })
-      pub same : Some (slot_by (key_order (F.key_of value) k) at value (among (at + length (F.form.write value)) more)) ≡ asked
+      pub same : Some (slot_by (key_order (F.parts.key_of value) k) at value (among (at + length (F.form.write value)) more)) ≡ asked
 
     empty_left : at < length s → drop at s ≡ encode_entries F.form [] → ⊥
     unfolding write_all
@@ -88,25 +88,25 @@ module _ {A P : Type 0} (F : Layout A P) (k : Key) (s : List ℕ) where
 
     module _ (laws : Lawful F) (t : Turn) where
       -- an entry is read there
-      pub unbroken : places_read F at (F.form.read (drop at s)) ≡ None → ⊥
+      pub unbroken : places_read F.parts at (F.form.read (drop at s)) ≡ None → ⊥
       unbroken e = let q = sym (broken_says F at (F.form.read (drop at s)) e) ∙ t.reads in let z : ◌≡◌ {A = ℕ} 0 1 = cc in omega arith
 
-      module _ {p : P} (e : places_read F at (F.form.read (drop at s)) ≡ Some p) where
-        places : F.places_of at t.value ≡ p
+      module _ {p : P} (e : places_read F.parts at (F.form.read (drop at s)) ≡ Some p) where
+        places : F.parts.places_of at t.value ≡ p
         places = by (whole_says F at (F.form.read (drop at s)) p e)
           where
-            by : (x : Reading A) × ((F.form.read (drop at s) ≡ Some x) × (F.places_of at x.value ≡ p)) → F.places_of at t.value ≡ p
+            by : (x : Reading A) × ((F.form.read (drop at s) ≡ Some x) × (F.parts.places_of at x.value ≡ p)) → F.parts.places_of at t.value ≡ p
             by (x, (q, w)) =
                 let same : Some (record { value = t.value; rest = encode_entries F.form t.more }) ≡ Some x = sym t.reads ∙ q in
                 let v : t.value ≡ x.value = cc in
-                ap (F.places_of at) v ∙ w
+                ap (F.parts.places_of at) v ∙ w
 
         pub met : Here F s at p t.value
         met = subst (λ (z : P). Here F s at z t.value) places (here F laws s at t.value (encode_entries F.form t.more) t.starts)
 
         -- the answer of the comparison with its key
-        module _ {r : Ordering} (c : r ≡ key_order (F.key_at s p) k) where
-          compared : {o : Ordering} → r ≡ o → o ≡ key_order (F.key_of t.value) k
+        module _ {r : Ordering} (c : r ≡ key_order (F.parts.key_at s p) k) where
+          compared : {o : Ordering} → r ≡ o → o ≡ key_order (F.parts.key_of t.value) k
           compared q = sym q ∙ c ∙ ap (λ (m : Key). key_order m k) met.key
 
           decided : {o : Ordering} → r ≡ o → Some (slot_by o at t.value (among (at + length (F.form.write t.value)) t.more)) ≡ asked
@@ -121,11 +121,11 @@ module _ {A P : Type 0} (F : Layout A P) (k : Key) (s : List ℕ) where
           passed q = decided q
 
           -- it is earlier: those after it are left
-          pub gone_by : r ≡ Less → Left (F.end_of p)
+          pub gone_by : r ≡ Less → Left (F.parts.end_of p)
           gone_by q = record {
             rest = t.more;
             good = t.good;
-            are = ap (λ (z : P). drop (F.end_of z) s) met.placed ∙ past F laws s at t.value (encode_entries F.form t.more) t.starts;
+            are = ap (λ (z : P). drop (F.parts.end_of z) s) met.placed ∙ past F laws s at t.value (encode_entries F.form t.more) t.starts;
             inside = met.within;
             same = ap (λ (n : ℕ). Some (among n t.more)) met.ends ∙ decided q;
           }

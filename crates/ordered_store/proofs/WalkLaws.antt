@@ -7,6 +7,7 @@ use mathlib.Core.List.{List}
 use lib.ListN.{length, drop}
 use Rattle.std.specs.Prelude.{ok_or, Err, None, Ok, Option, Result, Some}
 use Rattle.limits.specs.declared.Refusal.{Refusal}
+use Rattle.codec.specs.Codec.{Codec}
 use Rattle.ordered_store.specs.Layout.{Layout, places_read}
 use Rattle.ordered_store.specs.Order.{key_order, is_before}
 use Rattle.ordered_store.specs.Steps.{goes_on, StepsEntry}
@@ -25,33 +26,33 @@ module _ {A P : Type 0} (F : Layout A P) (s : List ℕ) where
   pub record Given (at place : ℕ) (o : Option P) (t : List ℕ) (to : ℕ) : Type 0 where
     pub more : at < length s
     pub from : place ≡ at
-    pub reads : places_read F at (F.form.read (drop at s)) ≡ o
+    pub reads : places_read F.parts at (F.form.read (drop at s)) ≡ o
     pub same : t ≡ s
-    pub ends : to ≡ goes_on F s o
+    pub ends : to ≡ goes_on F.parts s o
 
-  pub given : {b t : List ℕ} {at place to : ℕ} {o : Option P} → b ≡ s → StepsEntry F b at (Some (place, o)) t to → Given at place o t to
-  given {b} {t} {at} {place} {to} {o} e w = record {
+  pub given : {form : Codec A} {b t : List ℕ} {at place to : ℕ} {o : Option P} → form ≡ F.form → b ≡ s → StepsEntry F.parts form b at (Some (place, o)) t to → Given at place o t to
+  given {form} {b} {t} {at} {place} {to} {o} f e w = record {
     more = subst (λ (x : List ℕ). at < length x) e w.0;
     from = w.1;
-    reads = subst (λ (x : List ℕ). places_read F at (F.form.read (drop at x)) ≡ o) e (sym w.2);
+    reads = subst (λ (x : List ℕ). places_read F.parts at (F.form.read (drop at x)) ≡ o) e (subst (λ (x : Codec A). places_read F.parts at (x.read (drop at b)) ≡ o) f (sym w.2));
     same = w.3 ∙ e;
-    ends = subst (λ (x : List ℕ). to ≡ goes_on F x o) e w.4;
+    ends = subst (λ (x : List ℕ). to ≡ goes_on F.parts x o) e w.4;
   }
 
   -- the last turn
-  pub over_at : {b t : List ℕ} {at to : ℕ} → b ≡ s → StepsEntry F b at None t to → length s ≤ at
+  pub over_at : {b t : List ℕ} {at to : ℕ} → b ≡ s → StepsEntry F.parts F.form b at None t to → length s ≤ at
   over_at {b} {t} {at} e w = subst (λ (x : List ℕ). length x ≤ at) e w.0
 
   -- ---- the count so far: n entries up to a place, and the last of them
 
   abbrev pub SoFar : ℕ → Option P → ℕ → Type 0
   SoFar at None n = (at ≡ 0) × (n ≡ 0)
-  SoFar at (Some p) n = Counting F s p n × (at ≡ F.end_of p)
+  SoFar at (Some p) n = Counting F s p n × (at ≡ F.parts.end_of p)
 
   -- nothing is read at the place
-  pub broken : (at : ℕ) (last : Option P) (n : ℕ) → SoFar at last n → at < length s → places_read F at (F.form.read (drop at s)) ≡ None → None ≡ asked F s
-  broken at None n g h e = first_broken F s (subst (λ (k : ℕ). k < length s) g.0 h) (subst (λ (k : ℕ). places_read F k (F.form.read (drop k s)) ≡ None) g.0 e)
-  broken at (Some p) n g h e = next_broken F s p n g.0 (subst (λ (k : ℕ). k < length s) g.1 h) (subst (λ (k : ℕ). places_read F k (F.form.read (drop k s)) ≡ None) g.1 e)
+  pub broken : (at : ℕ) (last : Option P) (n : ℕ) → SoFar at last n → at < length s → places_read F.parts at (F.form.read (drop at s)) ≡ None → None ≡ asked F s
+  broken at None n g h e = first_broken F s (subst (λ (k : ℕ). k < length s) g.0 h) (subst (λ (k : ℕ). places_read F.parts k (F.form.read (drop k s)) ≡ None) g.0 e)
+  broken at (Some p) n g h e = next_broken F s p n g.0 (subst (λ (k : ℕ). k < length s) g.1 h) (subst (λ (k : ℕ). places_read F.parts k (F.form.read (drop k s)) ≡ None) g.1 e)
 
   -- the first entry
   pub first_counted : (at : ℕ) (last : Option P) (n : ℕ) → SoFar at last n → last ≡ None → at < length s → {p : P} → Got F s at p → Counting F s p (n + 1)
@@ -61,11 +62,11 @@ module _ {A P : Type 0} (F : Layout A P) (s : List ℕ) where
   first_counted at (Some l) n g q h t = absurd (let z : ◌≡◌ {A = ℕ} 0 1 = cc in omega arith)
 
   -- the last entry lies in the bytes
-  pub last_is : (at : ℕ) (last : Option P) (n : ℕ) → SoFar at last n → {l : P} → last ≡ Some l → Counting F s l n × (at ≡ F.end_of l)
+  pub last_is : (at : ℕ) (last : Option P) (n : ℕ) → SoFar at last n → {l : P} → last ≡ Some l → Counting F s l n × (at ≡ F.parts.end_of l)
   last_is at None n g q = absurd (let z : ◌≡◌ {A = ℕ} 0 1 = cc in omega arith)
-  last_is at (Some p) n g {l} q = let e : p ≡ l = cc in subst (λ (x : P). Counting F s x n × (at ≡ F.end_of x)) e g
+  last_is at (Some p) n g {l} q = let e : p ≡ l = cc in subst (λ (x : P). Counting F s x n × (at ≡ F.parts.end_of x)) e g
 
-  module _ {at n : ℕ} {l p : P} (g : Counting F s l n × (at ≡ F.end_of l)) (h : at < length s) (t : Got F s at p) {r : Bool} (e : r ≡ is_before (key_order (F.key_at s l) (F.key_at s p))) where
+  module _ {at n : ℕ} {l p : P} (g : Counting F s l n × (at ≡ F.parts.end_of l)) (h : at < length s) (t : Got F s at p) {r : Bool} (e : r ≡ is_before (key_order (F.parts.key_at s l) (F.parts.key_at s p))) where
     pub unordered : r ≡ false → None ≡ asked F s
     unordered = out_of_order F s l n g.0 (subst (λ (k : ℕ). k < length s) g.1 h) (subst (λ (k : ℕ). Got F s k p) g.1 t) e
 

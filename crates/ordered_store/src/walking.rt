@@ -6,8 +6,9 @@ use crate::Entry;
 use std::marker::PhantomData;
 
 // What is read from a place on: an entry with its place, or nothing, where none can be read there.
-#[derive(Clone, Copy)]
+#[derive(Drop)]
 pub(crate) struct Entries<'a, E: Entry> {
+    pub context: E::Context,
     pub bytes: &'a [u8],
     pub at: usize,
     pub of: PhantomData<E>,
@@ -15,11 +16,13 @@ pub(crate) struct Entries<'a, E: Entry> {
 
 impl<'a, E: Entry> Entries<'a, E> {
     // All of them.
-    pub(crate) fn new(bytes: &'a [u8]) -> Entries<'a, E>
+    pub(crate) fn new(context: E::Context, bytes: &'a [u8]) -> Entries<'a, E>
+        ensures context { result.context ≡ context }
         ensures bytes { result.bytes.now ≡ bytes.now }
         ensures at { result.at ≡ 0 }
     {
         Entries {
+            context,
             bytes,
             at: 0,
             of: PhantomData,
@@ -34,7 +37,7 @@ impl<'a, E: Entry> Iterator for Entries<'a, E> {
 
     type Item = (usize, Option<E>);
 
-    ghost next_gives = { λ r o t. StepsEntry E.layout r.bytes.now r.at o t.bytes.now t.at };
+    ghost next_gives = { λ r o t. StepsEntry E.parts (E.form r.context) r.bytes.now r.at o t.bytes.now t.at × (t.context ≡ r.context) };
 
     ghost remaining = { λ r. at_most (length r.bytes.now - r.at) };
 
@@ -43,7 +46,7 @@ impl<'a, E: Entry> Iterator for Entries<'a, E> {
         if self.bytes.len() <= at {
             return None;
         }
-        let entry = E::read(self.bytes, at);
+        let entry = E::read(self.context, self.bytes, at);
         self.at = end_after(entry, self.bytes);
         Some((at, entry))
     }
@@ -51,7 +54,7 @@ impl<'a, E: Entry> Iterator for Entries<'a, E> {
 
 // The place after what was read of the bytes: after all of them, where nothing could be.
 fn end_after<E: Entry>(entry: Option<E>, bytes: &[u8]) -> usize
-    ensures { result ≡ goes_on E.layout bytes.now entry }
+    ensures { result ≡ goes_on E.parts bytes.now entry }
 {
     entry.map_or(bytes.len(), |e| e.end())
 }

@@ -12,8 +12,8 @@ use Rattle.limits.specs.Limits.{LimitSet}
 use Rattle.codec.specs.Codec.{Reading, Codec, Pair, renamed, write_all}
 use Rattle.codec.proofs.CodecLaws.{Bytes, bytes_after, no_reading, Exact, byte_exact, two_exact, four_exact, eight_exact, text_exact, then_exact, such_exact, mapped_exact, counted_exact, GoodAll}
 use Rattle.methods.specs.Methods.{is_method}
-use Rattle.prack_body.specs.Lists.{Pending, Tracked}
-use Rattle.prack_body.specs.Layout.{is_bit, from_bit, to_bit, bit, option_after, read_option, optional, Parts, pending_from, pending_parts, pending_form, PendingFormed, is_short, tracked_from, tracked_parts, tracked_form, AllFormed, ListFormed, TrackedFormed}
+use Rattle.prack_body.specs.Lists.{Pending, Tracked, entries_of}
+use Rattle.prack_body.specs.Layout.{is_bit, from_bit, to_bit, bit, option_after, read_option, optional, Parts, pending_from, pending_parts, pending_form, PendingFormed, is_short, tracked_from, tracked_parts, tracked_form, AllFormed, ListFormed, TrackedFormed, TrackedWhole}
 
 -- ---- a byte 0 or 1
 
@@ -110,35 +110,47 @@ pub formed_all : (ps : List Pending) → AllFormed ps → GoodAll PendingFormed 
 formed_all [] g = tt
 formed_all (p ∷ ps) g = (g.0, formed_all ps g.1)
 
-module _ (L : LimitSet) (few : L.pending < 256) where
+module _ (L : LimitSet) where
   abbrev GoodList : List Pending → Type 0
   GoodList ps = (GoodAll PendingFormed ps × (length ps < 256)) × (is_short L ps ≡ true)
 
-  list_there : (o : Option (List Pending)) → ListFormed L o → GoodOption GoodList o
-  list_there None g = tt
-  list_there (Some ps) g = let l : length ps ≤ L.pending = leb-true _ _ g.1 in ((formed_all ps g.0, omega arith), g.1)
+  list_there : (o : Option (List Pending)) → ListFormed L o → length (entries_of o) < 256 → GoodOption GoodList o
+  list_there None g l = tt
+  list_there (Some ps) g l = ((formed_all ps g.0, l), g.1)
 
-  list_again : (o : Option (List Pending)) → GoodOption GoodList o → ListFormed L o
-  list_again None g = tt
-  list_again (Some ps) g = (all_formed ps g.0.0, g.1)
+  list_again : (o : Option (List Pending)) → GoodOption GoodList o → ListFormed L o × (length (entries_of o) < 256)
+  list_again None g = (tt, omega arith)
+  list_again (Some ps) g = ((all_formed ps g.0.0, g.1), g.0.1)
 
-  tracked_there : (t : Tracked) → TrackedFormed L t → (tracked_from (tracked_parts t) ≡ t) × ((length t.id < 65536) × ((t.cleaned_at < 18446744073709551616) × GoodOption GoodList t.list))
-  tracked_there t g = (refl, (g.id_short, (g.time_fits, list_there t.list g.list_formed)))
+  tracked_there : (t : Tracked) → TrackedWhole L t → (tracked_from (tracked_parts t) ≡ t) × ((length t.id < 65536) × ((t.cleaned_at < 18446744073709551616) × GoodOption GoodList t.list))
+  tracked_there t g = (refl, (g.0.id_short, (g.0.time_fits, list_there t.list g.0.list_formed g.1)))
 
   tracked_again : (p : Pair (List ℕ) (Pair ℕ (Option (List Pending)))) → (length p.first < 65536) × ((p.second.first < 18446744073709551616) × GoodOption GoodList p.second.second)
-      → (tracked_parts (tracked_from p) ≡ p) × TrackedFormed L (tracked_from p)
-  tracked_again p g = (refl, record { id_short = g.0; time_fits = g.1.0; list_formed = list_again p.second.second g.1.1 })
+      → (tracked_parts (tracked_from p) ≡ p) × TrackedWhole L (tracked_from p)
+  tracked_again p g = let l = list_again p.second.second g.1.1 in (refl, (record { id_short = g.0; time_fits = g.1.0; list_formed = l.0 }, l.1))
 
-  -- what is held, if it is formed
-  pub tracked_exact : Exact (tracked_form L) (TrackedFormed L)
-  tracked_exact =
+  -- what is held, if it is formed and its entries can be counted
+  pub whole_exact : Exact (tracked_form L) (TrackedWhole L)
+  whole_exact =
       mapped_exact
       (then_exact text_exact (then_exact eight_exact (optional_exact (such_exact (counted_exact pending_exact) (is_short L)))))
-      (TrackedFormed L)
+      (TrackedWhole L)
       tracked_from
       tracked_parts
       tracked_there
       tracked_again
+
+  module _ (few : L.pending < 256) where
+    counts : (o : Option (List Pending)) → ListFormed L o → length (entries_of o) < 256
+    counts None g = omega arith
+    counts (Some ps) g = let l : length ps ≤ L.pending = leb-true _ _ g.1 in omega arith
+
+    -- where a list has few entries: if it is formed
+    pub tracked_exact : Exact (tracked_form L) (TrackedFormed L)
+    tracked_exact = record {
+      round = λ t g. whole_exact.round t (g, counts t.list g.list_formed);
+      back = λ s r h e. let k = whole_exact.back s r h e in (k.0, k.1.0);
+    }
 
 -- ---- sizes
 

@@ -10,7 +10,7 @@ use Rattle.std.proofs.lemmas.List.{get_or_append_left, get_or-take, drop-take}
 use lib.Dec.{leb, eqb}
 use borrow.Author.Tests.{le-leb, lt-leb, leb-true}
 use Rattle.std.specs.Prelude.{None, Option, Some}
-use Rattle.limits.specs.Limits.{rust_limits}
+use Rattle.limits.specs.Limits.{LimitSet}
 use Rattle.text.specs.declared.Span.{Span}
 use Rattle.codec.specs.Codec.{Reading, in_front, passing, renamed, read_all, write_all, eight}
 use Rattle.codec.proofs.CodecLaws.{Bytes, counted_exact}
@@ -192,90 +192,90 @@ entries_read n s x l h e =
 
 -- ---- a list
 
-module _ (s : List ℕ) (at : ℕ) where
+module _ (L : LimitSet) (s : List ℕ) (at : ℕ) where
   module _ (h : at < length s) where
     module _ (one : get_or s at 0 ≡ 1) where
       module _ (l : at + 2 ≤ length s) {count : ℕ} (c : count ≡ get_or s (at + 1) 0) (small : count < 256) (b : Bytes (drop (at + 2) s)) where
         abbrev entries : Option (Reading (List Pending))
         entries = read_all pending_form count (drop (at + 2) s)
 
-        reads : list_from at ((list_form rust_limits).read (drop at s)) ≡ list_from at (renamed Some (passing (is_short rust_limits) entries))
+        reads : list_from at ((list_form L).read (drop at s)) ≡ list_from at (renamed Some (passing (is_short L) entries))
         reads =
             let e : at + 1 + 1 ≡ at + 2 = omega arith in
             rw (byte_at s at h, one, byte_at s (at + 1) (omega arith), e, c)
 
-        unless : ((x : Reading (List Pending)) → entries ≡ Some x → is_short rust_limits x.value ≡ true → ⊥) → None ≡ list_from at ((list_form rust_limits).read (drop at s))
+        unless : ((x : Reading (List Pending)) → entries ≡ Some x → is_short L x.value ≡ true → ⊥) → None ≡ list_from at ((list_form L).read (drop at s))
         unless f = by entries refl ∙ sym reads
           where
-            by : (o : Option (Reading (List Pending))) → entries ≡ o → None ≡ list_from at (renamed Some (passing (is_short rust_limits) o))
+            by : (o : Option (Reading (List Pending))) → entries ≡ o → None ≡ list_from at (renamed Some (passing (is_short L) o))
             by None e = refl
-            by (Some x) e = is (is_short rust_limits x.value) refl
+            by (Some x) e = is (is_short L x.value) refl
               where
-                is : (t : Bool) → is_short rust_limits x.value ≡ t → None ≡ list_from at (renamed Some (passing (is_short rust_limits) (Some x)))
+                is : (t : Bool) → is_short L x.value ≡ t → None ≡ list_from at (renamed Some (passing (is_short L) (Some x)))
                 is true t = absurd (f x e t)
                 is false t = rw t
 
-        -- more than ten
-        pub list_many : 10 < count → None ≡ list_from at ((list_form rust_limits).read (drop at s))
-        list_many m = unless (λ x e t. let k = entries_read count (drop (at + 2) s) x small b e in let z : length x.value ≤ 10 = leb-true _ _ t in omega (arith, k.0))
+        -- more than the set allows
+        pub list_many : L.pending < count → None ≡ list_from at ((list_form L).read (drop at s))
+        list_many m = unless (λ x e t. let k = entries_read count (drop (at + 2) s) x small b e in let z : length x.value ≤ L.pending = leb-true _ _ t in omega (arith, k.0))
 
         -- fewer bytes than the count says
-        pub list_cut : length s - at - 2 < count * 20 → None ≡ list_from at ((list_form rust_limits).read (drop at s))
+        pub list_cut : length s - at - 2 < count * 20 → None ≡ list_from at ((list_form L).read (drop at s))
         list_cut m = unless (λ x e t. omega (arith, (entries_read count (drop (at + 2) s) x small b e).1, length-drop (at + 2) s))
 
         -- a list
-        pub list_whole : count ≤ 10 → is_read entries ≡ true → Some (record { entries = Some (record { count = count; first = at + 2 }); end = at + 2 + count * 20 }) ≡ list_from at ((list_form rust_limits).read (drop at s))
+        pub list_whole : count ≤ L.pending → is_read entries ≡ true → Some (record { entries = Some (record { count = count; first = at + 2 }); end = at + 2 + count * 20 }) ≡ list_from at ((list_form L).read (drop at s))
         list_whole m u = by entries refl ∙ sym reads
           where
-            by : (o : Option (Reading (List Pending))) → entries ≡ o → Some (record { entries = Some (record { count = count; first = at + 2 }); end = at + 2 + count * 20 }) ≡ list_from at (renamed Some (passing (is_short rust_limits) o))
+            by : (o : Option (Reading (List Pending))) → entries ≡ o → Some (record { entries = Some (record { count = count; first = at + 2 }); end = at + 2 + count * 20 }) ≡ list_from at (renamed Some (passing (is_short L) o))
             by None e = absurd (true≢false (sym u ∙ ap is_read e))
             by (Some x) e =
                 let k : length x.value ≡ count = (entries_read count (drop (at + 2) s) x small b e).0 in
-                let t : leb (length x.value) 10 ≡ true = le-leb (length x.value) 10 (omega arith) in
+                let t : leb (length x.value) L.pending ≡ true = le-leb (length x.value) L.pending (omega arith) in
                 rw (t, k)
 
 -- ---- what is held
 
 -- a list that was read, or not
-pub record ListGot (s : List ℕ) (at : ℕ) (p : ListAt) : Type 0 where
+pub record ListGot (L : LimitSet) (s : List ℕ) (at : ℕ) (p : ListAt) : Type 0 where
   pub reading : Reading (Option (List Pending))
-  pub reads : (list_form rust_limits).read (drop at s) ≡ Some reading
+  pub reads : (list_form L).read (drop at s) ≡ Some reading
   pub placed : p ≡ list_places at reading.value
 
 -- a list that was read, by the answer
-pub list_got : (s : List ℕ) (at : ℕ) (p : ListAt) → Some p ≡ list_from at ((list_form rust_limits).read (drop at s)) → ListGot s at p
-list_got s at p e = by ((list_form rust_limits).read (drop at s)) refl e
+pub list_got : (L : LimitSet) (s : List ℕ) (at : ℕ) (p : ListAt) → Some p ≡ list_from at ((list_form L).read (drop at s)) → ListGot L s at p
+list_got L s at p e = by ((list_form L).read (drop at s)) refl e
   where
-    by : (o : Option (Reading (Option (List Pending)))) → (list_form rust_limits).read (drop at s) ≡ o → Some p ≡ list_from at o → ListGot s at p
+    by : (o : Option (Reading (Option (List Pending)))) → (list_form L).read (drop at s) ≡ o → Some p ≡ list_from at o → ListGot L s at p
     by None k q = absurd (let z : ◌≡◌ {A = ℕ} 0 1 = cc in omega arith)
     by (Some x) k q = record { reading = x; reads = k; placed = (cc) }
 
-list_not : (s : List ℕ) (at : ℕ) → None ≡ list_from at ((list_form rust_limits).read (drop at s)) → (list_form rust_limits).read (drop at s) ≡ None
-list_not s at e = by ((list_form rust_limits).read (drop at s)) e
+list_not : (L : LimitSet) (s : List ℕ) (at : ℕ) → None ≡ list_from at ((list_form L).read (drop at s)) → (list_form L).read (drop at s) ≡ None
+list_not L s at e = by ((list_form L).read (drop at s)) e
   where
     by : (o : Option (Reading (Option (List Pending)))) → None ≡ list_from at o → o ≡ None
     by None q = refl
     by (Some x) q = absurd (let z : ◌≡◌ {A = ℕ} 0 1 = cc in omega arith)
 
-module _ (s : List ℕ) (at : ℕ) where
+module _ (L : LimitSet) (s : List ℕ) (at : ℕ) where
   module _ {i : Span} (g : TextGot s at i) where
     abbrev time_at : ℕ
     time_at = i.start + i.length
 
     -- a time that is cut
-    pub held_time : length s - time_at < 8 → None ≡ tracked_from at ((tracked_form rust_limits).read (drop at s))
+    pub held_time : length s - time_at < 8 → None ≡ tracked_from at ((tracked_form L).read (drop at s))
     held_time h = rw (g.got.reads, eight_none s time_at h)
 
     module _ {time : ℕ} (f : eight.read (drop time_at s) ≡ Some (record { value = time; rest = drop (time_at + 8) s })) where
       -- a list that can't be read
-      pub held_broken : None ≡ list_from (time_at + 8) ((list_form rust_limits).read (drop (time_at + 8) s)) → None ≡ tracked_from at ((tracked_form rust_limits).read (drop at s))
-      held_broken q = rw (g.got.reads, f, list_not s (time_at + 8) q)
+      pub held_broken : None ≡ list_from (time_at + 8) ((list_form L).read (drop (time_at + 8) s)) → None ≡ tracked_from at ((tracked_form L).read (drop at s))
+      held_broken q = rw (g.got.reads, f, list_not L s (time_at + 8) q)
 
       -- all of it
-      pub held_whole : {p : ListAt} → Some p ≡ list_from (time_at + 8) ((list_form rust_limits).read (drop (time_at + 8) s))
-          → Some (record { id = i; cleaned_at = time; entries = p.entries; end = p.end }) ≡ tracked_from at ((tracked_form rust_limits).read (drop at s))
+      pub held_whole : {p : ListAt} → Some p ≡ list_from (time_at + 8) ((list_form L).read (drop (time_at + 8) s))
+          → Some (record { id = i; cleaned_at = time; entries = p.entries; end = p.end }) ≡ tracked_from at ((tracked_form L).read (drop at s))
       held_whole {p} q =
-          let l = list_got s (time_at + 8) p q in
+          let l = list_got L s (time_at + 8) p q in
           let k : p ≡ list_places (at + 2 + length g.value + 8) l.reading.value = l.placed ∙ ap (λ (x : Span). list_places (x.start + x.length + 8) l.reading.value) g.placed in
           rw (g.got.reads, f, l.reads)
           (ap₂ (λ (x : Span) (y : ListAt). Some (record { id = x; cleaned_at = time; entries = y.entries; end = y.end })) g.placed k)

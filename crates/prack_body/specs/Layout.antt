@@ -5,7 +5,7 @@ use Rattle.std.specs.Prelude.{ℕ, ◌<◌, ◌≡◌, Bool, true, false, List, 
 use Rattle.limits.specs.Limits.{LimitSet}
 use Rattle.codec.specs.Codec.{Reading, Codec, Pair, then, such, renamed, mapped, byte, two, four, eight, text, counted}
 use Rattle.methods.specs.Methods.{is_method}
-use Rattle.prack_body.specs.Lists.{Pending, Tracked}
+use Rattle.prack_body.specs.Lists.{Pending, Tracked, entries_of}
 
 -- ---- small forms
 
@@ -102,6 +102,10 @@ pub record TrackedFormed (L : LimitSet) (t : Tracked) : Type 0 where
   pub id_short : length t.id < 65536
   pub time_fits : t.cleaned_at < 18446744073709551616
   pub list_formed : ListFormed L t.list
+
+-- it has bytes: formed, and its entries can be counted in one byte, as in every permitted set
+abbrev pub TrackedWhole : LimitSet → Tracked → Type 0
+TrackedWhole L t = TrackedFormed L t × (length (entries_of t.list) < 256)
 
 -- ---- what `get_pending` writes
 

@@ -3,7 +3,7 @@
 -- after the last) drops acknowledged entries and those older than 300 s". "The eleventh entry drops the oldest; the first equal RSeq decides." By RFC 3262 a
 -- response is sent again for 64*T1 and then its request is refused, any number may wait once the first is acknowledged, an acknowledged one is removed, and RSeq,
 -- CSeq and method together name the response; the list departs from it here as the Rust does: 300 s to nearly 600 s, at most ten, and the first of an RSeq
--- alone is looked at (docs/DIFFERENCES.md, "RFC 3262, PRACK lists").
+-- alone is looked at (docs/DIFFERENCES.md, "RFC 3262, PRACK lists"). Document 02, request 7: the three figures are those of the site's set.
 use Rattle.std.specs.Prelude.{ℕ, ◌+◌, ◌-◌, ◌*◌, Bool, true, false, cond, not, ◌&&◌, ◌||◌, List, [], ◌∷◌, ◌++◌, length, drop, eqb, leb, None, Option, Some}
 use Rattle.limits.specs.Limits.{LimitSet}
 

@@ -2,12 +2,12 @@
 #![tactic(auto)]
 
 ghost use Rattle.std.specs.Prelude.{◌≡◌, List, ℕ, ◌+◌, ◌*◌, ◌≤◌, length, take, drop};
-ghost use Rattle.limits.specs.Limits.{rust_limits};
+ghost use Rattle.limits.specs.Settings.{limits_in};
 ghost use Rattle.codec.specs.Codec.{read_all};
 ghost use Rattle.prack_body.specs.Layout.{pending_form, list_form, tracked_form};
 ghost use Rattle.prack_body.specs.Places.{is_read, list_from, tracked_from};
 
-use limits::Limits;
+use limits::{Limits, Settings};
 use text::Span;
 
 mod body;
@@ -34,8 +34,8 @@ pub const REGISTERED_AT: usize = 12;
 
 pub const ENTRY_SIZE: usize = 20;
 
-// The bytes behind a text with as many entries as a list can have.
-pub const BODY_ROOM: usize = ENTRIES_AT + Limits::MAX_PENDING_PRACK_PER_DIALOG * ENTRY_SIZE;
+// The bytes behind a text with as many entries as a site can have in a list.
+pub const BODY_ROOM: usize = ENTRIES_AT + Limits::MAX_PENDING_SETTING * ENTRY_SIZE;
 
 // The bytes of a list before its entries.
 const LIST_HEAD: usize = ENTRIES_AT - LIST_AT;
@@ -66,9 +66,9 @@ pub struct TrackedAt {
 // What is held, whose text begins with its length bytes at a place.
 // Kept (5): a reader by value, with the fact as its ghost field, would be made anew at each place, and clauses would say `r.bytes.now`;
 // one lent as `&mut` has a clause for what is read, one for its place and one for its bytes.
-pub fn read_tracked(bytes: &[u8], at: usize) -> Option<TrackedAt>
+pub fn read_tracked(settings: Settings, bytes: &[u8], at: usize) -> Option<TrackedAt>
     requires { at ≤ length bytes.now }
-    ensures { result ≡ tracked_from at ((tracked_form rust_limits).read (drop at bytes.now)) }
+    ensures { result ≡ tracked_from at ((tracked_form (limits_in settings)).read (drop at bytes.now)) }
 {
     let id = codec::read_text(bytes, at)?;
     let time = id.end();
@@ -76,7 +76,7 @@ pub fn read_tracked(bytes: &[u8], at: usize) -> Option<TrackedAt>
         return None;
     }
     let cleaned_at = codec::read_eight(bytes, time);
-    let l = read_list(bytes, time + LIST_AT)?;
+    let l = read_list(settings, bytes, time + LIST_AT)?;
     Some(TrackedAt {
         id,
         cleaned_at,
@@ -88,9 +88,9 @@ pub fn read_tracked(bytes: &[u8], at: usize) -> Option<TrackedAt>
 // A byte that says whether a list stands, then its count byte and its entries.
 // Kept (5): a reader by value, with the fact as its ghost field, would be made anew at each place, and clauses would say `r.bytes.now`;
 // one lent as `&mut` has a clause for what is read, one for its place and one for its bytes.
-fn read_list(bytes: &[u8], at: usize) -> Option<ListAt>
+fn read_list(settings: Settings, bytes: &[u8], at: usize) -> Option<ListAt>
     requires { at ≤ length bytes.now }
-    ensures { result ≡ list_from at ((list_form rust_limits).read (drop at bytes.now)) }
+    ensures { result ≡ list_from at ((list_form (limits_in settings)).read (drop at bytes.now)) }
 {
     if bytes.len() == at {
         return None;
@@ -109,7 +109,8 @@ fn read_list(bytes: &[u8], at: usize) -> Option<ListAt>
         return None;
     }
     let count = codec::wide(bytes[at + 1]);
-    if Limits::MAX_PENDING_PRACK_PER_DIALOG < count {
+    let most = settings.pending as usize;
+    if most < count {
         return None;
     }
     if bytes.len() - at - LIST_HEAD < count * ENTRY_SIZE {

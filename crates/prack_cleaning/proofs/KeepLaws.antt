@@ -8,10 +8,10 @@ use lib.ListN.{length, take, drop, set, length-append, take-append-drop}
 use lib.Seq.{drop-drop}
 use borrow.Author.Tests.{le-leb, lt-leb}
 use Rattle.std.specs.Prelude.{None, Option, Some}
-use Rattle.limits.specs.Limits.{rust_limits}
+use Rattle.limits.specs.Limits.{LimitSet}
 use Rattle.edit.specs.Edit.{put_at}
 use Rattle.codec.specs.Codec.{write_all, eight}
-use Rattle.prack_body.specs.Lists.{Pending, Tracked, stays, staying, cleaned, cleaned_list, with_list}
+use Rattle.prack_body.specs.Lists.{Pending, Tracked, nanoseconds, stays, staying, cleaned, cleaned_list, with_list}
 use Rattle.prack_body.specs.Layout.{pending_form, PendingFormed, AllFormed, TrackedFormed}
 use Rattle.prack_body.specs.Body.{body_of, Holds, Kept}
 use Rattle.prack_cleaning.specs.KeptList.{kept_list}
@@ -109,20 +109,20 @@ module _ (test : Pending → Bool) (s₀ rest : List ℕ) (ps : List Pending) wh
 
 -- ---- what is held, with fewer entries
 
-keeps_formed : (test : Pending → Bool) (t : Tracked) (ps : List Pending) → TrackedFormed rust_limits t → AllFormed ps → length ps ≤ 10 → TrackedFormed rust_limits (with_list (Some (staying test ps)) t)
-keeps_formed test t ps f g l = record {
+keeps_formed : (L : LimitSet) (test : Pending → Bool) (t : Tracked) (ps : List Pending) → TrackedFormed L t → AllFormed ps → length ps ≤ L.pending → TrackedFormed L (with_list (Some (staying test ps)) t)
+keeps_formed L test t ps f g l = record {
   id_short = f.id_short;
   time_fits = f.time_fits;
-  list_formed = (staying_formed test ps g, le-leb (length (staying test ps)) 10 (omega (arith, staying_short test ps)));
+  list_formed = (staying_formed test ps g, le-leb (length (staying test ps)) L.pending (omega (arith, staying_short test ps)));
 }
 
-module _ {s : List ℕ} {n : ℕ} {t : Tracked} (h : Holds s n t) (test : Pending → Bool) where
+module _ {L : LimitSet} {s : List ℕ} {n : ℕ} {t : Tracked} (h : Holds L s n t) (test : Pending → Bool) where
   -- the entries that stay, and their count
   pub kept_list_lem : 10 ≤ n → {k : ℕ} {o : List ℕ} → ((ps : List Pending) (rest : List ℕ) → AllFormed ps → (n - 10) / 20 ≡ length ps → drop 10 s ≡ write_all pending_form ps ++ rest → Kept s (staying test ps) o k)
-      → Holds (set o 9 k) (10 + k * 20) (with_list (kept_list test t.list) t)
+      → Holds L (set o 9 k) (10 + k * 20) (with_list (kept_list test t.list) t)
   kept_list_lem l {k} {o} f = by t.list refl
     where
-      by : (x : Option (List Pending)) → t.list ≡ x → Holds (set o 9 k) (10 + k * 20) (with_list (kept_list test t.list) t)
+      by : (x : Option (List Pending)) → t.list ≡ x → Holds L (set o 9 k) (10 + k * 20) (with_list (kept_list test t.list) t)
       by None e = absurd (omega (arith, none_size h e))
       by (Some ps) e =
           let g = f ps (drop n s) (list_good h ps e) (count_is h ps e) (entries_lie h ps e) in
@@ -130,23 +130,23 @@ module _ {s : List ℕ} {n : ℕ} {t : Tracked} (h : Holds s n t) (test : Pendin
           let kps = staying test ps in
           let a : o ≡ (take 10 s ++ write_all pending_form kps) ++ drop (10 + k * 20) o = sym (take-append-drop (10 + k * 20) o) ∙ ap (λ (z : List ℕ). z ++ drop (10 + k * 20) o) g.are in
           let b : o ≡ eight.write t.cleaned_at ++ (1 ∷ length ps ∷ (write_all pending_form kps ++ drop (10 + k * 20) o)) = a ∙ ap (λ (z : List ℕ). (take 10 z ++ write_all pending_form kps) ++ drop (10 + k * 20) o) w in
-          let d : set o 9 k ≡ body_of (with_list (Some kps) t) ++ drop (10 + k * 20) o = ap (λ (z : List ℕ). set z 9 k) b ∙ ap (λ (z : ℕ). eight.write t.cleaned_at ++ (1 ∷ z ∷ (write_all pending_form kps ++ drop (10 + k * 20) o))) g.counts in
-          subst (λ (x : Option (List Pending)). Holds (set o 9 k) (10 + k * 20) (with_list (kept_list test x) t)) (sym e)
-          (hold (drop (10 + k * 20) o) (keeps_formed test t ps h.formed (list_good h ps e) (list_few h ps e)) d (omega (arith, g.counts, entries_size kps)))
+          let d : set o 9 k ≡ body_of L (with_list (Some kps) t) ++ drop (10 + k * 20) o = ap (λ (z : List ℕ). set z 9 k) b ∙ ap (λ (z : ℕ). eight.write t.cleaned_at ++ (1 ∷ z ∷ (write_all pending_form kps ++ drop (10 + k * 20) o))) g.counts in
+          subst (λ (x : Option (List Pending)). Holds L (set o 9 k) (10 + k * 20) (with_list (kept_list test x) t)) (sym e)
+          (hold (drop (10 + k * 20) o) (keeps_formed L test t ps h.formed (list_good h ps e) (list_few h ps e)) d (omega (arith, g.counts, entries_size kps)))
 
 -- ---- cleaning
 
-young_list : (time : ℕ) (o : Option (List Pending)) → kept_list (stays rust_limits time) o ≡ cleaned_list rust_limits time o
-young_list time None = refl
-young_list time (Some ps) = refl
+young_list : (L : LimitSet) (time : ℕ) (o : Option (List Pending)) → kept_list (stays L time) o ≡ cleaned_list L time o
+young_list L time None = refl
+young_list L time (Some ps) = refl
 
-module _ (time : ℕ) (t : Tracked) where
+module _ (L : LimitSet) (time : ℕ) (t : Tracked) where
   -- too soon
-  pub not_due : time - t.cleaned_at < 300000000000 → cleaned rust_limits time t.id (Some t) ≡ t
+  pub not_due : time - t.cleaned_at < nanoseconds L.cleanup → cleaned L time t.id (Some t) ≡ t
   unfolding cleaned
-  not_due h = rw (lt-leb 300000000000 (time - t.cleaned_at) h)
+  not_due h = rw (lt-leb (nanoseconds L.cleanup) (time - t.cleaned_at) h)
 
-  -- 300 s or more after the last cleanup
-  pub due : 300000000000 ≤ time - t.cleaned_at → cleaned rust_limits time t.id (Some t) ≡ record { id = t.id; cleaned_at = time; list = kept_list (stays rust_limits time) t.list }
+  -- so long after the last cleanup, or longer
+  pub due : nanoseconds L.cleanup ≤ time - t.cleaned_at → cleaned L time t.id (Some t) ≡ record { id = t.id; cleaned_at = time; list = kept_list (stays L time) t.list }
   unfolding cleaned
-  due h = rw (le-leb 300000000000 (time - t.cleaned_at) h, young_list time t.list)
+  due h = rw (le-leb (nanoseconds L.cleanup) (time - t.cleaned_at) h, young_list L time t.list)

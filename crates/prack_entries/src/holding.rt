@@ -1,30 +1,38 @@
 // What is held for one text: copied from the store and cleaned, and set in the store.
 ghost use Rattle.std.specs.Prelude.{◌≡◌, List, ◌++◌, ℕ, ◌+◌, ◌≤◌, ◌<◌, length, take};
-ghost use Rattle.limits.specs.Limits.{rust_limits};
+ghost use Rattle.limits.specs.Limits.{LimitSet};
+ghost use Rattle.limits.specs.Settings.{limits_in};
 ghost use Rattle.edit.specs.Edit.{spliced};
 ghost use Rattle.output.specs.Output.{fitted, written_from, leaves};
 ghost use Rattle.codec.specs.Codec.{text};
 ghost use Rattle.ordered_store.specs.Entries.{set_entry};
 ghost use Rattle.prack_body.specs.Lists.{Tracked};
-ghost use Rattle.prack_body.specs.Body.{body_room, body_of, Holds};
+ghost use Rattle.prack_body.specs.Body.{most_pending, body_room, body_of, Holds};
 ghost use Rattle.prack_entries.specs.Entries.{key_of, encode_tracked, clean_for};
 ghost use Rattle.prack_entries.specs.Places.{Sought};
 
 use codec::LENGTH_SIZE;
-use limits::Refusal;
+use limits::{Refusal, Settings};
 use prack_body::TrackedAt;
 
 // What is held after the cleanup of a call at a time, without the text, in lent bytes. Its length.
 // Kept (5, 6): any lent bytes that have room will do; a struct that owns an array of that size, and its length, would ask more of callers.
-pub fn clean_copy(slot: Result<TrackedAt, usize>, bytes: &[u8], time: u64, body: &mut [u8]) -> usize
-    requires { (body_room ≤ length body.old) × ((id : List ℕ) × Sought id bytes.now (length bytes.now) slot) }
+pub fn clean_copy(
+    settings: Settings,
+    slot: Result<TrackedAt, usize>,
+    bytes: &[u8],
+    time: u64,
+    body: &mut [u8],
+) -> usize
+    requires pending { settings.pending ≤ most_pending }
+    requires room { (body_room ≤ length body.old) × ((id : List ℕ) × Sought (limits_in settings) id bytes.now (length bytes.now) slot) }
     ensures lower_bound { (9 ≤ result) × (result ≤ body_room) }
-    ensures by_index { (id : List ℕ) (s : Sought id bytes.now (length bytes.now) slot) → length id < 65536 → Holds body.new result (clean_for rust_limits time id s.list) }
+    ensures by_index { (id : List ℕ) (s : Sought (limits_in settings) id bytes.now (length bytes.now) slot) → length id < 65536 → Holds (limits_in settings) body.new result (clean_for (limits_in settings) time id s.list) }
 {
     match slot {
         Ok(t) => {
             let n = prack_body::load(bytes, t, body);
-            prack_cleaning::clean(body, n, time)
+            prack_cleaning::clean(settings, body, n, time)
         }
         Err(_) => prack_body::begin(body, time),
     }
@@ -40,9 +48,9 @@ pub fn set(
     bytes: &mut [u8],
     used: usize,
 ) -> Result<usize, Refusal>
-    requires { (length id.now < 65536) × ((length body.now ≤ body_room) × Sought id.now bytes.old used slot) }
-    ensures value { (s : Sought id.now bytes.old used slot) (t : Tracked) → t.id ≡ id.now → body.now ≡ body_of t → result ≡ written_from (fitted (length bytes.old) (encode_tracked rust_limits (set_entry key_of t s.list))) }
-    ensures bytes_after { (s : Sought id.now bytes.old used slot) (t : Tracked) → t.id ≡ id.now → body.now ≡ body_of t → bytes.new ≡ leaves (fitted (length bytes.old) (encode_tracked rust_limits (set_entry key_of t s.list))) bytes.old }
+    requires { (length id.now < 65536) × ((length body.now ≤ body_room) × ((L : LimitSet) × Sought L id.now bytes.old used slot)) }
+    ensures value { (L : LimitSet) (s : Sought L id.now bytes.old used slot) (t : Tracked) → t.id ≡ id.now → body.now ≡ body_of L t → result ≡ written_from (fitted (length bytes.old) (encode_tracked L (set_entry key_of t s.list))) }
+    ensures bytes_after { (L : LimitSet) (s : Sought L id.now bytes.old used slot) (t : Tracked) → t.id ≡ id.now → body.now ≡ body_of L t → bytes.new ≡ leaves (fitted (length bytes.old) (encode_tracked L (set_entry key_of t s.list))) bytes.old }
 {
     match slot {
         Ok(t) => {

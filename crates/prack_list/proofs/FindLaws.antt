@@ -9,6 +9,7 @@ use lib.Seq.{drop-drop, drop-length, set_at}
 use lib.Dec.{eqb}
 use borrow.Author.Tests.{eq-eqb, ne_eqb, le-leb}
 use Rattle.std.specs.Prelude.{Err, None, Ok, Option, Result, Some}
+use Rattle.limits.specs.Limits.{LimitSet}
 use Rattle.limits.specs.declared.Refusal.{Refusal}
 use Rattle.limits.specs.declared.Refusal.TheVariants.{UnknownRSeq}
 use Rattle.codec.specs.Codec.{write_all, four, eight}
@@ -59,8 +60,8 @@ next s i ps rest g e h = by (drop i ps) refl
         }
 
 -- the same of a body with a list
-pub next_in : {s : List ℕ} {n : ℕ} {t : Tracked} (h : Holds s n t) (ps : List Pending) → t.list ≡ Some ps → (i : ℕ) → i < (n - 10) / 20 → Next s ps i
-next_in {s} {n} h ps e i l = next s i ps (drop n s) (list_good h ps e) (entries_lie h ps e) (omega (arith, count_is h ps e))
+pub next_in : {L : LimitSet} {s : List ℕ} {n : ℕ} {t : Tracked} (h : Holds L s n t) (ps : List Pending) → t.list ≡ Some ps → (i : ℕ) → i < (n - 10) / 20 → Next s ps i
+next_in {L} {s} {n} h ps e i l = next s i ps (drop n s) (list_good h ps e) (entries_lie h ps e) (omega (arith, count_is h ps e))
 
 -- ---- the search
 
@@ -111,7 +112,7 @@ pub nowhere : (r i : ℕ) (ps : List Pending) → i ≡ length ps → From r i p
 unfolding first_of_rseq
 nowhere r i ps e = rw (e, drop-length ps)
 
-module _ {s : List ℕ} {n : ℕ} {t : Tracked} (h : Holds s n t) (r : ℕ) where
+module _ {L : LimitSet} {s : List ℕ} {n : ℕ} {t : Tracked} (h : Holds L s n t) (r : ℕ) where
   -- where a list stands
   pub find_in : 10 ≤ n → {p : Result PendingAt Refusal} → ((ps : List Pending) → t.list ≡ Some ps → p ≡ position_in r (Some ps)) → p ≡ position_in r t.list
   find_in l {p} f = by t.list refl
@@ -167,7 +168,7 @@ place_among r (q ∷ ps) at p e = by (eqb q.rseq r) refl (place_among r ps (at +
     by false b more = let f : first_of_rseq r ps ≡ Some p = (rw b at e) in rw b (omega (arith, more f))
 
 -- and so within the body
-pub place_inside : {s : List ℕ} {n : ℕ} {t : Tracked} → Holds s n t → (r : ℕ) (ps : List Pending) (p : Pending) → t.list ≡ Some ps → first_of_rseq r ps ≡ Some p → place_from 10 r ps + 20 ≤ n
+pub place_inside : {L : LimitSet} {s : List ℕ} {n : ℕ} {t : Tracked} → Holds L s n t → (r : ℕ) (ps : List Pending) (p : Pending) → t.list ≡ Some ps → first_of_rseq r ps ≡ Some p → place_from 10 r ps + 20 ≤ n
 place_inside h r ps p e f = omega (arith, place_among r ps 10 p f, list_size h ps e)
 
 -- ---- the mark
@@ -216,15 +217,15 @@ set_flag r (q ∷ ps) front rest at p l e = by (eqb q.rseq r) refl (set_flag r p
         ∙ append_assoc front (pending_form.write q) (write_all pending_form (marked r ps) ++ rest))
 
 -- what is held, with the first entry of an RSeq acknowledged
-pub mark_law : {s : List ℕ} {n : ℕ} {t : Tracked} → Holds s n t → (r : ℕ) (ps : List Pending) (p : Pending) → t.list ≡ Some ps → first_of_rseq r ps ≡ Some p → {k : ℕ} → k ≡ place_from 10 r ps
-    → Holds (set s (k + 11) 1) n (with_list (Some (marked r ps)) t)
-mark_law {s} {n} {t} h r ps p e f {k} q =
+pub mark_law : {L : LimitSet} {s : List ℕ} {n : ℕ} {t : Tracked} → Holds L s n t → (r : ℕ) (ps : List Pending) (p : Pending) → t.list ≡ Some ps → first_of_rseq r ps ≡ Some p → {k : ℕ} → k ≡ place_from 10 r ps
+    → Holds L (set s (k + 11) 1) n (with_list (Some (marked r ps)) t)
+mark_law {L} {s} {n} {t} h r ps p e f {k} q =
     let w = whole h (Some ps) e in
     let m : length (marked r ps) ≡ length ps = marked_many r ps in
     let a : set s (k + 11) 1 ≡ (eight.write t.cleaned_at ++ (1 ∷ length ps ∷ [])) ++ (write_all pending_form (marked r ps) ++ drop n s) = ap₂ (λ (x : List ℕ) (i : ℕ). set x (i + 11) 1) w q ∙ set_flag r ps (eight.write t.cleaned_at ++ (1 ∷ length ps ∷ [])) (drop n s) 10 p refl f in
-    let b : set s (k + 11) 1 ≡ body_of (with_list (Some (marked r ps)) t) ++ drop n s = a ∙ ap (λ (i : ℕ). eight.write t.cleaned_at ++ (1 ∷ i ∷ (write_all pending_form (marked r ps) ++ drop n s))) (sym m) in
-    let z : length (marked r ps) ≤ 10 = omega (arith, list_few h ps e) in
+    let b : set s (k + 11) 1 ≡ body_of L (with_list (Some (marked r ps)) t) ++ drop n s = a ∙ ap (λ (i : ℕ). eight.write t.cleaned_at ++ (1 ∷ i ∷ (write_all pending_form (marked r ps) ++ drop n s))) (sym m) in
+    let z : length (marked r ps) ≤ L.pending = omega (arith, list_few h ps e) in
     hold (drop n s)
-    (record { id_short = h.formed.id_short; time_fits = h.formed.time_fits; list_formed = (marked_formed r ps (list_good h ps e), le-leb (length (marked r ps)) 10 z) })
+    (record { id_short = h.formed.id_short; time_fits = h.formed.time_fits; list_formed = (marked_formed r ps (list_good h ps e), le-leb (length (marked r ps)) L.pending z) })
     b
     (omega (arith, list_size h ps e, entries_size (marked r ps)))

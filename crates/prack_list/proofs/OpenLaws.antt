@@ -7,6 +7,7 @@ use mathlib.Core.List.{List, [], ◌++◌, append_assoc, append-nil}
 use lib.ListN.{length, take, drop, get_or, length-append, length-drop}
 use lib.Seq.{drop-drop, drop-length, drop_at, take_at}
 use Rattle.std.specs.Prelude.{None, Option, Some}
+use Rattle.limits.specs.Limits.{LimitSet}
 use Rattle.edit.specs.Edit.{put_at, over}
 use Rattle.edit.proofs.EditLaws.{Wrote, wrote_then}
 use Rattle.codec.specs.Codec.{two, four}
@@ -18,7 +19,7 @@ use Rattle.prack_list.proofs.FindLaws.{Next, next_in}
 
 -- ---- the entries of a body, with a list or without
 
-module _ {s : List ℕ} {n : ℕ} {t : Tracked} (h : Holds s n t) where
+module _ {L : LimitSet} {s : List ℕ} {n : ℕ} {t : Tracked} (h : Holds L s n t) where
   -- how many they are
   pub entry_count : (n - 10) / 20 ≡ length (entries_of t.list)
   entry_count = by t.list refl
@@ -132,10 +133,10 @@ pub record Written (s out₀ left : List ℕ) (to : ℕ) (out : List ℕ) : Type
   pub are : left ≡ drop (10 + turns * 20) s
   pub few : turns ≤ (length s - 10) / 20
   pub long : length out ≡ length out₀
-  pub opens : (t : Tracked) → Holds s (length s) t → Opening (entries_of t.list) out₀ turns to out
+  pub opens : (L : LimitSet) (t : Tracked) → Holds L s (length s) t → Opening (entries_of t.list) out₀ turns to out
 
 pub writing : (s out : List ℕ) {left : List ℕ} → left ≡ drop 10 s → Written s out left 0 out
-writing s out e = record { turns = 0; are = e; few = omega arith; long = refl; opens = λ t h. opening (entries_of t.list) out }
+writing s out e = record { turns = 0; are = e; few = omega arith; long = refl; opens = λ L t h. opening (entries_of t.list) out }
 
 module _ {s out₀ left : List ℕ} {to : ℕ} {out : List ℕ} (g : Written s out₀ left to out) (a b : List ℕ) (e : left ≡ a ++ b) (k : length a ≡ 20) where
   one_more : g.turns < (length s - 10) / 20
@@ -147,8 +148,8 @@ module _ {s out₀ left : List ℕ} {to : ℕ} {out : List ℕ} (g : Written s o
       sym (drop_at a b 20 k) ∙ ap (drop 20) (sym e ∙ g.are) ∙ drop-drop 20 (10 + g.turns * 20) s ∙ ap (λ (z : ℕ). drop z s) p
 
   -- an open entry has room where all have
-  pub room_there : (t : Tracked) → Holds s (length s) t → get_or a 11 0 ≡ 0 → to + 6 ≤ length (open_bytes (open_in t.list))
-  room_there t h f = let x = next_entry h g.turns one_more in open_room (g.opens t h) x (chunk_flag x g.are a b e k ∙ f)
+  pub room_there : (L : LimitSet) (t : Tracked) → Holds L s (length s) t → get_or a 11 0 ≡ 0 → to + 6 ≤ length (open_bytes (open_in t.list))
+  room_there L t h f = let x = next_entry h g.turns one_more in open_room (g.opens L t h) x (chunk_flag x g.are a b e k ∙ f)
 
   -- its bytes written
   pub wrote_one : get_or a 11 0 ≡ 0 → {r : ℕ} {o : List ℕ} → r ≡ to + 6 → length o ≡ length out → ((p : Pending) → a ≡ pending_form.write p → o ≡ put_at to (four.write p.rseq ++ two.write p.code) out) → Written s out₀ b r o
@@ -157,7 +158,7 @@ module _ {s out₀ left : List ℕ} {to : ℕ} {out : List ℕ} (g : Written s o
     are = others;
     few = omega (arith, one_more);
     long = n ∙ g.long;
-    opens = λ t h. let x = next_entry h g.turns one_more in open_more (g.opens t h) x (chunk_flag x g.are a b e k ∙ f) q (w x.entry (chunk_is x g.are a b e k));
+    opens = λ L t h. let x = next_entry h g.turns one_more in open_more (g.opens L t h) x (chunk_flag x g.are a b e k ∙ f) q (w x.entry (chunk_is x g.are a b e k));
   }
 
   -- an acknowledged one passed over
@@ -167,16 +168,16 @@ module _ {s out₀ left : List ℕ} {to : ℕ} {out : List ℕ} (g : Written s o
     are = others;
     few = omega (arith, one_more);
     long = ap length u ∙ g.long;
-    opens = λ t h.
+    opens = λ L t h.
         let x = next_entry h g.turns one_more in
         subst (λ (m : ℕ). Opening (entries_of t.list) out₀ (g.turns + 1) m o) (sym q)
-        (subst (λ (z : List ℕ). Opening (entries_of t.list) out₀ (g.turns + 1) to z) (sym u) (open_less (g.opens t h) x (λ z. f (sym (chunk_flag x g.are a b e k) ∙ z))));
+        (subst (λ (z : List ℕ). Opening (entries_of t.list) out₀ (g.turns + 1) to z) (sym u) (open_less (g.opens L t h) x (λ z. f (sym (chunk_flag x g.are a b e k) ∙ z))));
   }
 
 -- none is left
 pub all_written : {s out₀ left : List ℕ} {to : ℕ} {out : List ℕ} → 10 ≤ length s → Written s out₀ left to out → length left < 20
-    → (t : Tracked) → Holds s (length s) t → (to ≡ length (open_bytes (open_in t.list))) × (out ≡ over (open_bytes (open_in t.list)) out₀)
-all_written {s} l g h t w = open_done (g.opens t w) (omega (arith, entry_count w, ap length g.are, length-drop (10 + g.turns * 20) s, g.few))
+    → (L : LimitSet) (t : Tracked) → Holds L s (length s) t → (to ≡ length (open_bytes (open_in t.list))) × (out ≡ over (open_bytes (open_in t.list)) out₀)
+all_written {s} l g h L t w = open_done (g.opens L t w) (omega (arith, entry_count w, ap length g.are, length-drop (10 + g.turns * 20) s, g.few))
 
 -- ---- how many bytes
 
@@ -186,7 +187,7 @@ pub record Counted (s left : List ℕ) (size : ℕ) : Type 0 where
   pub are : left ≡ drop (10 + turns * 20) s
   pub few : turns ≤ (length s - 10) / 20
   pub short : size ≤ turns * 6
-  pub sums : (t : Tracked) → Holds s (length s) t → size + length (opened turns (entries_of t.list)) ≡ length (open_bytes (open_in t.list))
+  pub sums : (L : LimitSet) (t : Tracked) → Holds L s (length s) t → size + length (opened turns (entries_of t.list)) ≡ length (open_bytes (open_in t.list))
 
 module _ {s left : List ℕ} {size : ℕ} (g : Counted s left size) (a b : List ℕ) (e : left ≡ a ++ b) (k : length a ≡ 20) where
   turn_more : g.turns < (length s - 10) / 20
@@ -204,7 +205,7 @@ module _ {s left : List ℕ} {size : ℕ} (g : Counted s left size) (a b : List 
     are = left_are;
     few = omega (arith, turn_more);
     short = omega (arith, g.short);
-    sums = λ t h. let x = next_entry h g.turns turn_more in omega (arith, g.sums t h, open_long x (chunk_flag x g.are a b e k ∙ f));
+    sums = λ L t h. let x = next_entry h g.turns turn_more in omega (arith, g.sums L t h, open_long x (chunk_flag x g.are a b e k ∙ f));
   }
 
   -- an acknowledged one left out
@@ -214,14 +215,14 @@ module _ {s left : List ℕ} {size : ℕ} (g : Counted s left size) (a b : List 
     are = left_are;
     few = omega (arith, turn_more);
     short = omega (arith, g.short);
-    sums = λ t h. let x = next_entry h g.turns turn_more in omega (arith, g.sums t h, ap length (closed_turn x (λ z. f (sym (chunk_flag x g.are a b e k) ∙ z))));
+    sums = λ L t h. let x = next_entry h g.turns turn_more in omega (arith, g.sums L t h, ap length (closed_turn x (λ z. f (sym (chunk_flag x g.are a b e k) ∙ z))));
   }
 
 -- none is left
 pub all_counted : {s left : List ℕ} {size : ℕ} → 10 ≤ length s → Counted s left size → length left < 20
-    → (t : Tracked) → Holds s (length s) t → size ≡ length (open_bytes (open_in t.list))
-all_counted {s} {left} {size} l g h t w =
-    omega (arith, g.sums t w, ap length (open_end g.turns (entries_of t.list) (omega (arith, entry_count w, ap length g.are, length-drop (10 + g.turns * 20) s, g.few))))
+    → (L : LimitSet) (t : Tracked) → Holds L s (length s) t → size ≡ length (open_bytes (open_in t.list))
+all_counted {s} {left} {size} l g h L t w =
+    omega (arith, g.sums L t w, ap length (open_end g.turns (entries_of t.list) (omega (arith, entry_count w, ap length g.are, length-drop (10 + g.turns * 20) s, g.few))))
 
 -- ---- one entry's bytes
 

@@ -1,15 +1,15 @@
 -- Steps of the code: the last entries before one more is put behind them, a response as it is registered, and where the first entry of an RSeq lies in a body (prack_body/specs/Body.antt).
 use Rattle.std.specs.Prelude.{ℕ, ◌+◌, ◌-◌, cond, List, [], ◌∷◌, length, drop, eqb, Err, None, Ok, Option, Result, Some}
-use Rattle.limits.specs.Limits.{rust_limits}
+use Rattle.limits.specs.Limits.{LimitSet}
 use Rattle.limits.specs.declared.Refusal.{Refusal}
 use Rattle.limits.specs.declared.Refusal.TheVariants.{NoPendingList, UnknownRSeq}
 use Rattle.prack_body.specs.Lists.{Pending, pending_of, first_of_rseq}
 use Rattle.prack_list.specs.declared.finding.PendingAt.{PendingAt}
 use Rattle.prack_list.specs.declared.pushing.Provisional.{Provisional}
 
--- the last nine entries, or all where there are fewer
-abbrev pub last_of : List Pending → List Pending
-last_of ps = drop (length ps + 1 - rust_limits.pending) ps
+-- the last entries, one fewer than the set allows, or all where there are fewer
+abbrev pub last_of : LimitSet → List Pending → List Pending
+last_of L ps = drop (length ps + 1 - L.pending) ps
 
 -- a response as it is registered
 abbrev pub pending_in : Provisional → Pending

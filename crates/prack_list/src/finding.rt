@@ -1,5 +1,6 @@
 // The first entry of an RSeq in a body: found, and marked.
 ghost use Rattle.std.specs.Prelude.{◌≡◌, List, ℕ, ◌+◌, ◌≤◌, length, Some};
+ghost use Rattle.limits.specs.Limits.{LimitSet};
 ghost use Rattle.prack_body.specs.Lists.{Pending, Tracked, first_of_rseq, marked, with_list};
 ghost use Rattle.prack_body.specs.Body.{Holds};
 ghost use Rattle.prack_list.specs.Steps.{place_from, position_in};
@@ -22,7 +23,7 @@ pub struct PendingAt {
 // The first entry of an RSeq: 20 where no list stands, 21 where none is of the RSeq.
 // Kept (4): tried by `position` over `chunks_exact`: the closure's bound closes, but not that a call of it that answers false has read another number.
 pub fn first_of(body: &[u8], rseq: u32) -> Result<PendingAt, Refusal>
-    ensures { (t : Tracked) → Holds body.now (length body.now) t → result ≡ position_in rseq t.list }
+    ensures { (L : LimitSet) (t : Tracked) → Holds L body.now (length body.now) t → result ≡ position_in rseq t.list }
 {
     if body.len() < ENTRIES_AT {
         return Err(Refusal::NoPendingList);
@@ -44,7 +45,7 @@ pub fn first_of(body: &[u8], rseq: u32) -> Result<PendingAt, Refusal>
 // The entry at a place acknowledged.
 pub fn mark(body: &mut [u8], place: usize)
     requires { place + 20 ≤ length body.old }
-    ensures { (n rseq : ℕ) (t : Tracked) (ps : List Pending) (p : Pending) → Holds body.old n t → t.list ≡ Some ps → first_of_rseq rseq ps ≡ Some p → place ≡ place_from 10 rseq ps → Holds body.new n (with_list (Some (marked rseq ps)) t) }
+    ensures { (L : LimitSet) (n rseq : ℕ) (t : Tracked) (ps : List Pending) (p : Pending) → Holds L body.old n t → t.list ≡ Some ps → first_of_rseq rseq ps ≡ Some p → place ≡ place_from 10 rseq ps → Holds L body.new n (with_list (Some (marked rseq ps)) t) }
 {
     body[place + ACKNOWLEDGED_AT] = 1;
 }

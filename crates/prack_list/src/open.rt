@@ -1,5 +1,6 @@
 // The responses of a body that wait for their PRACK: RSeq in four bytes and code in two, in list order.
 ghost use Rattle.std.specs.Prelude.{◌≡◌, ◌++◌, ◌+◌, ◌*◌, ◌≤◌, length};
+ghost use Rattle.limits.specs.Limits.{LimitSet};
 ghost use Rattle.edit.specs.Edit.{put_at, over};
 ghost use Rattle.codec.specs.Codec.{two, four};
 ghost use Rattle.prack_body.specs.Lists.{Pending, Tracked, open_in};
@@ -17,7 +18,7 @@ const OPEN_SIZE: usize = 6;
 // Kept (5): the bytes are a body's alone, as `load` and `push` count them; a type of a short body would be made at each call from an array.
 pub fn open_size(body: &[u8]) -> usize
     requires { length body.now ≤ body_room }
-    ensures { (t : Tracked) → Holds body.now (length body.now) t → result ≡ length (open_bytes (open_in t.list)) }
+    ensures { (L : LimitSet) (t : Tracked) → Holds L body.now (length body.now) t → result ≡ length (open_bytes (open_in t.list)) }
 {
     if body.len() < ENTRIES_AT {
         return 0;
@@ -33,8 +34,8 @@ pub fn open_size(body: &[u8]) -> usize
 
 // Over the front of an output that has room for them. How many bytes.
 pub fn open_bytes(body: &[u8], out: &mut [u8]) -> usize
-    requires { (t : Tracked) × (Holds body.now (length body.now) t × (length (open_bytes (open_in t.list)) ≤ length out.old)) }
-    ensures { (t : Tracked) → Holds body.now (length body.now) t → (result ≡ length (open_bytes (open_in t.list))) × (out.new ≡ over (open_bytes (open_in t.list)) out.old) }
+    requires { (L : LimitSet) × (t : Tracked) × (Holds L body.now (length body.now) t × (length (open_bytes (open_in t.list)) ≤ length out.old)) }
+    ensures { (L : LimitSet) (t : Tracked) → Holds L body.now (length body.now) t → (result ≡ length (open_bytes (open_in t.list))) × (out.new ≡ over (open_bytes (open_in t.list)) out.old) }
 {
     if body.len() < ENTRIES_AT {
         return 0;

@@ -1,22 +1,20 @@
 // One entry more in a body.
-ghost use Rattle.std.specs.Prelude.{◌≡◌, true, ◌+◌, ◌≤◌, length};
-ghost use Rattle.limits.specs.Limits.{rust_limits};
+ghost use Rattle.std.specs.Prelude.{◌≡◌, true, ◌+◌, ◌≤◌, ◌<◌, length};
+ghost use Rattle.limits.specs.Settings.{limits_in};
 ghost use Rattle.edit.specs.Edit.{put_at};
 ghost use Rattle.methods.specs.Methods.{is_method};
 ghost use Rattle.prack_body.specs.Lists.{Tracked, entries_of, registered};
 ghost use Rattle.prack_body.specs.Layout.{pending_form};
-ghost use Rattle.prack_body.specs.Body.{body_room, Holds, Kept};
+ghost use Rattle.prack_body.specs.Body.{most_pending, body_room, Holds, Kept};
 ghost use Rattle.prack_list.specs.Steps.{last_of, pending_in};
 
 use codec::{write_byte, write_eight, write_four, write_two};
 use edit::shift;
-use limits::Limits;
-use prack_body::{BODY_ROOM, COUNT_AT, ENTRIES_AT, ENTRY_SIZE, LIST_AT};
+use limits::Settings;
+use prack_body::{COUNT_AT, ENTRIES_AT, ENTRY_SIZE, LIST_AT};
 
-// Where the second entry begins, and the bytes of all but the first in a list of as many as it can have.
+// Where the second entry begins.
 const SECOND_AT: usize = ENTRIES_AT + ENTRY_SIZE;
-
-const OTHERS_SIZE: usize = BODY_ROOM - SECOND_AT;
 
 // A reliable provisional response as it is registered, and when.
 // Kept (1): the method is a number, since `register` refuses an unknown one with 28, after 1; a narrower type would ask more of callers.
@@ -29,35 +27,39 @@ pub struct Provisional {
     pub time: u64,
 }
 
-// One response more: a list of one where none stood, without the first entry where ten are held. The new length.
+// One response more: a list of one where none stood, without the first entry where as many are held as the set allows. The new length.
 // Kept (5, 6): any lent bytes that have room will do; a struct that owns an array of that size, and its length, would ask more of callers.
-pub fn push(body: &mut [u8], n: usize, response: Provisional) -> usize
-    requires { (is_method response.method ≡ true) × ((n ≤ body_room) × (body_room ≤ length body.old)) }
-    ensures { (t : Tracked) → Holds body.old n t → Holds body.new result (registered rust_limits (pending_in response) t) }
+pub fn push(settings: Settings, body: &mut [u8], n: usize, response: Provisional) -> usize
+    requires pending { (1 ≤ settings.pending) × (settings.pending ≤ most_pending) }
+    requires room { (is_method response.method ≡ true) × ((n ≤ body_room) × (body_room ≤ length body.old)) }
+    ensures { (t : Tracked) → Holds (limits_in settings) body.old n t → Holds (limits_in settings) body.new result (registered (limits_in settings) (pending_in response) t) }
 {
-    let count = make_room(body, n);
+    let count = make_room(settings, body, n);
     let end = write_entry(body, ENTRIES_AT + count * ENTRY_SIZE, response);
     body[LIST_AT] = 1;
     body[COUNT_AT] = (count + 1) as u8;
     end
 }
 
-// Room for one entry more behind the others: where ten are held, the first goes. How many are left.
+// Room for one entry more behind the others: where as many are held as the set allows, the first goes. How many are left.
 // Kept (5, 6): any lent bytes that have room will do; a struct that owns an array of that size, and its length, would ask more of callers.
-fn make_room(body: &mut [u8], n: usize) -> usize
-    requires { (n ≤ body_room) × (body_room ≤ length body.old) }
-    ensures upper_bound { result ≤ 9 }
-    ensures kept { (t : Tracked) → Holds body.old n t → Kept body.old (last_of (entries_of t.list)) body.new result }
+fn make_room(settings: Settings, body: &mut [u8], n: usize) -> usize
+    requires pending { (1 ≤ settings.pending) × (settings.pending ≤ most_pending) }
+    requires room { (n ≤ body_room) × (body_room ≤ length body.old) }
+    ensures upper_bound { result < settings.pending }
+    ensures kept { (t : Tracked) → Holds (limits_in settings) body.old n t → Kept body.old (last_of (limits_in settings) (entries_of t.list)) body.new result }
 {
     if n < ENTRIES_AT {
         return 0;
     }
     let count = (n - ENTRIES_AT) / ENTRY_SIZE;
-    if count < Limits::MAX_PENDING_PRACK_PER_DIALOG {
+    let most = settings.pending as usize;
+    if count < most {
         return count;
     }
-    shift(body, SECOND_AT, ENTRIES_AT, OTHERS_SIZE);
-    Limits::MAX_PENDING_PRACK_PER_DIALOG - 1
+    let others = most - 1;
+    shift(body, SECOND_AT, ENTRIES_AT, others * ENTRY_SIZE);
+    others
 }
 
 // An entry, not acknowledged. The place after it.

@@ -2,12 +2,12 @@
 #![tactic(auto)]
 
 ghost use Rattle.std.specs.Prelude.{◌≡◌, Bool, List, ℕ, ◌++◌, ◌-◌, ◌≤◌, length};
-ghost use Rattle.limits.specs.Limits.{rust_limits};
+ghost use Rattle.limits.specs.Settings.{limits_in};
 ghost use Rattle.prack_body.specs.Lists.{Pending, stays, is_other};
 ghost use Rattle.prack_body.specs.Layout.{pending_form, PendingFormed};
 
 use codec::{read_eight, read_four};
-use limits::{Limits, NANOS_PER_SECOND};
+use limits::{NANOS_PER_SECOND, Settings};
 use prack_body::{ACKNOWLEDGED_AT, REGISTERED_AT};
 
 // A test of entries.
@@ -20,19 +20,21 @@ pub trait Staying: Copy {
         ensures { (p : Pending) (rest : List ℕ) → PendingFormed p → entry.now ≡ pending_form.write p ++ rest → result ≡ test self p };
 }
 
-// Those stay that are not acknowledged, and not older than the timeout at a time.
+// Those stay that are not acknowledged, and not older than a set's timeout at a time.
 #[derive(Clone, Copy)]
 pub struct Young {
+    pub settings: Settings,
     pub time: u64,
 }
 
 impl Staying for Young {
-    ghost test = { λ young. stays rust_limits young.time };
+    ghost test = { λ young. stays (limits_in young.settings) young.time };
 
     fn stays(self, entry: &[u8]) -> bool {
         let waits = entry[ACKNOWLEDGED_AT] != 1;
         let since = read_eight(entry, REGISTERED_AT);
-        waits && elapsed(self.time, since) <= Limits::PENDING_PRACK_TIMEOUT_SECS * NANOS_PER_SECOND
+        let timeout = self.settings.timeout_seconds as u64;
+        waits && elapsed(self.time, since) <= timeout * NANOS_PER_SECOND
     }
 }
 

@@ -2,3 +2,4 @@ pub mod AnswerLaws
 pub mod History
 pub mod OperationLaws
 pub mod RepeatLaws
+pub mod SettingLaws

@@ -3,17 +3,20 @@
 -- list; 18 comes before 19 where what the cleanup adds has no bytes left, and then nothing is changed. How a PRACK is judged: prack_verdict/specs/Verdict.antt. By the
 -- RFC only 101 to 199 of an INVITE are registered, and a PRACK that is refused changes nothing; here, as in the Rust, any code and method are, and it cleans
 -- (all departures: docs/DIFFERENCES.md, "RFC 3262, PRACK lists").
-use Rattle.std.specs.Prelude.{ℕ, ◌<◌, Bool, List, Err, None, Ok, Option, Result, Some}
+use Rattle.std.specs.Prelude.{ℕ, ◌<◌, Bool, cond, List, Err, None, Ok, Option, Result, Some}
 use Rattle.limits.specs.Limits.{LimitSet}
+use Rattle.limits.specs.Settings.{in_bounds, limits_in}
+use Rattle.limits.specs.declared.settings.Settings.{Settings}
 use Rattle.limits.specs.Outcome.{or_else, and_then}
 use Rattle.limits.specs.declared.Refusal.{Refusal}
+use Rattle.limits.specs.declared.Refusal.TheVariants.{SettingOutOfBounds}
 use Rattle.text.specs.Answers.{length_cause}
 use Rattle.msg.specs.Block.{block_cause}
 use Rattle.methods.specs.Methods.{method_cause}
 use Rattle.output.specs.Output.{fitted}
 use Rattle.rack.specs.declared.RAck.{RAck}
 use Rattle.ordered_store.specs.Entries.{set_entry, without_entry}
-use Rattle.ordered_store.specs.Run.{Decided, Left, run}
+use Rattle.ordered_store.specs.Run.{Decided, Left, leave, run}
 use Rattle.ordered_store.specs.History.{Calls}
 use Rattle.prack_body.specs.Lists.{Pending, Tracked, pending_of, registered, entries_of, first_of_rseq, is_acknowledged, without_pracked, open_in, with_list}
 use Rattle.prack_body.specs.Layout.{tracked_form, open_bytes}
@@ -84,6 +87,10 @@ judge L (remove_pracked id r) ts = deciding (pruned r (held_for id ts) ts) (Ok n
 -- what a call leaves of the lent bytes, of which so many are used
 abbrev pub ran : LimitSet → Action → List ℕ → ℕ → Left Value
 ran L a bytes used = run (tracked_form L) key_of (action_cause L a) (judge L a) bytes used
+
+-- the same with a site's settings (document 02, request 7): 30 "comes first of all"
+abbrev pub ran_with : Settings → Action → List ℕ → ℕ → Left Value
+ran_with s a bytes used = cond (in_bounds s) (ran (limits_in s) a bytes used) (leave (tracked_form (limits_in s)) bytes used (Err SettingOutOfBounds))
 
 -- ---- lists of calls
 

@@ -7,6 +7,7 @@ use mathlib.Core.List.{List}
 use lib.Dec.{eqb}
 use borrow.Author.Tests.{eq-eqb, ne_eqb}
 use Rattle.std.specs.Prelude.{Err, None, Ok, Option, Result, Some}
+use Rattle.limits.specs.Limits.{LimitSet}
 use Rattle.limits.specs.Outcome.{refuse_if, and_then, or_refuse}
 use Rattle.limits.specs.declared.Refusal.{Refusal}
 use Rattle.limits.specs.declared.Refusal.TheVariants.{InvalidRAck, NoPendingList, UnknownRSeq, RAckCSeqMismatch, RAckMethodMismatch, DuplicatePrack}
@@ -65,24 +66,24 @@ module _ (o : Option RAck) (list : Option (List Pending)) (k : RAck) (e : o ≡ 
 -- r is answered, and the body becomes `after`
 abbrev pub Judges : Option RAck → List ℕ → ℕ → Result RAck Refusal → List ℕ → Type 0
 Judges o body n r after =
-    ((t : Tracked) → Holds body n t → r ≡ verdict_of (judged o t.list))
-    × ((t : Tracked) → Holds body n t → Holds after n (with_list (marked_by (judged o t.list) t.list) t))
+    ((L : LimitSet) (t : Tracked) → Holds L body n t → r ≡ verdict_of (judged o t.list))
+    × ((L : LimitSet) (t : Tracked) → Holds L body n t → Holds L after n (with_list (marked_by (judged o t.list) t.list) t))
 
 module _ (o : Option RAck) (body : List ℕ) (n : ℕ) where
   -- a refusal keeps the body
-  pub keeps : {cause : Refusal} → ((t : Tracked) → Holds body n t → judged o t.list ≡ Err cause) → Judges o body n (Err cause) body
+  pub keeps : {cause : Refusal} → ((L : LimitSet) (t : Tracked) → Holds L body n t → judged o t.list ≡ Err cause) → Judges o body n (Err cause) body
   keeps {cause} j = (
-    λ t h. sym (ap verdict_of (j t h)),
-    λ t h. subst (λ (v : Result RAck Refusal). Holds body n (with_list (marked_by v t.list) t)) (sym (j t h)) h,
+    λ L t h. sym (ap verdict_of (j L t h)),
+    λ L t h. subst (λ (v : Result RAck Refusal). Holds L body n (with_list (marked_by v t.list) t)) (sym (j L t h)) h,
   )
 
   -- an accepted PRACK marks the entry
   pub marks : {k : RAck} {after : List ℕ}
-      → ((t : Tracked) → Holds body n t → (judged o t.list ≡ Ok k) × ((ps : List Pending) × ((t.list ≡ Some ps) × Holds after n (with_list (Some (marked k.rseq ps)) t))))
+      → ((L : LimitSet) (t : Tracked) → Holds L body n t → (judged o t.list ≡ Ok k) × ((ps : List Pending) × ((t.list ≡ Some ps) × Holds L after n (with_list (Some (marked k.rseq ps)) t))))
       → Judges o body n (Ok k) after
   marks {k} {after} j = (
-    λ t h. sym (ap verdict_of (j t h).0),
-    λ t h.
-        subst (λ (v : Result RAck Refusal). Holds after n (with_list (marked_by v t.list) t)) (sym (j t h).0)
-        (subst (λ (l : Option (List Pending)). Holds after n (with_list (marked_by (Ok k) l) t)) (sym (j t h).1.1.0) (j t h).1.1.1),
+    λ L t h. sym (ap verdict_of (j L t h).0),
+    λ L t h.
+        subst (λ (v : Result RAck Refusal). Holds L after n (with_list (marked_by v t.list) t)) (sym (j L t h).0)
+        (subst (λ (l : Option (List Pending)). Holds L after n (with_list (marked_by (Ok k) l) t)) (sym (j L t h).1.1.0) (j L t h).1.1.1),
   )

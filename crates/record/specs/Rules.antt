@@ -1,7 +1,7 @@
 -- What a request, an ACK, a confirmation, a termination, a new local number and a new interval make of a record's numbers.
 -- Document 01, "CSeq": 0 is refused; ACK must equal a non-zero remote number, and is remembered; others are at most
 -- 2,147,483,647, then, if the remote number isn't 0, 1 to 1,000 above it. RFC 3261 section 12.2.2 asks only that a request's
--- number is higher; the two limits are the Rust's. Local numbers rise by one and stop at 4,294,967,295.
+-- number is higher; the two limits are the Rust's, the 1,000 a site's jump by document 02, request 7. Local numbers rise by one and stop at 4,294,967,295.
 use Rattle.limits.specs.declared.Refusal.{Refusal}
 use Rattle.std.specs.Prelude.{ℕ, ◌+◌, ◌-◌, ◌^◌, min, cond, not, ◌||◌, leb, ltb, eqb, Ok, Result, Some}
 use Rattle.limits.specs.Limits.{LimitSet}

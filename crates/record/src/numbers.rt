@@ -1,11 +1,12 @@
 // The state and the numbers of a record, by value, and what requests and other calls make of them.
 ghost use Rattle.std.specs.Prelude.{◌≡◌};
 ghost use Rattle.limits.specs.Limits.{rust_limits};
+ghost use Rattle.limits.specs.Settings.{limits_in};
 ghost use Rattle.record.specs.Rules.{request_step, ack_step, other_step, confirm_step, terminate_step, local_step, with_seconds, interval_step};
 ghost use Rattle.record.specs.NumbersForm.{meaning, kind_in, outcome_in};
 
 use headers::Refresher;
-use limits::{Limits, Refusal};
+use limits::{Limits, Refusal, Settings};
 use session_seconds::check_expires_seconds;
 
 // Each with the number that the state byte of an image has for it.
@@ -39,15 +40,15 @@ pub struct Numbers {
 impl Numbers {
     // update_from_request: 9; ACK 11; others 10, 11, 12.
     // Kept (7): the two steps are the rules' two cases (`Kind`), a call each; a closure would be picked by this match at the one caller.
-    pub fn request(self, method: Method, cseq: u32) -> Result<Numbers, Refusal>
-        ensures { outcome_in result ≡ request_step rust_limits (kind_in method) cseq (meaning self) }
+    pub fn request(self, settings: Settings, method: Method, cseq: u32) -> Result<Numbers, Refusal>
+        ensures { outcome_in result ≡ request_step (limits_in settings) (kind_in method) cseq (meaning self) }
     {
         if cseq == 0 {
             return Err(Refusal::CSeqZero);
         }
         match method {
             Method::Ack => self.acknowledge(cseq),
-            Method::Other => self.advance(cseq),
+            Method::Other => self.advance(settings, cseq),
         }
     }
 
@@ -65,8 +66,8 @@ impl Numbers {
     }
 
     // Any other request becomes the remote number, within its limits.
-    fn advance(self, cseq: u32) -> Result<Numbers, Refusal>
-        ensures { outcome_in result ≡ other_step rust_limits cseq (meaning self) }
+    fn advance(self, settings: Settings, cseq: u32) -> Result<Numbers, Refusal>
+        ensures { outcome_in result ≡ other_step (limits_in settings) cseq (meaning self) }
     {
         if Limits::MAX_CSEQ_VALUE < cseq {
             return Err(Refusal::CSeqTooLarge);
@@ -76,7 +77,7 @@ impl Numbers {
             if cseq <= remote {
                 return Err(Refusal::InvalidCSeq);
             }
-            if Limits::MAX_CSEQ_JUMP < cseq - remote {
+            if settings.cseq_jump < cseq - remote {
                 return Err(Refusal::CSeqJumpTooLarge);
             }
         }

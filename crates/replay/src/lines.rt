@@ -1,7 +1,8 @@
 // What one line of the list asks for: the memory of a store is set, or a call is made and its answer compared.
-use crate::calls::call;
 use replay_answers::{Call, Line, Memory};
-use replay_lines::{Item, Items, copy_at, part, place_of, read_items, row_of, shape_fits};
+use replay_lines::{
+    ITEMS, Item, Items, OUTS, copy_at, part, place_of, read_items, row_of, shape_fits,
+};
 
 // The call that the line asks for, if it asks for one; none where it can't be read. The list has the rows at its head; `old` and `bytes` are room to work in.
 pub fn one_line<const N: usize>(
@@ -17,7 +18,7 @@ pub fn one_line<const N: usize>(
     let n = line.iter().position(|&b| b == b' ').unwrap_or(line.len());
     let name = part(line, 0, n);
     // Kept (6): README's rule: no heap. So the items go into an array, and what reads them says how many there are.
-    let mut room = [Item::NONE; 24];
+    let mut room = [Item::NONE; ITEMS];
     let count = read_items(part(line, n, line.len()), bytes, &mut room)?;
     let items = Items {
         bytes,
@@ -35,19 +36,18 @@ pub fn one_line<const N: usize>(
         items,
         equals: place_of(row.shape, b'=')?,
     };
-    let same = replay_call(number, asked, memory, old)?;
+    let same = replay_call(name, asked, memory, old)?;
     Some(Some(Call { row: number, same }))
 }
 
-// Makes the call: whether all that it answers is as recorded.
+// Makes the call of that name: whether all that it answers is as recorded; none where there is no such call, or it can't be lent so much.
 fn replay_call<const N: usize>(
-    row: usize,
+    name: &[u8],
     line: Line<'_, '_>,
     memory: &mut Memory<N>,
     old: &mut [u8],
 ) -> Option<bool> {
-    let mut o = [0u64; 8];
-    line.fill_outs(&mut o);
+    let mut o = [0u64; OUTS];
     // Kept (6): README's rule: no heap. So a call is lent a part of an array, as long as the line says.
     let mut room = [0u8; 65536];
     let out = room.get_mut(..line.lent_length(b'o'))?;
@@ -56,7 +56,9 @@ fn replay_call<const N: usize>(
     }
     copy_at(memory.bytes(), old, 0);
     let store = memory.lend(line.lent_length(b's'))?;
-    let r = call(row, line.items, store, out, &mut o);
+    let items = line.items;
+    let read = replay_readings::call(name, items, &mut o);
+    let r = read.or_else(|| replay_changes::call(name, items, store, out, &mut o))?;
     let store = memory.bytes();
     let old = part(old, 0, store.len());
     Some(line.as_recorded(r, &o, out, store, old))

@@ -1,15 +1,14 @@
 // Replays recorded answers of the Rust (`oracle/run record`, oracle/README.md): calls the C function of each line of the list on its standard input and compares all
 // that it answers with what the line has. Prints a line for each operation, and a last one.
-// Kept (1, 5): a call goes by its row's number, under which it is counted, with the line's items: a struct of the two would be taken apart in each family.
 #![tactic(auto)]
 
-mod calls;
 mod lines;
 
 ghost use Rattle.std.specs.Prelude.{◌≡◌, ◌≤◌, IfOk, length};
 
 use lines::one_line;
 use replay_answers::{Memory, Tallies, report, take};
+use replay_lines::ROWS;
 use std::io;
 use std::io::Read;
 
@@ -38,7 +37,7 @@ fn read_full(input: &mut impl Read, bytes: &mut [u8]) -> io::Result<usize>
     Ok(bytes.len().saturating_sub(left))
 }
 
-// The head of the list has a row for each of the 84 operations, and ends before the first empty line.
+// The head of the list has a row for each operation, and ends before the first empty line.
 fn replay(rt: &impl Print, list: &[u8]) -> io::Result<()> {
     if list.len() == 786432 {
         return rt.write_all(b"the list is too long\n");
@@ -47,8 +46,8 @@ fn replay(rt: &impl Print, list: &[u8]) -> io::Result<()> {
         .split(|b| *b == b'\n')
         .take_while(|row| !row.is_empty())
         .count();
-    if rows != 84 {
-        return rt.write_all(b"the list doesn't begin with 84 rows\n");
+    if rows != ROWS {
+        return println!(rt; "the list doesn't begin with {ROWS} rows");
     }
     let mut tallies = Tallies::new();
     each_line(rt, list, &mut tallies)?;
@@ -60,7 +59,7 @@ fn each_line(rt: &impl Print, list: &[u8], tallies: &mut Tallies) -> io::Result<
     let mut memory = Memory::<786432>::new();
     let mut old = zeros();
     let mut bytes = zeros();
-    for (before, line) in list.split(|b| *b == b'\n').enumerate().skip(84) {
+    for (before, line) in list.split(|b| *b == b'\n').enumerate().skip(ROWS) {
         let call = one_line(line, list, &mut memory, &mut old, &mut bytes);
         take(rt, call, before + 1, tallies)?;
     }

@@ -1,5 +1,5 @@
 // A line that asks for a call: what the call is lent, and whether its answer is as recorded.
-use replay_lines::{Items, numbers_behind, part, place_of};
+use replay_lines::{Items, OUTS, numbers_behind, part, place_of};
 
 // The shape of the row, the line's items, and where the `=` before the answer stands in both.
 #[derive(Clone, Copy)]
@@ -11,7 +11,14 @@ pub struct Line<'a, 'b> {
 
 impl Line<'_, '_> {
     // Whether the number, the out numbers, the lent output and the memory are as recorded.
-    pub fn as_recorded(self, r: u64, o: &[u64; 8], out: &[u8], store: &[u8], old: &[u8]) -> bool {
+    pub fn as_recorded(
+        self,
+        r: u64,
+        o: &[u64; OUTS],
+        out: &[u8],
+        store: &[u8],
+        old: &[u8],
+    ) -> bool {
         r == self.items.value(self.equals.saturating_add(1))
             && self.outs_same(o)
             && self.output_same(out)
@@ -28,22 +35,11 @@ impl Line<'_, '_> {
         numbers_behind(self.shape, self.equals).saturating_sub(1)
     }
 
-    // The out numbers before the call are the last of its numbers.
-    pub fn fill_outs(self, o: &mut [u64; 8]) {
-        let numbers = part(self.items.list, 0, self.equals)
-            .iter()
-            .rev()
-            .filter(|item| item.letter == b'n');
-        for (out, item) in o.iter_mut().take(self.outs()).rev().zip(numbers) {
-            *out = item.value;
-        }
-    }
-
     // Whether the out numbers after the call are as recorded.
-    fn outs_same(self, o: &[u64; 8]) -> bool {
+    fn outs_same(self, o: &[u64; OUTS]) -> bool {
         let many = self.outs();
         let recorded = part(self.items.list, self.equals.saturating_add(2), many);
-        many <= 8 && o.iter().zip(recorded).all(|(n, item)| *n == item.value)
+        many <= OUTS && o.iter().zip(recorded).all(|(n, item)| *n == item.value)
     }
 
     // Whether the lent output is as recorded, where there is some.

@@ -2,7 +2,7 @@
 ghost use Rattle.std.specs.Prelude.{◌≡◌};
 
 use crate::Call;
-use replay_lines::row_at;
+use replay_lines::{ROWS, row_at};
 use std::io;
 
 // Of a row: how many calls, how many of them differ, and the line of the first that does, if one does.
@@ -13,10 +13,10 @@ struct Tally {
     first: Option<usize>,
 }
 
-// Those of the 84 rows, and how many lines can't be read.
+// Those of the rows, and how many lines can't be read.
 #[derive(Clone, Copy)]
 pub struct Tallies {
-    rows: [Tally; 84],
+    rows: [Tally; ROWS],
     unreadable: u64,
 }
 
@@ -30,7 +30,7 @@ impl Tallies {
             first: None,
         };
         Tallies {
-            rows: [none; 84],
+            rows: [none; ROWS],
             unreadable: 0,
         }
     }

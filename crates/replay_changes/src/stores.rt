@@ -1,133 +1,94 @@
-// The calls on the three kinds of stores, and on a run of verdicts. `store` is the part of the memory that they are lent; the used length is the first of the out numbers.
+// Made by `tools/face write` from crates/sip_dialog/src, not by hand.
+// The calls of stores.rt.
 ghost use Rattle.std.specs.Prelude.{◌≡◌, drop};
 
-use replay_lines::{Items, four, low8, low16, low32, one, three, two};
-use sip_dialog::prack_lists::{
-    sip_dialog_prack_get_pending, sip_dialog_prack_is_pracked, sip_dialog_prack_register,
-    sip_dialog_prack_remove_dialog, sip_dialog_prack_remove_pracked, sip_dialog_prack_validate,
-};
-use sip_dialog::rseq::{
-    sip_dialog_rseq_current, sip_dialog_rseq_is_empty, sip_dialog_rseq_len, sip_dialog_rseq_next,
-    sip_dialog_rseq_remove,
-};
-use sip_dialog::store_readings::{
-    sip_dialog_all_ids, sip_dialog_count, sip_dialog_find_by_call_id, sip_dialog_find_by_request,
-    sip_dialog_get,
-};
-use sip_dialog::stores::{
-    sip_dialog_next_local_cseq, sip_dialog_put, sip_dialog_remove, sip_dialog_request,
-    sip_dialog_response, sip_dialog_set_session_expires, sip_dialog_sweep, sip_dialog_terminate,
-};
-use sip_dialog::verdicts::{sip_dialog_add_verdict, sip_dialog_worst_minute};
+use crate::settings;
+use replay_lines::lent::{one, two};
+use replay_lines::{Items, OUTS, low16};
+use sip_dialog::stores;
 
-// A dialog store: what asks for a change of it.
-pub fn change(row: usize, i: Items<'_>, store: &mut [u8], o: &mut [u64; 8]) -> u8
+// Calls the function of that name, if it is one of these: what it returns.
+pub fn call(name: &[u8], i: Items<'_>, store: &mut [u8], o: &mut [u64; OUTS]) -> Option<u64>
     ensures rest { drop 2 o.new ≡ drop 2 o.old }
 {
-    let s = i.text(0);
-    let t = i.text(1);
-    let u = i.text(2);
-    match row {
-        54 => two(o, |used, n| sip_dialog_put(s, store, used, n)),
-        55 => one(o, |used| sip_dialog_request(s, t, store, used)),
-        56 => one(o, |used| {
-            sip_dialog_response(s, t, u, low16(i.value(3)), i.text(4), store, used)
+    Some(match name {
+        b"put" => two(i, [7, 8], o, |used, created| {
+            stores::sip_dialog_put(
+                settings(i, [0, 1, 2, 3, 4]),
+                i.text(5),
+                store,
+                used,
+                created,
+            )
         }),
-        57 => one(o, |used| sip_dialog_terminate(s, t, u, store, used)),
-        58 => two(
-            o,
-            |used, n| sip_dialog_next_local_cseq(s, t, u, store, used, n),
-        ),
-        59 => two(o, |used, least| {
-            sip_dialog_set_session_expires(s, t, u, i.value(3), store, used, least)
+        b"request" => one(i, [8], o, |used| {
+            stores::sip_dialog_request(
+                settings(i, [0, 1, 2, 3, 4]),
+                i.text(5),
+                i.text(6),
+                store,
+                used,
+            )
         }),
-        60 => two(o, |used, n| sip_dialog_remove(s, t, u, store, used, n)),
-        _ => one(o, |used| sip_dialog_sweep(store, used)),
-    }
-}
-
-// A dialog store that is read: the used length stays.
-pub fn read(row: usize, i: Items<'_>, store: &[u8], out: &mut [u8], o: &mut [u64; 8]) -> u8
-    ensures rest { drop 3 o.new ≡ drop 3 o.old }
-{
-    let s = i.text(0);
-    match row {
-        62 => three(o, |used, place, length| {
-            sip_dialog_get(s, i.text(1), i.text(2), store, *used, place, length)
+        b"response" => one(i, [11], o, |used| {
+            stores::sip_dialog_response(
+                settings(i, [0, 1, 2, 3, 4]),
+                i.text(5),
+                i.text(6),
+                i.text(7),
+                low16(i.value(8)),
+                i.text(9),
+                store,
+                used,
+            )
         }),
-        63 => three(o, |used, place, length| {
-            sip_dialog_find_by_call_id(s, store, *used, place, length)
+        b"terminate" => one(i, [9], o, |used| {
+            stores::sip_dialog_terminate(
+                settings(i, [0, 1, 2, 3, 4]),
+                i.text(5),
+                i.text(6),
+                i.text(7),
+                store,
+                used,
+            )
         }),
-        64 => three(o, |used, place, length| {
-            sip_dialog_find_by_request(s, store, *used, place, length)
+        b"next_local_cseq" => two(i, [9, 10], o, |used, number| {
+            stores::sip_dialog_next_local_cseq(
+                settings(i, [0, 1, 2, 3, 4]),
+                i.text(5),
+                i.text(6),
+                i.text(7),
+                store,
+                used,
+                number,
+            )
         }),
-        65 => two(o, |used, n| sip_dialog_count(store, *used, n)),
-        _ => two(o, |used, n| sip_dialog_all_ids(store, *used, out, n)),
-    }
-}
-
-// An RSeq store.
-pub fn rseq(row: usize, i: Items<'_>, store: &mut [u8], o: &mut [u64; 8]) -> u8
-    ensures rest { drop 2 o.new ≡ drop 2 o.old }
-{
-    let s = i.text(0);
-    let t = i.text(1);
-    let u = i.text(2);
-    match row {
-        68 => two(o, |used, n| {
-            sip_dialog_rseq_next(s, t, u, low32(i.value(3)), store, used, n)
+        b"set_session_expires" => two(i, [10, 11], o, |used, least| {
+            stores::sip_dialog_set_session_expires(
+                settings(i, [0, 1, 2, 3, 4]),
+                i.text(5),
+                i.text(6),
+                i.text(7),
+                i.value(8),
+                store,
+                used,
+                least,
+            )
         }),
-        69 => two(
-            o,
-            |used, n| sip_dialog_rseq_current(s, t, u, store, *used, n),
-        ),
-        70 => one(o, |used| sip_dialog_rseq_remove(s, t, u, store, used)),
-        71 => two(o, |used, n| sip_dialog_rseq_len(store, *used, n)),
-        _ => two(o, |used, n| sip_dialog_rseq_is_empty(store, *used, n)),
-    }
-}
-
-// A PRACK store.
-pub fn prack(row: usize, i: Items<'_>, store: &mut [u8], out: &mut [u8], o: &mut [u64; 8]) -> u8
-    ensures rest { drop 4 o.new ≡ drop 4 o.old }
-{
-    let s = i.text(0);
-    match row {
-        73 => one(o, |used| register(i, store, used)),
-        74 => four(o, |used, rseq, cseq, n| {
-            sip_dialog_prack_validate(s, i.text(1), i.value(2), store, used, rseq, cseq, n)
+        b"remove" => two(i, [9, 10], o, |used, terminated| {
+            stores::sip_dialog_remove(
+                settings(i, [0, 1, 2, 3, 4]),
+                i.text(5),
+                i.text(6),
+                i.text(7),
+                store,
+                used,
+                terminated,
+            )
         }),
-        75 => two(o, |used, n| {
-            sip_dialog_prack_is_pracked(s, low32(i.value(1)), store, *used, n)
+        b"sweep" => one(i, [6], o, |used| {
+            stores::sip_dialog_sweep(settings(i, [0, 1, 2, 3, 4]), store, used)
         }),
-        76 => two(o, |used, n| {
-            sip_dialog_prack_get_pending(s, i.value(1), store, used, out, n)
-        }),
-        77 => one(o, |used| sip_dialog_prack_remove_dialog(s, store, used)),
-        _ => one(o, |used| {
-            sip_dialog_prack_remove_pracked(s, low32(i.value(1)), store, used)
-        }),
-    }
-}
-
-fn register(i: Items<'_>, store: &mut [u8], used: &mut usize) -> u8 {
-    let rseq = low32(i.value(1));
-    let cseq = low32(i.value(2));
-    let method = low8(i.value(3));
-    let code = low16(i.value(4));
-    sip_dialog_prack_register(i.text(0), rseq, cseq, method, code, i.value(5), store, used)
-}
-
-// A run of verdicts.
-pub fn verdicts(row: usize, i: Items<'_>, store: &mut [u8], o: &mut [u64; 8]) -> u8
-    ensures rest { drop 4 o.new ≡ drop 4 o.old }
-{
-    match row {
-        82 => one(o, |used| {
-            sip_dialog_add_verdict(i.value(0), low8(i.value(1)), store, used)
-        }),
-        _ => four(o, |used, refusals, found, start| {
-            sip_dialog_worst_minute(store, *used, refusals, found, start)
-        }),
-    }
+        _ => return None,
+    })
 }

@@ -1,8 +1,9 @@
-// The items of a line: numbers, texts, `[n]` for a store lent in n bytes, and `=` before the answer. At most 24, a blank before each.
+// The items of a line: numbers, texts, `[n]` for a store lent in n bytes, and `=` before the answer. At most `ITEMS`, a blank before each.
 ghost use Rattle.std.specs.Prelude.{◌≡◌, [], IfNone, slice_get};
 ghost use Rattle.std.specs.Option.{unwrap_or, option_map};
 
 use crate::bytes::part;
+use crate::sizes::ITEMS;
 use crate::texts::{joined, read_number};
 
 // An item: the letter of its kind, as a row's shape has it; its number, or a text's length; and where a text's bytes begin.
@@ -59,7 +60,7 @@ struct Read<'a> {
 
 // Reads the items of which a line's rest consists: how many; none where one of them can't be read.
 // Kept (6): README's rule: no heap. So the caller lends the room for a line's items and for their bytes.
-pub fn read_items(line: &[u8], bytes: &mut [u8], room: &mut [Item; 24]) -> Option<usize> {
+pub fn read_items(line: &[u8], bytes: &mut [u8], room: &mut [Item; ITEMS]) -> Option<usize> {
     let mut rest = line;
     let mut end = 0;
     for (k, place) in room.iter_mut().enumerate() {
@@ -71,7 +72,7 @@ pub fn read_items(line: &[u8], bytes: &mut [u8], room: &mut [Item; 24]) -> Optio
         rest = read.rest;
         end = read.end;
     }
-    rest.is_empty().then_some(24)
+    rest.is_empty().then_some(ITEMS)
 }
 
 // An item that has no bytes.

@@ -3,7 +3,7 @@ use Rattle.std.specs.Prelude.{ℕ, ◌+◌, List, Option, Result}
 use Rattle.limits.specs.declared.Refusal.{Refusal}
 use Rattle.codec.specs.Codec.{Reading}
 use Rattle.ordered_store.specs.Entries.{Key}
-use Rattle.ordered_store.specs.Layout.{Layout, places_read, found_of, found_for}
+use Rattle.ordered_store.specs.Layout.{Parts, Layout, places_read, found_of, found_for}
 use Rattle.ordered_store.specs.Slot.{Slot}
 use Rattle.text.specs.Spans.{PartWithin}
 use Rattle.dialog_id.specs.IdTexts.{ident_in}
@@ -34,16 +34,19 @@ Within s e = PartWithin s e.id.call_id × PartWithin s e.id.local_tag × PartWit
 
 -- ---- what is answered
 
+abbrev pub parts : Parts Entry EntryAt
+parts = record { key_of = key_of; places_of = entry_at; end_of = λ e. e.end; key_at = key_at; Within = Within }
+
 abbrev pub layout : Layout Entry EntryAt
-layout = record { form = entry_form; key_of = key_of; Good = WellFormed; places_of = entry_at; end_of = λ e. e.end; key_at = key_at; Within = Within }
+layout = record { form = entry_form; Good = WellFormed; parts = parts }
 
 abbrev pub reading_of : ℕ → Option (Reading Entry) → Option EntryAt
-reading_of = places_read layout
+reading_of = places_read parts
 
 -- its slot
 abbrev pub slot_of : Option (Slot Entry) → Result (Result EntryAt ℕ) Refusal
-slot_of = found_of layout
+slot_of = found_of parts
 
 -- in lent bytes of which so many are used
 abbrev pub slot_for : Key → List ℕ → ℕ → Result (Result EntryAt ℕ) Refusal
-slot_for = found_for layout
+slot_for = found_for parts entry_form

@@ -1,8 +1,8 @@
 // One entry of the RSeq store, read at a place: three texts with two length bytes each, then a number that isn't 0.
 ghost use Rattle.std.specs.Prelude.{◌≡◌, ◌≤◌, length, drop};
 ghost use Rattle.dialog_id.specs.IdTexts.{ident_of};
-ghost use Rattle.rseq_entries.specs.Entries.{key_of_ident, Entry, entry_form};
-ghost use Rattle.rseq_entries.specs.Places.{reading_of, layout};
+ghost use Rattle.rseq_entries.specs.Entries.{key_of_ident, Entry, entry_form, WellFormed};
+ghost use Rattle.rseq_entries.specs.Places.{reading_of, parts};
 ghost use Rattle.rseq_entries.specs.Laws.{lawful};
 
 use codec::{read_four, read_text};
@@ -19,12 +19,19 @@ pub struct EntryAt {
 }
 
 impl Entry for EntryAt {
+    // The form of an entry depends on no limit that a site sets.
+    type Context = ();
+
     ghost Value = { Entry };
 
-    ghost layout = { layout };
+    ghost parts = { parts };
+
+    ghost form = { λ context. entry_form };
+
+    ghost Good = { λ context. WellFormed };
 
     // Kept (5): the parameters of `Entry::read`, which says why.
-    fn read(bytes: &[u8], at: usize) -> Option<EntryAt> {
+    fn read(_context: (), bytes: &[u8], at: usize) -> Option<EntryAt> {
         read_entry(bytes, at)
     }
 
@@ -36,7 +43,7 @@ impl Entry for EntryAt {
         self.id.texts(bytes).cmp(&next.id.texts(bytes)).is_lt()
     }
 
-    ghost lawful = { lawful };
+    ghost lawful = { λ context. lawful };
 }
 
 impl<'a> KeyedBy<IdTexts<'a>> for EntryAt {

@@ -20,12 +20,12 @@ pub use entries::EntryAt;
 pub fn find(id: IdTexts<'_>, bytes: &[u8], used: usize) -> Result<Result<EntryAt, usize>, Refusal>
     ensures { result ≡ slot_for (key_of_ident (ident_of id.entry)) bytes.now used }
 {
-    ordered_store::find(id, bytes, used)
+    ordered_store::find((), id, bytes, used)
 }
 
 // How many entries there are, from the front to the end, each before the next.
 pub fn count_entries(bytes: &[u8]) -> Option<usize>
     ensures { result ≡ count_of (decode_entries entry_form key_of bytes.now) }
 {
-    ordered_store::count_entries::<EntryAt>(bytes)
+    ordered_store::count_entries::<EntryAt>((), bytes)
 }

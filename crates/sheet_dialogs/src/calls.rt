@@ -3,7 +3,7 @@ ghost use Rattle.std.specs.Prelude.{◌≡◌};
 
 use crate::records::show_record;
 use creation_checks::NewDialog;
-use limits::Refusal;
+use limits::{Refusal, Settings};
 use msg::{Request, Response};
 use sheet_lines::{
     Held, ask, ask_block, ask_number, ask_of, end_line, show_block, show_cause, show_time, show_yes,
@@ -105,7 +105,12 @@ pub fn message(
 // they share is `updated`.
 fn requested(rt: &impl Print, request: Request<'_>, record: &mut Record) -> io::Result<()> {
     let used = record.used;
-    let answer = dialog_requests::update_from_request(request, &mut record.bytes, used);
+    let answer = dialog_requests::update_from_request(
+        Settings::rust(),
+        request,
+        &mut record.bytes,
+        used,
+    );
     updated(rt, answer, record)
 }
 

@@ -1,6 +1,7 @@
 // Each call on a PRACK store, and its line.
 ghost use Rattle.std.specs.Prelude.{◌≡◌};
 
+use limits::Settings;
 use prack_list::Provisional;
 use sheet_lines::{Held, end_line, show_block, show_rack, show_refusal, show_time, show_verdict};
 use std::io;
@@ -45,7 +46,8 @@ pub fn register<const N: usize>(
     begin(rt, place, b"register", id)?;
     print!(rt; ", {code} with RSeq {rseq} and CSeq {cseq} INVITE")?;
     show_moment(rt, b", at ", response.time)?;
-    let answer = prack_validator::register(id, response, &mut store.bytes, store.used);
+    let settings = Settings::rust();
+    let answer = prack_validator::register(settings, id, response, &mut store.bytes, store.used);
     store.changed(rt, answer)
 }
 
@@ -63,7 +65,8 @@ pub fn validate<const N: usize>(
     show_block(rt, block)?;
     show_moment(rt, b"}, at ", time)?;
     let used = store.used;
-    let answer = prack_validator::validate(id, block, time, &mut store.bytes, used);
+    let settings = Settings::rust();
+    let answer = prack_validator::validate(settings, id, block, time, &mut store.bytes, used);
     store.used = answer.used;
     show_rack(rt, answer.verdict)?;
     store.end(rt)
@@ -81,7 +84,8 @@ pub fn pending<const N: usize>(
     show_moment(rt, b", at ", time)?;
     let mut out = Held::<60>::new();
     let used = store.used;
-    match prack_validator::get_pending(id, time, &mut store.bytes, used, &mut out.bytes) {
+    let settings = Settings::rust();
+    match prack_validator::get_pending(settings, id, time, &mut store.bytes, used, &mut out.bytes) {
         Ok((length, n)) => {
             out.used = length;
             store.used = n;
@@ -101,7 +105,8 @@ pub fn pracked<const N: usize>(
 ) -> io::Result<()> {
     begin(rt, place, b"is_pracked", id)?;
     print!(rt; ", RSeq {rseq}: ")?;
-    let answer = prack_validator::is_pracked(id, rseq, &store.bytes, store.used);
+    let settings = Settings::rust();
+    let answer = prack_validator::is_pracked(settings, id, rseq, &store.bytes, store.used);
     show_verdict(rt, answer)?;
     end_line(rt)
 }
@@ -115,7 +120,8 @@ pub fn remove_pracked<const N: usize>(
 ) -> io::Result<()> {
     begin(rt, place, b"remove_pracked", id)?;
     print!(rt; ", RSeq {rseq}: ")?;
-    let answer = prack_removal::remove_pracked(id, rseq, &mut store.bytes, store.used);
+    let settings = Settings::rust();
+    let answer = prack_removal::remove_pracked(settings, id, rseq, &mut store.bytes, store.used);
     store.changed(rt, answer)
 }
 
@@ -127,7 +133,8 @@ pub fn remove_dialog<const N: usize>(
 ) -> io::Result<()> {
     begin(rt, place, b"remove_dialog", id)?;
     rt.write_all(b": ")?;
-    let answer = prack_removal::remove_dialog(id, &mut store.bytes, store.used);
+    let settings = Settings::rust();
+    let answer = prack_removal::remove_dialog(settings, id, &mut store.bytes, store.used);
     store.changed(rt, answer)
 }
 

@@ -1,5 +1,6 @@
 // Responses of a dialog, and their PRACKs.
 use crate::calls::{invited, pending, pracked, register, remove_dialog, remove_pracked, validate};
+use limits::Settings;
 use sheet_lines::Held;
 use std::io;
 
@@ -67,9 +68,16 @@ pub fn eleventh(rt: &impl Print) -> io::Result<()> {
 
 // Ten responses, RSeq 1 to 10, without a line.
 fn ten<const N: usize>(id: &[u8], store: &mut Held<N>) {
+    let settings = Settings::rust();
     for rseq in 1..=10 {
         let response = invited(rseq, 1, 180, 0);
-        if let Ok(n) = prack_validator::register(id, response, &mut store.bytes, store.used) {
+        if let Ok(n) = prack_validator::register(
+            settings,
+            id,
+            response,
+            &mut store.bytes,
+            store.used,
+        ) {
             store.used = n;
         }
     }

@@ -1,3 +1,4 @@
+pub mod Called
 pub mod Demand3
 pub mod PrackCalls
 pub mod RSeqCalls

@@ -5,8 +5,6 @@ use Prim.Native.Nat.{ℕ, ◌<◌}
 use mathlib.Core.Path.{◌≡◌, refl, ap}
 use mathlib.Core.List.{List}
 use lib.ListN.{length}
-use contract.Lifetimes.{Lfts}
-use denote.Ref.{Bor, MutBor}
 use Rattle.std.specs.Prelude.{None, Option, Result, Some}
 use Rattle.std.specs.Option.{option_map}
 use Rattle.limits.specs.Limits.{rust_limits}
@@ -22,11 +20,7 @@ use Rattle.rseq_manager.specs.Answers.{emptiness}
 use Rattle.rseq_entries.proofs.FormLaws.{form_exact, filled}
 use Rattle.rseq_manager.proofs.History.{keeps, never_zero}
 use Rattle.c_answers.specs.Given.{value_after}
-use Rattle.sip_dialog.proofs.rseq.sip_dialog_rseq_next.Reads as next-reads
-use Rattle.sip_dialog.proofs.rseq.sip_dialog_rseq_current.Reads as current-reads
-use Rattle.sip_dialog.proofs.rseq.sip_dialog_rseq_remove.Reads as remove-reads
-use Rattle.sip_dialog.proofs.rseq.sip_dialog_rseq_len.Reads as len-reads
-use Rattle.sip_dialog.proofs.rseq.sip_dialog_rseq_is_empty.Reads as is-empty-reads
+use Rattle.sip_dialog.proofs.Called.{RseqNextCall, RseqCurrentCall, RseqRemoveCall, RseqLenCall, RseqIsEmptyCall}
 
 -- ---- one call
 
@@ -51,48 +45,38 @@ asked n = record { number = None; empty = Some n }
 -- A C function was called: with these bytes lent for the store and this used length it was entered, with those it returned, and this number; beside the store it
 -- was lent this, and left that.
 pub data Served : Call Action → (bytes : List ℕ) (used : ℕ) (after : List ℕ) (left number : ℕ) (given kept : Lent) → Type 0 where
-  by_next : (κs : Lfts 6) (call_id local_tag remote_tag : Bor (List ℕ)) (n : ℕ) (store : MutBor (List ℕ)) (used rseq : MutBor ℕ) (r : ℕ) (call_id' local_tag' remote_tag' : Bor (List ℕ)) (store' : MutBor (List ℕ)) (used' rseq' : MutBor ℕ)
-      → next-reads.Post κs (call_id, (local_tag, (remote_tag, (n, (store, (used, (rseq, tt))))))) r (call_id', (local_tag', (remote_tag', (n, (store', (used', (rseq', tt)))))))
-      → Served (call_on store.now (next (ident call_id.now local_tag.now remote_tag.now) n)) store.now used.now store'.now used'.now r (numbered rseq.now) (numbered rseq'.now)
-  by_current : (κs : Lfts 5) (call_id local_tag remote_tag store : Bor (List ℕ)) (used : ℕ) (rseq : MutBor ℕ) (r : ℕ) (call_id' local_tag' remote_tag' store' : Bor (List ℕ)) (rseq' : MutBor ℕ)
-      → current-reads.Post κs (call_id, (local_tag, (remote_tag, (store, (used, (rseq, tt)))))) r (call_id', (local_tag', (remote_tag', (store', (used, (rseq', tt))))))
-      → Served (call_on store.now (current (ident call_id.now local_tag.now remote_tag.now))) store.now used store.now used r (numbered rseq.now) (numbered rseq'.now)
-  by_remove : (κs : Lfts 5) (call_id local_tag remote_tag : Bor (List ℕ)) (store : MutBor (List ℕ)) (used : MutBor ℕ) (r : ℕ) (call_id' local_tag' remote_tag' : Bor (List ℕ)) (store' : MutBor (List ℕ)) (used' : MutBor ℕ)
-      → remove-reads.Post κs (call_id, (local_tag, (remote_tag, (store, (used, tt))))) r (call_id', (local_tag', (remote_tag', (store', (used', tt)))))
-      → Served (call_on store.now (remove (ident call_id.now local_tag.now remote_tag.now))) store.now used.now store'.now used'.now r nothing nothing
-  by_len : (κs : Lfts 2) (store : Bor (List ℕ)) (used : ℕ) (count : MutBor ℕ) (r : ℕ) (store' : Bor (List ℕ)) (count' : MutBor ℕ)
-      → len-reads.Post κs (store, (used, (count, tt))) r (store', (used, (count', tt)))
-      → Served (call_on store.now len) store.now used store.now used r (numbered count.now) (numbered count'.now)
-  by_is_empty : (κs : Lfts 2) (store : Bor (List ℕ)) (used : ℕ) (empty : MutBor ℕ) (r : ℕ) (store' : Bor (List ℕ)) (empty' : MutBor ℕ)
-      → is-empty-reads.Post κs (store, (used, (empty, tt))) r (store', (used, (empty', tt)))
-      → Served (call_on store.now len) store.now used store.now used r (asked empty.now) (asked empty'.now)
+  by_next : (k : RseqNextCall) → Served (call_on k.store.now (next (ident k.call_id.now k.local_tag.now k.remote_tag.now) k.n)) k.store.now k.used.now k.store'.now k.used'.now k.returned (numbered k.rseq.now) (numbered k.rseq'.now)
+  by_current : (k : RseqCurrentCall) → Served (call_on k.store.now (current (ident k.call_id.now k.local_tag.now k.remote_tag.now))) k.store.now k.used k.store.now k.used k.returned (numbered k.rseq.now) (numbered k.rseq'.now)
+  by_remove : (k : RseqRemoveCall) → Served (call_on k.store.now (remove (ident k.call_id.now k.local_tag.now k.remote_tag.now))) k.store.now k.used.now k.store'.now k.used'.now k.returned nothing nothing
+  by_len : (k : RseqLenCall) → Served (call_on k.store.now len) k.store.now k.used k.store.now k.used k.returned (numbered k.count.now) (numbered k.count'.now)
+  by_is_empty : (k : RseqIsEmptyCall) → Served (call_on k.store.now len) k.store.now k.used k.store.now k.used k.returned (asked k.empty.now) (asked k.empty'.now)
 
 -- each contract says what `ran` leaves of the call, lent all of the bytes
 returns : {c : Call Action} {bytes : List ℕ} {used : ℕ} {after : List ℕ} {left number : ℕ} {given kept : Lent} → Served c bytes used after left number given kept
     → Returns (ran rust_limits c.action bytes used) after left number
-returns (by_next κs call_id local_tag remote_tag n store used rseq r call_id' local_tag' remote_tag' store' used' rseq' p) = p.0
-returns (by_current κs call_id local_tag remote_tag store used rseq r call_id' local_tag' remote_tag' store' rseq' p) = p.0
-returns (by_remove κs call_id local_tag remote_tag store used r call_id' local_tag' remote_tag' store' used' p) = p
-returns (by_len κs store used count r store' count' p) = p.0
-returns (by_is_empty κs store used empty r store' empty' p) = p.0
+returns (by_next k) = k.kept.0
+returns (by_current k) = k.kept.0
+returns (by_remove k) = k.kept
+returns (by_len k) = k.kept.0
+returns (by_is_empty k) = k.kept.0
 
 -- and what its answer leaves of what was lent beside the store
 values : {c : Call Action} {bytes : List ℕ} {used : ℕ} {after : List ℕ} {left number : ℕ} {given kept : Lent} → Served c bytes used after left number given kept
     → kept ≡ lent_after (ran rust_limits c.action bytes used).answer given
-values (by_next κs call_id local_tag remote_tag n store used rseq r call_id' local_tag' remote_tag' store' used' rseq' p) = ap numbered p.1
-values (by_current κs call_id local_tag remote_tag store used rseq r call_id' local_tag' remote_tag' store' rseq' p) = ap numbered p.1
-values (by_remove κs call_id local_tag remote_tag store used r call_id' local_tag' remote_tag' store' used' p) = refl
-values (by_len κs store used count r store' count' p) = ap numbered p.1
-values (by_is_empty κs store used empty r store' empty' p) = ap asked p.1
+values (by_next k) = ap numbered k.kept.1
+values (by_current k) = ap numbered k.kept.1
+values (by_remove k) = refl
+values (by_len k) = ap numbered k.kept.1
+values (by_is_empty k) = ap asked k.kept.1
 
 -- a call is lent the bytes that it is entered with, all of them
 lends_all : {c : Call Action} {bytes : List ℕ} {used : ℕ} {after : List ℕ} {left number : ℕ} {given kept : Lent} → Served c bytes used after left number given kept
     → c.lent ≡ length bytes
-lends_all (by_next κs call_id local_tag remote_tag n store used rseq r call_id' local_tag' remote_tag' store' used' rseq' p) = refl
-lends_all (by_current κs call_id local_tag remote_tag store used rseq r call_id' local_tag' remote_tag' store' rseq' p) = refl
-lends_all (by_remove κs call_id local_tag remote_tag store used r call_id' local_tag' remote_tag' store' used' p) = refl
-lends_all (by_len κs store used count r store' count' p) = refl
-lends_all (by_is_empty κs store used empty r store' empty' p) = refl
+lends_all (by_next k) = refl
+lends_all (by_current k) = refl
+lends_all (by_remove k) = refl
+lends_all (by_len k) = refl
+lends_all (by_is_empty k) = refl
 
 -- ---- every list of calls
 

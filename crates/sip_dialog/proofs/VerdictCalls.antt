@@ -6,8 +6,6 @@ use native.Mathlib.Omega.{arith}
 use mathlib.Core.Path.{◌≡◌, refl, ap, subst, ◌∙◌}
 use mathlib.Core.List.{List, [], ◌∷◌, ◌++◌}
 use lib.ListN.{length, take, drop, length-take}
-use contract.Lifetimes.{Lfts}
-use denote.Ref.{Bor, MutBor}
 use Rattle.std.specs.Prelude.{Err, None, Ok, Option, Result, Some}
 use Rattle.std.specs.Option.{option_map}
 use Rattle.limits.specs.Outcome.{number_in}
@@ -20,8 +18,7 @@ use Rattle.worst_minute.specs.History.{Call, add, ask, answers, World, Left, use
 use Rattle.worst_minute.proofs.HistoryLaws.{stands, follows}
 use Rattle.c_answers.specs.Given.{value_after}
 use Rattle.c_minute_answers.specs.Given.{MinuteNumbers, minute_after}
-use Rattle.sip_dialog.proofs.verdicts.sip_dialog_add_verdict.Reads as add_reads
-use Rattle.sip_dialog.proofs.verdicts.sip_dialog_worst_minute.Reads as worst-reads
+use Rattle.sip_dialog.proofs.Called.{AddVerdictCall, WorstMinuteCall}
 
 -- ---- one call
 
@@ -39,12 +36,8 @@ numbers refusals found start = record { refusals = refusals; found = found; star
 -- A C function was called: with these bytes lent for the run and this used length it was entered, with those it returned, and this number; beside the run it was
 -- lent this, and left that.
 pub data Served : Call → (bytes : List ℕ) (used : ℕ) (after : List ℕ) (left number : ℕ) (given kept : Lent) → Type 0 where
-  by_add : (κs : Lfts 2) (time number : ℕ) (run : MutBor (List ℕ)) (used : MutBor ℕ) (r : ℕ) (run' : MutBor (List ℕ)) (used' : MutBor ℕ)
-      → add_reads.Post κs (time, (number, (run, (used, tt)))) r (time, (number, (run', (used', tt))))
-      → Served (add (length run.now) (record { time = time; number = number })) run.now used.now run'.now used'.now r None None
-  by_ask : (κs : Lfts 4) (run : Bor (List ℕ)) (used : ℕ) (refusals found start : MutBor ℕ) (r : ℕ) (run' : Bor (List ℕ)) (refusals' found' start' : MutBor ℕ)
-      → worst-reads.Post κs (run, (used, (refusals, (found, (start, tt))))) r (run', (used, (refusals', (found', (start', tt)))))
-      → Served (ask (length run.now)) run.now used run.now used r (Some (numbers refusals.now found.now start.now)) (Some (numbers refusals'.now found'.now start'.now))
+  by_add : (k : AddVerdictCall) → Served (add (length k.run.now) (record { time = k.time; number = k.number })) k.run.now k.used.now k.run'.now k.used'.now k.returned None None
+  by_ask : (k : WorstMinuteCall) → Served (ask (length k.run.now)) k.run.now k.used k.run.now k.used k.returned (Some (numbers k.refusals.now k.found.now k.start.now)) (Some (numbers k.refusals'.now k.found'.now k.start'.now))
 
 -- what is handed over of an `add_verdict` is what it comes to
 number_same : (o : Result (List ℕ) Refusal) → number_in (written_from o) ≡ number_in (nothing_asked o)
@@ -65,11 +58,11 @@ pub record Keeps (c : Call) (bytes : List ℕ) (used : ℕ) (after : List ℕ) (
   pub typed : Typed c
 
 contracts : {c : Call} {bytes : List ℕ} {used : ℕ} {after : List ℕ} {left number : ℕ} {given kept : Lent} → Served c bytes used after left number given kept → Keeps c bytes used after left number given kept
-contracts (by_add κs time number run used r run' used' p) =
-    let v : Verdict = record { time = time; number = number } in
-    let o : Result (List ℕ) Refusal = added v run.now used.now in
-    record { bytes_are = p.1.0; used_is = p.0.left_is ∙ used_same o used.now; number_is = p.0.number_is ∙ number_same o; values_are = refl; lends_all = refl; typed = p.1.1 }
-contracts (by_ask κs run used refusals found start r run' refusals' found' start' p) = record { bytes_are = refl; used_is = refl; number_is = p.number_is; values_are = ap Some p.left_is; lends_all = refl; typed = tt }
+contracts (by_add k) =
+    let v : Verdict = record { time = k.time; number = k.number } in
+    let o : Result (List ℕ) Refusal = added v k.run.now k.used.now in
+    record { bytes_are = k.kept.1.0; used_is = k.kept.0.left_is ∙ used_same o k.used.now; number_is = k.kept.0.number_is ∙ number_same o; values_are = refl; lends_all = refl; typed = k.kept.1.1 }
+contracts (by_ask k) = record { bytes_are = refl; used_is = refl; number_is = k.kept.number_is; values_are = ap Some k.kept.left_is; lends_all = refl; typed = tt }
 
 -- ---- every list of calls
 

@@ -1,19 +1,20 @@
 // Reliable provisional responses that wait for their PRACK, in a store of their own, lent with how many of its bytes are used. The numbers that a call is given
 // are of their types.
 ghost use Rattle.std.specs.Prelude.{◌≡◌, length};
-ghost use Rattle.limits.specs.Limits.{rust_limits};
 ghost use Rattle.ordered_store.specs.Run.{Returns};
-ghost use Rattle.prack_validator.specs.Validator.{register, validate, is_pracked, get_pending, remove_dialog, remove_pracked, ran, Typed};
+ghost use Rattle.prack_validator.specs.Validator.{register, validate, is_pracked, get_pending, remove_dialog, remove_pracked, ran_with, Typed};
 ghost use Rattle.prack_validator.specs.Answers.{rack_after, length_after, output_after};
 ghost use Rattle.c_prack_answers.specs.Given.{rack_of, pracked_after};
 
 use c_answers::{give, give_flag, give_with_used};
 use c_prack_answers::give_validated;
+use limits::{Refusal, Settings};
 use prack_list::Provisional;
 
-// PrackValidator::register_reliable_provisional: 1, 28, 3, 18.
+// PrackValidator::register_reliable_provisional: 30, 1, 28, 3, 18.
 // Kept (1): the C header's parameter: C gives a method by its number, and a number that is none is refused.
 pub fn sip_dialog_prack_register(
+    settings: Settings,
     id: &[u8],
     rseq: u32,
     cseq: u32,
@@ -23,9 +24,12 @@ pub fn sip_dialog_prack_register(
     store: &mut [u8],
     used: &mut usize,
 ) -> u8
-    ensures returns { Returns (ran rust_limits (register id.now rseq cseq method code time) store.old used.old) store.new used.new result }
+    ensures returns { Returns (ran_with settings (register id.now rseq cseq method code time) store.old used.old) store.new used.new result }
     ensures typed { Typed (register id.now rseq cseq method code time) }
 {
+    if !settings.in_bounds() {
+        return Refusal::SettingOutOfBounds.number();
+    }
     let response = Provisional {
         rseq,
         cseq,
@@ -33,11 +37,15 @@ pub fn sip_dialog_prack_register(
         code,
         time,
     };
-    give(prack_validator::register(id, response, store, *used), used)
+    give(
+        prack_validator::register(settings, id, response, store, *used),
+        used,
+    )
 }
 
-// PrackValidator::validate_prack: 1, 2, 3, 18, 19 to 24.
+// PrackValidator::validate_prack: 30, 1, 2, 3, 18, 19 to 24.
 pub fn sip_dialog_prack_validate(
+    settings: Settings,
     id: &[u8],
     block: &[u8],
     time: u64,
@@ -47,12 +55,15 @@ pub fn sip_dialog_prack_validate(
     cseq: &mut u32,
     method: &mut u8,
 ) -> u8
-    ensures returns { Returns (ran rust_limits (validate id.now block.now time) store.old used.old) store.new used.new result }
-    ensures method_after { rack_of rseq.new cseq.new method.new ≡ rack_after (ran rust_limits (validate id.now block.now time) store.old used.old).answer (rack_of rseq.old cseq.old method.old) }
+    ensures returns { Returns (ran_with settings (validate id.now block.now time) store.old used.old) store.new used.new result }
+    ensures method_after { rack_of rseq.new cseq.new method.new ≡ rack_after (ran_with settings (validate id.now block.now time) store.old used.old).answer (rack_of rseq.old cseq.old method.old) }
     ensures typed { Typed (validate id.now block.now time) }
 {
+    if !settings.in_bounds() {
+        return Refusal::SettingOutOfBounds.number();
+    }
     give_validated(
-        prack_validator::validate(id, block, time, store, *used),
+        prack_validator::validate(settings, id, block, time, store, *used),
         used,
         rseq,
         cseq,
@@ -60,23 +71,31 @@ pub fn sip_dialog_prack_validate(
     )
 }
 
-// PrackValidator::is_pracked: 1, 3.
+// PrackValidator::is_pracked: 30, 1, 3.
 // Kept (6): the C header's parameters: C lends bytes and says how many are used.
 pub fn sip_dialog_prack_is_pracked(
+    settings: Settings,
     id: &[u8],
     rseq: u32,
     store: &[u8],
     used: usize,
     pracked: &mut u8,
 ) -> u8
-    ensures returns { Returns (ran rust_limits (is_pracked id.now rseq) store.now used) store.now used result }
-    ensures pracked_after { pracked.new ≡ pracked_after (ran rust_limits (is_pracked id.now rseq) store.now used).answer pracked.old }
+    ensures returns { Returns (ran_with settings (is_pracked id.now rseq) store.now used) store.now used result }
+    ensures pracked_after { pracked.new ≡ pracked_after (ran_with settings (is_pracked id.now rseq) store.now used).answer pracked.old }
 {
-    give_flag(prack_validator::is_pracked(id, rseq, store, used), pracked)
+    if !settings.in_bounds() {
+        return Refusal::SettingOutOfBounds.number();
+    }
+    give_flag(
+        prack_validator::is_pracked(settings, id, rseq, store, used),
+        pracked,
+    )
 }
 
-// PrackValidator::get_pending, at the front of the lent output: 1, 3, 18.
+// PrackValidator::get_pending, at the front of the lent output: 30, 1, 3, 18.
 pub fn sip_dialog_prack_get_pending(
+    settings: Settings,
     id: &[u8],
     time: u64,
     store: &mut [u8],
@@ -84,33 +103,54 @@ pub fn sip_dialog_prack_get_pending(
     out: &mut [u8],
     written: &mut usize,
 ) -> u8
-    ensures returns { Returns (ran rust_limits (get_pending id.now time (length out.old)) store.old used.old) store.new used.new result }
-    ensures out_after { out.new ≡ output_after (ran rust_limits (get_pending id.now time (length out.old)) store.old used.old).answer out.old }
-    ensures written_after { written.new ≡ length_after (ran rust_limits (get_pending id.now time (length out.old)) store.old used.old).answer written.old }
+    ensures returns { Returns (ran_with settings (get_pending id.now time (length out.old)) store.old used.old) store.new used.new result }
+    ensures out_after { out.new ≡ output_after (ran_with settings (get_pending id.now time (length out.old)) store.old used.old).answer out.old }
+    ensures written_after { written.new ≡ length_after (ran_with settings (get_pending id.now time (length out.old)) store.old used.old).answer written.old }
     ensures typed { Typed (get_pending id.now time (length out.old)) }
 {
+    if !settings.in_bounds() {
+        return Refusal::SettingOutOfBounds.number();
+    }
     give_with_used(
-        prack_validator::get_pending(id, time, store, *used, out),
+        prack_validator::get_pending(settings, id, time, store, *used, out),
         used,
         written,
     )
 }
 
-// PrackValidator::remove_dialog: 1, 3.
-pub fn sip_dialog_prack_remove_dialog(id: &[u8], store: &mut [u8], used: &mut usize) -> u8
-    ensures { Returns (ran rust_limits (remove_dialog id.now) store.old used.old) store.new used.new result }
+// PrackValidator::remove_dialog: 30, 1, 3.
+pub fn sip_dialog_prack_remove_dialog(
+    settings: Settings,
+    id: &[u8],
+    store: &mut [u8],
+    used: &mut usize,
+) -> u8
+    ensures { Returns (ran_with settings (remove_dialog id.now) store.old used.old) store.new used.new result }
 {
-    give(prack_removal::remove_dialog(id, store, *used), used)
+    if !settings.in_bounds() {
+        return Refusal::SettingOutOfBounds.number();
+    }
+    give(
+        prack_removal::remove_dialog(settings, id, store, *used),
+        used,
+    )
 }
 
-// PrackValidator::remove_pracked: 1, 3.
+// PrackValidator::remove_pracked: 30, 1, 3.
 pub fn sip_dialog_prack_remove_pracked(
+    settings: Settings,
     id: &[u8],
     rseq: u32,
     store: &mut [u8],
     used: &mut usize,
 ) -> u8
-    ensures { Returns (ran rust_limits (remove_pracked id.now rseq) store.old used.old) store.new used.new result }
+    ensures { Returns (ran_with settings (remove_pracked id.now rseq) store.old used.old) store.new used.new result }
 {
-    give(prack_removal::remove_pracked(id, rseq, store, *used), used)
+    if !settings.in_bounds() {
+        return Refusal::SettingOutOfBounds.number();
+    }
+    give(
+        prack_removal::remove_pracked(settings, id, rseq, store, *used),
+        used,
+    )
 }

@@ -1,6 +1,8 @@
 // Readings of a store of records: look-ups, the count, the identifiers and the handover listing.
 ghost use Rattle.std.specs.Prelude.{◌≡◌, length};
 ghost use Rattle.limits.specs.Limits.{rust_limits};
+ghost use Rattle.limits.specs.Outcome.{refuse_by};
+ghost use Rattle.limits.specs.Settings.{settings_cause};
 ghost use Rattle.output.specs.Output.{written_from, leaves};
 ghost use Rattle.listing_lines.specs.Listing.{listing};
 ghost use Rattle.dialog_id.specs.Ident.{ident};
@@ -13,10 +15,12 @@ ghost use Rattle.c_store_answers.specs.Given.{left_by, counting};
 use c_answers::give;
 use c_store_answers::give_place;
 use dialog_id::IdTexts;
+use limits::{Refusal, Settings};
 
-// DialogManager::get: 1, 3, 15.
+// DialogManager::get: 30, 1, 3, 15.
 // Kept (6): the C header's parameters: C lends bytes and says how many are used.
 pub fn sip_dialog_get(
+    settings: Settings,
     call_id: &[u8],
     local_tag: &[u8],
     remote_tag: &[u8],
@@ -25,10 +29,13 @@ pub fn sip_dialog_get(
     place: &mut usize,
     length: &mut usize,
 ) -> u8
-    ensures returns { Returns (left_by (λ n. read n (get (ident call_id.now local_tag.now remote_tag.now))) store.now used) store.now used result }
-    ensures place_after { place.new ≡ place_after (left_by (λ n. read n (get (ident call_id.now local_tag.now remote_tag.now))) store.now used).answer place.old }
-    ensures length_after { length.new ≡ length_after (left_by (λ n. read n (get (ident call_id.now local_tag.now remote_tag.now))) store.now used).answer length.old }
+    ensures returns { Returns (left_by settings (λ n. read n (get (ident call_id.now local_tag.now remote_tag.now))) store.now used) store.now used result }
+    ensures place_after { place.new ≡ place_after (left_by settings (λ n. read n (get (ident call_id.now local_tag.now remote_tag.now))) store.now used).answer place.old }
+    ensures length_after { length.new ≡ length_after (left_by settings (λ n. read n (get (ident call_id.now local_tag.now remote_tag.now))) store.now used).answer length.old }
 {
+    if !settings.in_bounds() {
+        return Refusal::SettingOutOfBounds.number();
+    }
     let id = IdTexts {
         call_id,
         local_tag,
@@ -37,19 +44,23 @@ pub fn sip_dialog_get(
     give_place(dialog_manager::get(id, store, used), place, length)
 }
 
-// DialogManager::find_by_call_id, the first in the store: 1, 3, 15.
+// DialogManager::find_by_call_id, the first in the store: 30, 1, 3, 15.
 // Kept (2, 6): the C header's parameters: C lends bytes and says how many are used.
 pub fn sip_dialog_find_by_call_id(
+    settings: Settings,
     call_id: &[u8],
     store: &[u8],
     used: usize,
     place: &mut usize,
     length: &mut usize,
 ) -> u8
-    ensures returns { Returns (left_by (λ n. read n (find_by_call_id call_id.now)) store.now used) store.now used result }
-    ensures place_after { place.new ≡ place_after (left_by (λ n. read n (find_by_call_id call_id.now)) store.now used).answer place.old }
-    ensures length_after { length.new ≡ length_after (left_by (λ n. read n (find_by_call_id call_id.now)) store.now used).answer length.old }
+    ensures returns { Returns (left_by settings (λ n. read n (find_by_call_id call_id.now)) store.now used) store.now used result }
+    ensures place_after { place.new ≡ place_after (left_by settings (λ n. read n (find_by_call_id call_id.now)) store.now used).answer place.old }
+    ensures length_after { length.new ≡ length_after (left_by settings (λ n. read n (find_by_call_id call_id.now)) store.now used).answer length.old }
 {
+    if !settings.in_bounds() {
+        return Refusal::SettingOutOfBounds.number();
+    }
     give_place(
         dialog_manager::find_by_call_id(call_id, store, used),
         place,
@@ -57,19 +68,23 @@ pub fn sip_dialog_find_by_call_id(
     )
 }
 
-// DialogManager::find_by_request: 1, 2, 3, 15.
+// DialogManager::find_by_request: 30, 1, 2, 3, 15.
 // Kept (2, 6): the C header's parameters: C lends bytes and says how many are used.
 pub fn sip_dialog_find_by_request(
+    settings: Settings,
     block: &[u8],
     store: &[u8],
     used: usize,
     place: &mut usize,
     length: &mut usize,
 ) -> u8
-    ensures returns { Returns (left_by (λ n. read n (find_by_request block.now)) store.now used) store.now used result }
-    ensures place_after { place.new ≡ place_after (left_by (λ n. read n (find_by_request block.now)) store.now used).answer place.old }
-    ensures length_after { length.new ≡ length_after (left_by (λ n. read n (find_by_request block.now)) store.now used).answer length.old }
+    ensures returns { Returns (left_by settings (λ n. read n (find_by_request block.now)) store.now used) store.now used result }
+    ensures place_after { place.new ≡ place_after (left_by settings (λ n. read n (find_by_request block.now)) store.now used).answer place.old }
+    ensures length_after { length.new ≡ length_after (left_by settings (λ n. read n (find_by_request block.now)) store.now used).answer length.old }
 {
+    if !settings.in_bounds() {
+        return Refusal::SettingOutOfBounds.number();
+    }
     give_place(
         dialog_manager::find_by_request(block, store, used),
         place,
@@ -77,29 +92,50 @@ pub fn sip_dialog_find_by_request(
     )
 }
 
-// DialogManager::count: 3.
+// DialogManager::count: 30, 3.
 // Kept (6): the C header's parameters: C lends bytes and says how many are used.
-pub fn sip_dialog_count(store: &[u8], used: usize, count: &mut usize) -> u8
-    ensures returns { Returns (left_by (λ n. read n counting) store.now used) store.now used result }
-    ensures count_after { count.new ≡ number_after (left_by (λ n. read n counting) store.now used).answer count.old }
+pub fn sip_dialog_count(settings: Settings, store: &[u8], used: usize, count: &mut usize) -> u8
+    ensures returns { Returns (left_by settings (λ n. read n counting) store.now used) store.now used result }
+    ensures count_after { count.new ≡ number_after (left_by settings (λ n. read n counting) store.now used).answer count.old }
 {
+    if !settings.in_bounds() {
+        return Refusal::SettingOutOfBounds.number();
+    }
     give(store::count(store, used), count)
 }
 
-// DialogManager::all_ids at the front of the lent bytes: 3, 18.
+// DialogManager::all_ids at the front of the lent bytes: 30, 3, 18.
 // Kept (6): the C header's parameters: C lends bytes and says how many are used.
-pub fn sip_dialog_all_ids(store: &[u8], used: usize, out: &mut [u8], written: &mut usize) -> u8
-    ensures returns { Returns (left_by (λ n. read n (all_ids (length out.old))) store.now used) store.now used result }
-    ensures out_after { out.new ≡ output_after (left_by (λ n. read n (all_ids (length out.old))) store.now used).answer out.old }
-    ensures written_after { written.new ≡ length_after (left_by (λ n. read n (all_ids (length out.old))) store.now used).answer written.old }
+pub fn sip_dialog_all_ids(
+    settings: Settings,
+    store: &[u8],
+    used: usize,
+    out: &mut [u8],
+    written: &mut usize,
+) -> u8
+    ensures returns { Returns (left_by settings (λ n. read n (all_ids (length out.old))) store.now used) store.now used result }
+    ensures out_after { out.new ≡ output_after (left_by settings (λ n. read n (all_ids (length out.old))) store.now used).answer out.old }
+    ensures written_after { written.new ≡ length_after (left_by settings (λ n. read n (all_ids (length out.old))) store.now used).answer written.old }
 {
+    if !settings.in_bounds() {
+        return Refusal::SettingOutOfBounds.number();
+    }
     give(store_ids::all_ids(store, used, out), written)
 }
 
-// The handover listing at the front of the lent bytes: 1, 3, 18.
-pub fn sip_dialog_listing(bytes: &[u8], out: &mut [u8], written: &mut usize) -> u8
-    ensures written_gives { ValueGives (written_from (listing rust_limits bytes.now (length out.old))) written.old result written.new }
-    ensures out_after { out.new ≡ leaves (listing rust_limits bytes.now (length out.old)) out.old }
+// The handover listing at the front of the lent bytes: 30, 1, 3, 18.
+// Kept (2): the C header's parameters, and each function has a clause of its own.
+pub fn sip_dialog_listing(
+    settings: Settings,
+    bytes: &[u8],
+    out: &mut [u8],
+    written: &mut usize,
+) -> u8
+    ensures written_gives { ValueGives (written_from (refuse_by (settings_cause settings) (listing rust_limits bytes.now (length out.old)))) written.old result written.new }
+    ensures out_after { out.new ≡ leaves (refuse_by (settings_cause settings) (listing rust_limits bytes.now (length out.old))) out.old }
 {
+    if !settings.in_bounds() {
+        return Refusal::SettingOutOfBounds.number();
+    }
     give(listing_text::list_store(bytes, out), written)
 }

@@ -9,27 +9,54 @@ ghost use Rattle.c_store_answers.specs.Given.{left_by};
 use c_answers::{give, give_with_least, give_with_used};
 use c_store_answers::give_counted;
 use dialog_id::IdTexts;
+use limits::{Refusal, Settings};
 use msg::{Request, Response};
 
-// DialogManager::insert of one record image, and the created count: 3, 16, 17, 18. An image that is lent is made of bytes.
-pub fn sip_dialog_put(image: &[u8], store: &mut [u8], used: &mut usize, created: &mut u64) -> u8
-    ensures returns { Returns (left_by (λ n. put n image.now) store.old used.old) store.new used.new result }
-    ensures created_after { created.new ≡ count_after (left_by (λ n. put n image.now) store.old used.old).answer created.old }
+// DialogManager::insert of one record image, and the created count: 30, 3, 16, 17, 18. An image that is lent is made of bytes.
+pub fn sip_dialog_put(
+    settings: Settings,
+    image: &[u8],
+    store: &mut [u8],
+    used: &mut usize,
+    created: &mut u64,
+) -> u8
+    ensures returns { Returns (left_by settings (λ n. put n image.now) store.old used.old) store.new used.new result }
+    ensures created_after { created.new ≡ count_after (left_by settings (λ n. put n image.now) store.old used.old).answer created.old }
     ensures all { All (λ b. b < 256) image.now }
 {
-    give_counted(store_puts::put(image, store, *used), used, created)
+    if !settings.in_bounds() {
+        return Refusal::SettingOutOfBounds.number();
+    }
+    give_counted(
+        store_puts::put(settings, image, store, *used),
+        used,
+        created,
+    )
 }
 
-// The request entry: 1, 2, 3, 15, 4, 9; ACK: 11; others: 10, 11, 12; 18.
-pub fn sip_dialog_request(method: &[u8], block: &[u8], store: &mut [u8], used: &mut usize) -> u8
-    ensures { Returns (left_by (λ n. update n (request method.now block.now)) store.old used.old) store.new used.new result }
+// The request entry: 30, 1, 2, 3, 15, 4, 9; ACK: 11; others: 10, 11, 12; 18.
+pub fn sip_dialog_request(
+    settings: Settings,
+    method: &[u8],
+    block: &[u8],
+    store: &mut [u8],
+    used: &mut usize,
+) -> u8
+    ensures { Returns (left_by settings (λ n. update n (request method.now block.now)) store.old used.old) store.new used.new result }
 {
+    if !settings.in_bounds() {
+        return Refusal::SettingOutOfBounds.number();
+    }
     let request = Request { method, block };
-    give(store_requests::request(request, store, *used), used)
+    give(
+        store_requests::request(settings, request, store, *used),
+        used,
+    )
 }
 
-// Dialog::update_from_response of the record of an identifier: 1, 2, 3, 15, 18.
+// Dialog::update_from_response of the record of an identifier: 30, 1, 2, 3, 15, 18.
 pub fn sip_dialog_response(
+    settings: Settings,
     call_id: &[u8],
     local_tag: &[u8],
     remote_tag: &[u8],
@@ -38,8 +65,11 @@ pub fn sip_dialog_response(
     store: &mut [u8],
     used: &mut usize,
 ) -> u8
-    ensures { Returns (left_by (λ n. update n (response (ident call_id.now local_tag.now remote_tag.now) status block.now)) store.old used.old) store.new used.new result }
+    ensures { Returns (left_by settings (λ n. update n (response (ident call_id.now local_tag.now remote_tag.now) status block.now)) store.old used.old) store.new used.new result }
 {
+    if !settings.in_bounds() {
+        return Refusal::SettingOutOfBounds.number();
+    }
     let id = IdTexts {
         call_id,
         local_tag,
@@ -49,17 +79,21 @@ pub fn sip_dialog_response(
     give(store_updates::response(id, response, store, *used), used)
 }
 
-// Dialog::terminate of the record of an identifier: 1, 3, 15.
+// Dialog::terminate of the record of an identifier: 30, 1, 3, 15.
 // Kept (2): the C header's parameters, and each function has a clause of its own.
 pub fn sip_dialog_terminate(
+    settings: Settings,
     call_id: &[u8],
     local_tag: &[u8],
     remote_tag: &[u8],
     store: &mut [u8],
     used: &mut usize,
 ) -> u8
-    ensures { Returns (left_by (λ n. update n (terminate (ident call_id.now local_tag.now remote_tag.now))) store.old used.old) store.new used.new result }
+    ensures { Returns (left_by settings (λ n. update n (terminate (ident call_id.now local_tag.now remote_tag.now))) store.old used.old) store.new used.new result }
 {
+    if !settings.in_bounds() {
+        return Refusal::SettingOutOfBounds.number();
+    }
     let id = IdTexts {
         call_id,
         local_tag,
@@ -68,9 +102,10 @@ pub fn sip_dialog_terminate(
     give(store_updates::terminate(id, store, *used), used)
 }
 
-// Dialog::next_local_cseq of the record of an identifier: 1, 3, 15, 18.
+// Dialog::next_local_cseq of the record of an identifier: 30, 1, 3, 15, 18.
 // Kept (2): the C header's parameters, and each function has a clause of its own.
 pub fn sip_dialog_next_local_cseq(
+    settings: Settings,
     call_id: &[u8],
     local_tag: &[u8],
     remote_tag: &[u8],
@@ -78,9 +113,12 @@ pub fn sip_dialog_next_local_cseq(
     used: &mut usize,
     number: &mut u32,
 ) -> u8
-    ensures returns { Returns (left_by (λ n. update n (local_number (ident call_id.now local_tag.now remote_tag.now))) store.old used.old) store.new used.new result }
-    ensures number_after { number.new ≡ number_after (left_by (λ n. update n (local_number (ident call_id.now local_tag.now remote_tag.now))) store.old used.old).answer number.old }
+    ensures returns { Returns (left_by settings (λ n. update n (local_number (ident call_id.now local_tag.now remote_tag.now))) store.old used.old) store.new used.new result }
+    ensures number_after { number.new ≡ number_after (left_by settings (λ n. update n (local_number (ident call_id.now local_tag.now remote_tag.now))) store.old used.old).answer number.old }
 {
+    if !settings.in_bounds() {
+        return Refusal::SettingOutOfBounds.number();
+    }
     let id = IdTexts {
         call_id,
         local_tag,
@@ -93,9 +131,10 @@ pub fn sip_dialog_next_local_cseq(
     )
 }
 
-// Dialog::set_session_expires of the record of an identifier: 1, 3, 15, 13 with the least, 14, 18.
+// Dialog::set_session_expires of the record of an identifier: 30, 1, 3, 15, 13 with the least, 14, 18.
 // Kept (2): the C header's parameters, and each function has a clause of its own.
 pub fn sip_dialog_set_session_expires(
+    settings: Settings,
     call_id: &[u8],
     local_tag: &[u8],
     remote_tag: &[u8],
@@ -104,9 +143,12 @@ pub fn sip_dialog_set_session_expires(
     used: &mut usize,
     least: &mut u64,
 ) -> u8
-    ensures returns { Returns (left_by (λ n. update n (interval (ident call_id.now local_tag.now remote_tag.now) seconds)) store.old used.old) store.new used.new result }
-    ensures least_after { least.new ≡ least_after (left_by (λ n. update n (interval (ident call_id.now local_tag.now remote_tag.now) seconds)) store.old used.old).answer least.old }
+    ensures returns { Returns (left_by settings (λ n. update n (interval (ident call_id.now local_tag.now remote_tag.now) seconds)) store.old used.old) store.new used.new result }
+    ensures least_after { least.new ≡ least_after (left_by settings (λ n. update n (interval (ident call_id.now local_tag.now remote_tag.now) seconds)) store.old used.old).answer least.old }
 {
+    if !settings.in_bounds() {
+        return Refusal::SettingOutOfBounds.number();
+    }
     let id = IdTexts {
         call_id,
         local_tag,
@@ -119,9 +161,10 @@ pub fn sip_dialog_set_session_expires(
     )
 }
 
-// DialogManager::remove, and the terminated count: 1, 3, 15.
+// DialogManager::remove, and the terminated count: 30, 1, 3, 15.
 // Kept (2): the C header's parameters, and each function has a clause of its own.
 pub fn sip_dialog_remove(
+    settings: Settings,
     call_id: &[u8],
     local_tag: &[u8],
     remote_tag: &[u8],
@@ -129,9 +172,12 @@ pub fn sip_dialog_remove(
     used: &mut usize,
     terminated: &mut u64,
 ) -> u8
-    ensures returns { Returns (left_by (λ n. remove n (ident call_id.now local_tag.now remote_tag.now)) store.old used.old) store.new used.new result }
-    ensures terminated_after { terminated.new ≡ count_after (left_by (λ n. remove n (ident call_id.now local_tag.now remote_tag.now)) store.old used.old).answer terminated.old }
+    ensures returns { Returns (left_by settings (λ n. remove n (ident call_id.now local_tag.now remote_tag.now)) store.old used.old) store.new used.new result }
+    ensures terminated_after { terminated.new ≡ count_after (left_by settings (λ n. remove n (ident call_id.now local_tag.now remote_tag.now)) store.old used.old).answer terminated.old }
 {
+    if !settings.in_bounds() {
+        return Refusal::SettingOutOfBounds.number();
+    }
     let id = IdTexts {
         call_id,
         local_tag,
@@ -140,9 +186,13 @@ pub fn sip_dialog_remove(
     give_counted(store_edits::remove(id, store, *used), used, terminated)
 }
 
-// DialogManager::cleanup_terminated: 3.
-pub fn sip_dialog_sweep(store: &mut [u8], used: &mut usize) -> u8
-    ensures { Returns (left_by (λ n. sweep n) store.old used.old) store.new used.new result }
+// DialogManager::cleanup_terminated: 30, 3.
+// Kept (2): the C header's parameters, and each function has a clause of its own.
+pub fn sip_dialog_sweep(settings: Settings, store: &mut [u8], used: &mut usize) -> u8
+    ensures { Returns (left_by settings (λ n. sweep n) store.old used.old) store.new used.new result }
 {
+    if !settings.in_bounds() {
+        return Refusal::SettingOutOfBounds.number();
+    }
     give(store_edits::sweep(store, *used), used)
 }

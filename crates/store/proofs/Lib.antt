@@ -1,5 +1,4 @@
 pub mod AnswerLaws
 pub mod CountLaws
 pub mod HeldLaws
-pub mod TableLaws
 pub mod WalkLaws

@@ -1,20 +1,18 @@
 -- The reading of a store's records, a record at a time: what a step changes, and what the answer is. Assumes nothing.
 use Prim.Native.Nat.{ℕ, zero, suc, ◌+◌, ◌-◌, ◌≤◌, ◌<◌}
 use native.Mathlib.Omega.{arith}
-use mathlib.Core.Path.{◌≡◌, refl, sym, ap, subst, ◌∙◌}
+use mathlib.Core.Path.{◌≡◌, refl, sym, ap, ◌∙◌}
 use mathlib.Core.List.{List, [], ◌∷◌, ◌++◌, append_assoc, append-nil}
-use lib.ListN.{length, drop, set, length-append, length-drop, drop_of_length-le}
-use lib.Seq.{take-nil}
+use lib.ListN.{length, drop, length-append, length-drop, drop_of_length-le}
 use Rattle.std.specs.Prelude.{None, Option, Some}
-use Rattle.codec.specs.Codec.{Reading, write_all}
+use Rattle.codec.specs.Codec.{Reading}
 use Rattle.record.specs.Record.{Record, image}
-use Rattle.record.specs.Store.{encode_all, record_before, records_in, places_from}
+use Rattle.record.specs.Store.{record_before, records_in}
 use Rattle.codec.proofs.CodecLaws.{Bytes, bytes_drop}
 use Rattle.record.proofs.WellFormedLaws.{image_back}
 use Rattle.image.specs.declared.RecordAt.{RecordAt}
 use Rattle.image.proofs.AnswerLaws.{RecordGot}
-use Rattle.store.specs.Reading.{store_from, whole_records, Tabled}
-use Rattle.store.proofs.TableLaws.{bytes_more, Holds, holds_more, holds_full, holds_all}
+use Rattle.store.specs.Reading.{store_from, whole_records}
 
 -- ---- records of bytes
 
@@ -56,29 +54,24 @@ after_start None = refl
 after_start (Some rs) = refl
 
 -- `at` is the place past the records read so far, `count` their number
-pub record Going (s : List ℕ) (at count : ℕ) (table : List ℕ) : Type 0 where
+pub record Going (s : List ℕ) (at count : ℕ) : Type 0 where
   pub done : List Record
   pub fuel : ℕ
   pub enough : length s - at ≤ fuel
   pub here : at ≤ length s
   pub few : count ≤ at
   pub counted : count ≡ length done
-  pub past : at ≡ length (encode_all done)
-  pub holds : Holds table done
   pub whole : whole_records s ≡ after done (records_in fuel (drop at s))
 
 -- before the first
-pub start : (s table : List ℕ) → Going s 0 0 table
-unfolding places_from write_all
-start s table = record {
+pub start : (s : List ℕ) → Going s 0 0
+start s = record {
   done = [];
   fuel = length s;
   enough = omega arith;
   here = omega arith;
   few = omega arith;
   counted = refl;
-  past = refl;
-  holds = sym (take-nil (length table));
   whole = after_start (records_in (length s) s);
 }
 
@@ -101,7 +94,7 @@ step s at {p} b h g =
     let e : p.end ≡ at + length (image.write g.value) = omega (arith, length-drop at s, length-drop p.end s) in
     record { value = g.value; reads = g.got.reads; ends = e; moves = omega arith; within = w }
 
-module _ (s : List ℕ) (at count : ℕ) (table : List ℕ) (g : Going s at count table) (h : at < length s) where
+module _ (s : List ℕ) (at count : ℕ) (g : Going s at count) (h : at < length s) where
   -- there are bytes left
   filled : 0 < length (drop at s)
   filled = omega (arith, length-drop at s)
@@ -111,47 +104,24 @@ module _ (s : List ℕ) (at count : ℕ) (table : List ℕ) (g : Going s at coun
   broken e = g.whole ∙ ap (after g.done) (records_broken g.fuel (drop at s) filled e)
 
   module _ (p : RecordAt) (r : Step s at p) where
-    -- one record more, with a table that holds its place or has no room for it
-    next : (more : List ℕ) → Holds more (g.done ++ (r.value ∷ [])) → Going s p.end (count + 1) more
-    next more k = record {
+    -- one record more
+    pub next : Going s p.end (count + 1)
+    next = record {
       done = g.done ++ (r.value ∷ []);
       fuel = g.fuel - 1;
       enough = omega (arith, g.enough, r.moves);
       here = r.within;
       few = omega (arith, g.few, r.moves);
       counted = omega (arith, g.counted, length-append g.done (r.value ∷ []));
-      past = omega (arith, g.past, r.ends, bytes_more g.done r.value);
-      holds = k;
       whole = g.whole
           ∙ ap (after g.done) (records_next g.fuel (drop at s) (record { value = r.value; rest = drop p.end s }) filled (omega (arith, g.enough, length-drop at s)) r.reads)
           ∙ after_next g.done r.value (records_in (g.fuel - 1) (drop p.end s));
     }
 
-    -- its place goes into the table
-    pub stored : count < length table → Going s p.end (count + 1) (set table count at)
-    stored l = next (set table count at) (subst (λ (n : ℕ). Holds (set table n at) (g.done ++ (r.value ∷ []))) (sym g.counted) (holds_more table g.done r.value g.holds at g.past (omega (arith, g.counted))))
-
-    -- the table is full
-    pub full : length table ≤ count → Going s p.end (count + 1) table
-    full l = next table (holds_full table g.done r.value g.holds (omega (arith, g.counted)))
-
 -- ---- the answer
 
--- all bytes are read
-pub ended : (s : List ℕ) (at count : ℕ) (table : List ℕ) (g : Going s at count table) → length s ≤ at → whole_records s ≡ Some g.done
-ended s at count table g h = g.whole ∙ ap (λ (t : List ℕ). after g.done (records_in g.fuel t)) (drop_of_length-le s h) ∙ ap (after g.done) (records_end g.fuel) ∙ ap Some (append-nil g.done)
-
--- the count is that of the records
-pub ended_count : (s : List ℕ) (at count : ℕ) (table : List ℕ) → Going s at count table → length s ≤ at → Some count ≡ store_from (whole_records s)
-ended_count s at count table g h = ap Some g.counted ∙ ap store_from (sym (ended s at count table g h))
-
--- the table has their places
-pub ended_table : (s : List ℕ) (at count : ℕ) (table : List ℕ) → Going s at count table → length s ≤ at → Tabled s table
-ended_table s at count table g h rs e l =
-    let f : Some g.done ≡ Some rs = sym (ended s at count table g h) ∙ e in
-    let q : g.done ≡ rs = cc in
-    holds_all table rs (subst (Holds table) q g.holds) l
-
--- nothing is asked of the table where the bytes aren't whole records
-pub broken_table : (s table : List ℕ) → whole_records s ≡ None → Tabled s table
-broken_table s table e rs q l = absurd (let z : ◌≡◌ {A = ℕ} 0 1 = cc in omega arith)
+-- all bytes are read: the count is that of the records
+pub ended_count : (s : List ℕ) (at count : ℕ) → Going s at count → length s ≤ at → Some count ≡ store_from (whole_records s)
+ended_count s at count g h =
+    let e : whole_records s ≡ Some g.done = g.whole ∙ ap (λ (t : List ℕ). after g.done (records_in g.fuel t)) (drop_of_length-le s h) ∙ ap (after g.done) (records_end g.fuel) ∙ ap Some (append-nil g.done) in
+    ap Some g.counted ∙ ap store_from (sym e)

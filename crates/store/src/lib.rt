@@ -1,10 +1,11 @@
 // The used bytes of a store: whole records one after another, each with an identifier of its own (document 01, "Record image").
 #![tactic(auto)]
 
-ghost use Rattle.std.specs.Prelude.{◌≡◌, ◌≤◌, length};
+ghost use Rattle.std.specs.Prelude.{◌≡◌, ◌≤◌, ◌<◌};
 ghost use Rattle.record.specs.Store.{decode_all};
+ghost use Rattle.distinct.specs.Distinct.{Whole, is_distinct};
 ghost use Rattle.store.specs.Counting.{records_held, count_answer, ReadAs};
-ghost use Rattle.store.specs.Reading.{store_from, whole_records, Tabled};
+ghost use Rattle.store.specs.Reading.{store_from, whole_records};
 
 use limits::Refusal;
 
@@ -13,11 +14,6 @@ mod ids;
 
 pub use held::Held;
 pub use ids::ids_at;
-
-// A store of at most so many bytes is read with a smaller table, which costs less to clear. An image has at least 24 bytes.
-const SMALL_STORE: usize = 4096;
-
-const MIDDLE_STORE: usize = 65536;
 
 // DialogManager::count, of lent bytes of which so many are used: 3.
 // Kept (5, 6): C says how many of the lent bytes are used, perhaps too many: 3, in its turn among the causes; so both are taken as given.
@@ -44,46 +40,38 @@ pub fn read<'a>(bytes: &'a [u8], used: usize) -> Result<Held<'a>, Refusal>
 pub fn read_store(bytes: &[u8]) -> Option<usize>
     ensures { result ≡ store_from (decode_all bytes.now) }
 {
-    if bytes.len() <= SMALL_STORE {
-        return read_in::<176>(bytes);
-    }
-    if bytes.len() <= MIDDLE_STORE {
-        return read_in::<2736>(bytes);
-    }
-    read_in::<16384>(bytes)
+    let count = read_records(bytes)?;
+    is_distinct(bytes, count).then_some(count)
 }
 
-// The same, with tables for the places of N records.
-// Kept (6): the sort of `distinct` needs a second table to merge into, and one struct of both would be made and taken apart here.
-fn read_in<const N: usize>(bytes: &[u8]) -> Option<usize>
-    requires { N ≤ 16384 }
-    ensures { result ≡ store_from (decode_all bytes.now) }
+// Whether the records have identifiers of their own. Tables for the places of few of them at a time cost less to clear, and tables for more save runs.
+// Kept (4): each size costs at most 10,000 instructions more to clear than the one before it, but for the last, where the records themselves cost 15,000,000.
+fn is_distinct(bytes: &[u8], count: usize) -> bool
+    requires { Whole bytes.now }
+    ensures { result ≡ is_distinct bytes.now }
 {
-    let mut places = [0usize; N];
-    let mut scratch = [0usize; N];
-    read_with(bytes, &mut places, &mut scratch)
+    match count {
+        0..=160 => is_distinct_in::<160>(bytes),
+        161..=1200 => is_distinct_in::<1200>(bytes),
+        1201..=5000 => is_distinct_in::<2400>(bytes),
+        _ => is_distinct_in::<5120>(bytes),
+    }
 }
 
-// The same, with tables for the places of the records; a store with more records than they hold is compared pair by pair.
-// Kept (5, 6): no heap: the caller lends both tables; a struct of the two would be made for this call, and anew where both are cut to the count.
-fn read_with(bytes: &[u8], places: &mut [usize], scratch: &mut [usize]) -> Option<usize>
-    requires { length scratch.old ≡ length places.old }
-    ensures { result ≡ store_from (decode_all bytes.now) }
+// The same, with tables for the places of N records at a time.
+fn is_distinct_in<const N: usize>(bytes: &[u8]) -> bool
+    requires whole { Whole bytes.now }
+    requires size { (0 < N) × (N ≤ 5120) }
+    ensures { result ≡ is_distinct bytes.now }
 {
-    let count = read_records(bytes, places)?;
-    let unique = if places.len() < count {
-        distinct::is_distinct_by_pairs(bytes)
-    } else {
-        distinct::is_distinct(bytes, &mut places[..count], &mut scratch[..count])
-    };
-    unique.then_some(count)
+    let mut places = [0u32; N];
+    let mut scratch = [0u32; N];
+    distinct::is_distinct(bytes, &mut places, &mut scratch)
 }
 
-// The records from the front to the end, identifiers not compared; the places of as many as the table holds.
-// Kept (5, 6): no heap: the caller lends the table, which may hold fewer places than there are records, so that the count is answered beside it.
-fn read_records(bytes: &[u8], places: &mut [usize]) -> Option<usize>
-    ensures value { result ≡ store_from (whole_records bytes.now) }
-    ensures tabled { Tabled bytes.now places.new }
+// The records from the front to the end, identifiers not compared.
+fn read_records(bytes: &[u8]) -> Option<usize>
+    ensures { result ≡ store_from (whole_records bytes.now) }
 {
     let mut at = 0;
     let mut count = 0;
@@ -91,9 +79,6 @@ fn read_records(bytes: &[u8], places: &mut [usize]) -> Option<usize>
     // read: a struct, a relation and its words for it alone.
     while at < bytes.len() {
         let r = image::read_record(bytes, at)?;
-        if count < places.len() {
-            places[count] = at;
-        }
         count += 1;
         at = r.end;
     }

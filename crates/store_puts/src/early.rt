@@ -1,6 +1,6 @@
 // The Early records of a Call-ID in the used bytes of a store that was read.
 ghost use Rattle.std.specs.Prelude.{◌≡◌, ◌<◌, length};
-ghost use Rattle.limits.specs.Limits.{rust_limits};
+ghost use Rattle.limits.specs.Settings.{limits_in};
 ghost use Rattle.record.specs.NumbersForm.{state_in};
 ghost use Rattle.dialog_id.specs.IdTexts.{ident_of};
 ghost use Rattle.record.specs.Store.{decode_all};
@@ -10,16 +10,16 @@ ghost use Rattle.store_puts.specs.Puts.{crowded_in, early_others, state_at, earl
 
 use dialog_id::IdTexts;
 use image::IdsAt;
-use limits::Limits;
+use limits::Settings;
 use record::State;
 use store::{Held, ids_at};
 
 // 17: the state is Early, and so many other Early records have this Call-ID.
 // Kept (5): what is looked for, and the store it is looked for in: each is used with others too.
-pub fn is_crowded(state: State, held: Held<'_>, id: IdTexts<'_>) -> bool
-    ensures { result ≡ crowded_in rust_limits (state_in state) (ident_of id.entry) (decode_all held.entry.bytes.now) }
+pub fn is_crowded(settings: Settings, state: State, held: Held<'_>, id: IdTexts<'_>) -> bool
+    ensures { result ≡ crowded_in (limits_in settings) (state_in state) (ident_of id.entry) (decode_all held.entry.bytes.now) }
 {
-    is_early(state) && Limits::MAX_EARLY_DIALOGS_PER_CALL_ID <= early_others(held, id)
+    is_early(state) && settings.early_cap as usize <= early_others(held, id)
 }
 
 // How many Early records have this Call-ID and another identifier.

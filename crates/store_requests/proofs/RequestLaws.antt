@@ -5,7 +5,8 @@ use mathlib.Core.Bool.{true, false}
 use mathlib.Core.List.{List}
 use lib.ListN.{length, take}
 use Rattle.std.specs.Prelude.{Err, None, Ok, Option, Result, Some}
-use Rattle.limits.specs.Limits.{rust_limits}
+use Rattle.limits.specs.Settings.{limits_in}
+use Rattle.limits.specs.declared.settings.Settings.{Settings}
 use Rattle.limits.specs.Outcome.{check_of}
 use Rattle.limits.specs.declared.Refusal.{Refusal}
 use Rattle.limits.specs.declared.Refusal.TheVariants.{TextTooLong}
@@ -25,7 +26,8 @@ use Rattle.dialog_id.specs.Ident.{Ident, ident}
 use Rattle.book.specs.Calls.{request}
 use Rattle.book.specs.Book.{named_in, update_cause, revised}
 use Rattle.store_entries.specs.Entries.{spot_named, standing_of}
-use Rattle.store_entries.proofs.EntryLaws.{permitted, Done, arguments_done, turned, step_done, unnamed, never_at, not_named}
+use Rattle.book.proofs.SettingLaws.{limits_permitted}
+use Rattle.store_entries.proofs.EntryLaws.{Done, arguments_done, turned, step_done, unnamed, never_at, not_named}
 
 -- ---- the identifier that a request names
 
@@ -40,22 +42,22 @@ named_none block e = rw e
 
 -- ---- the ways out
 
-module _ (method block bytes : List ℕ) (used : ℕ) where
+module _ (s : Settings) (method block bytes : List ℕ) (used : ℕ) where
   abbrev pub Heard : Result ℕ Refusal → List ℕ → Type 0
-  Heard r after = Done rust_limits permitted (request method block) bytes used r after
+  Heard r after = Done (limits_in s) (limits_permitted s) (request method block) bytes used r after
 
   -- 1 of the method, then 1 and 2 of the block
-  pub request_long : too_long rust_limits method ≡ true → Heard (Err TextTooLong) bytes
+  pub request_long : too_long (limits_in s) method ≡ true → Heard (Err TextTooLong) bytes
   unfolding update_cause
-  request_long e = arguments_done rust_limits permitted (request method block) bytes used (rw e)
+  request_long e = arguments_done (limits_in s) (limits_permitted s) (request method block) bytes used (rw e)
 
-  module _ (short : too_long rust_limits method ≡ false) where
-    pub request_bad : {cause : Refusal} → check_of (block_cause rust_limits block) ≡ Err cause → Heard (Err cause) bytes
+  module _ (short : too_long (limits_in s) method ≡ false) where
+    pub request_bad : {cause : Refusal} → check_of (block_cause (limits_in s) block) ≡ Err cause → Heard (Err cause) bytes
     unfolding update_cause
-    request_bad e = arguments_done rust_limits permitted (request method block) bytes used (rw short (stopped (block_cause rust_limits block) e))
+    request_bad e = arguments_done (limits_in s) (limits_permitted s) (request method block) bytes used (rw short (stopped (block_cause (limits_in s) block) e))
 
-    module _ (good : block_cause rust_limits block ≡ None) where
-      request_clear : update_cause rust_limits (request method block) ≡ None
+    module _ (good : block_cause (limits_in s) block ≡ None) where
+      request_clear : update_cause (limits_in s) (request method block) ≡ None
       unfolding update_cause
       request_clear = rw (short, good)
 
@@ -64,17 +66,17 @@ module _ (method block bytes : List ℕ) (used : ℕ) where
       request_turned {cause} e = by (named_in block) refl e
         where
           by : (o : Option Ident) → named_in block ≡ o → Err cause ≡ standing_of used (spot_named o bytes used) → Heard (Err cause) bytes
-          by None n e = unnamed rust_limits permitted (request method block) bytes used request_clear n (not_named None bytes used e)
-          by (Some i) n e = turned rust_limits permitted (request method block) bytes used request_clear i n (not_named (Some i) bytes used e)
+          by None n e = unnamed (limits_in s) (limits_permitted s) (request method block) bytes used request_clear n (not_named None bytes used e)
+          by (Some i) n e = turned (limits_in s) (limits_permitted s) (request method block) bytes used request_clear i n (not_named (Some i) bytes used e)
 
       -- the step on the record
       pub request_done : Bytes bytes → (q : RecordPlace) → Ok q ≡ standing_of used (spot_named (named_in block) bytes used) → (r : Result ℕ Refusal) (after : List ℕ)
-          → (r ≡ written_from (stepped (request_update rust_limits (kind_of method) block) (length bytes) q.at (take q.used bytes)))
-          × (after ≡ leaves (stepped (request_update rust_limits (kind_of method) block) (length bytes) q.at (take q.used bytes)) bytes)
+          → (r ≡ written_from (stepped (request_update (limits_in s) (kind_of method) block) (length bytes) q.at (take q.used bytes)))
+          × (after ≡ leaves (stepped (request_update (limits_in s) (kind_of method) block) (length bytes) q.at (take q.used bytes)) bytes)
           → Heard r after
       unfolding revised
       request_done h q e r after w = by (named_in block) refl e
         where
           by : (o : Option Ident) → named_in block ≡ o → Ok q ≡ standing_of used (spot_named o bytes used) → Heard r after
           by None n e = never_at bytes used e
-          by (Some i) n e = step_done rust_limits permitted (request method block) bytes used request_clear i n h q e r after w
+          by (Some i) n e = step_done (limits_in s) (limits_permitted s) (request method block) bytes used request_clear i n h q e r after w

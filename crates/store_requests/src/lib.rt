@@ -2,7 +2,7 @@
 #![tactic(auto)]
 
 ghost use Rattle.std.specs.Prelude.{◌≡◌, None};
-ghost use Rattle.limits.specs.Limits.{rust_limits};
+ghost use Rattle.limits.specs.Settings.{limits_in};
 ghost use Rattle.msg.specs.Block.{lines_of};
 ghost use Rattle.msg.specs.Table.{table_of};
 ghost use Rattle.book.specs.Book.{named_in};
@@ -12,23 +12,28 @@ ghost use Rattle.store_entries.specs.Entries.{used_after, requesting, spot_named
 use dialog_id::request_id_in;
 use dialog_requests::request_by;
 use image_edit::RecordPlace;
-use limits::Refusal;
+use limits::{Refusal, Settings};
 use msg::{HeaderTable, Request};
 use store_entries::locate;
 
-// The request entry: 1, 2, 3, 15, 4, 9; ACK: 11; others: 10, 11, 12; 18. The record that the block names is changed as by Dialog::update_from_request.
+// The request entry: 1, 2, 3, 15, 4, 9; ACK: 11; others: 10, 11, 12; 18. The settings are taken as they are: 30 is the C function's. The record that the block names is changed as by Dialog::update_from_request.
 // Kept (5, 6): C says how many of the lent bytes are used, perhaps too many: 3, in its turn among the causes; so both are taken as given.
-pub fn request(request: Request<'_>, bytes: &mut [u8], used: usize) -> Result<usize, Refusal>
-    ensures value { result ≡ written_in (requesting rust_limits request.entry.method.now request.entry.block.now bytes.old used) }
-    ensures bytes_after { bytes.new ≡ (requesting rust_limits request.entry.method.now request.entry.block.now bytes.old used).bytes }
-    ensures used_value { used_after result used ≡ (requesting rust_limits request.entry.method.now request.entry.block.now bytes.old used).used }
+pub fn request(
+    settings: Settings,
+    request: Request<'_>,
+    bytes: &mut [u8],
+    used: usize,
+) -> Result<usize, Refusal>
+    ensures value { result ≡ written_in (requesting (limits_in settings) request.entry.method.now request.entry.block.now bytes.old used) }
+    ensures bytes_after { bytes.new ≡ (requesting (limits_in settings) request.entry.method.now request.entry.block.now bytes.old used).bytes }
+    ensures used_value { used_after result used ≡ (requesting (limits_in settings) request.entry.method.now request.entry.block.now bytes.old used).used }
 {
     text::check_length(request.method)?;
     let t = msg::read_headers(request.block)?;
     let cseq = t.cseq;
     let contact = t.contact;
     let p = locate_named(bytes, used, request.block, t)?;
-    request_by(bytes, p, request, cseq, contact)
+    request_by(settings, bytes, p, request, cseq, contact)
 }
 
 // By the identifier that a block names, if it names one: 3, 15. A request from the peer has From as remote tag.

@@ -1,4 +1,5 @@
-//! The whole run: what the six parts compare, and then mixed lists until the calls are as many as were asked for.
+//! The whole run: what the six parts compare, then mixed lists until the calls are as many as were asked for; and besides, calls at
+//! other sites.
 
 use crate::dialogs;
 use crate::mixed;
@@ -8,6 +9,7 @@ use crate::progress;
 use crate::random::Random;
 use crate::rseq::{self, call::RSeqs};
 use crate::run::Feed;
+use crate::settings::{self, Elsewhere};
 use crate::store;
 use crate::store::dialogs::Dialogs;
 use crate::store::kind::Kind;
@@ -31,10 +33,11 @@ const CALLS_PER_LIST: u64 = 1250;
 /// There are at least so many mixed lists.
 const LEAST_LISTS: usize = 500;
 
-/// Compares at least so many calls; the last mixed list is gone through to its end. The fault of that name is put in.
-pub fn compare_all(calls: u64, seed: u64, planted: &str) -> Everything {
+/// Compares at least so many calls; the last mixed list is gone through to its end. What is compared at other sites comes besides, for
+/// which there are as many random calls and lists. The fault of that name is put in.
+pub fn compare_all(calls: u64, seed: u64, planted: &str) -> (Everything, Elsewhere) {
     let random_calls = (calls / CALLS_PER_RANDOM_CALL) as usize;
-    let lists = (calls / CALLS_PER_LIST) as usize;
+    let lists = self::lists(calls);
     let is_planted = |name: &str| name == planted;
     progress::begin(calls);
     progress::part("blocks, values, texts and numbers");
@@ -64,8 +67,15 @@ pub fn compare_all(calls: u64, seed: u64, planted: &str) -> Everything {
         mixed::list(&mut everything, &mut random);
         lists += 1;
     }
+    progress::part("other settings than the Rust's");
+    let elsewhere = settings::compare_all(random_calls, self::lists(calls), seed, planted);
     progress::end();
-    everything
+    (everything, elsewhere)
+}
+
+/// How many lists each kind of store has.
+fn lists(calls: u64) -> usize {
+    (calls / CALLS_PER_LIST) as usize
 }
 
 /// The faults of that name, of a kind of store alone and of mixed lists.

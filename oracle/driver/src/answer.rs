@@ -1,5 +1,7 @@
 //! What an operation is given and what it answers, in one form for both sides.
 
+use port::Settings;
+
 /// The width of an out number; a `size_t` has 64 bits.
 #[derive(Debug, Clone, Copy, PartialEq, Eq)]
 pub enum Width {
@@ -12,11 +14,12 @@ pub enum Width {
 /// An out number: its name and width.
 pub type Out = (&'static str, Width);
 
-/// A call's arguments: byte runs and numbers. Those that an operation doesn't have are empty and 0.
+/// A call's arguments: byte runs, numbers, and the site's settings. Those that an operation doesn't have are empty, 0 and the Rust's.
 #[derive(Debug, Clone, Copy, Default)]
 pub struct Input<'a> {
     pub texts: [&'a [u8]; 5],
     pub numbers: [u64; 6],
+    pub settings: Settings,
 }
 
 impl<'a> Input<'a> {

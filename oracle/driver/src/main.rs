@@ -8,6 +8,7 @@
 //!     driver rseq [--calls N] [--seed S]       the same for N lists of calls on an RSeq store
 //!     driver prack [--calls N] [--seed S]      the same for N lists of calls on a PRACK store
 //!     driver verdicts [--calls N] [--seed S]   the same for N lists of calls on a run of verdicts, against the run's own count
+//!     driver settings [--calls N] [--seed S]   the same for other settings than the Rust's, against the run's own rules
 //!     driver planted [--calls N] [--seed S]    plants faults, fails if any goes unreported or if a C function has none
 //!     driver differences                       runs the inputs of docs/DIFFERENCES.md on both sides, fails if an answer is another
 //!     driver record                            writes the list of recorded answers that the program replay runs
@@ -36,6 +37,7 @@ mod report;
 mod rseq;
 mod rules;
 mod run;
+mod settings;
 mod store;
 mod tags;
 mod texts;
@@ -45,7 +47,7 @@ mod verdicts;
 use std::process::ExitCode;
 
 const USAGE: &str =
-    "use: driver all|leaves|dialogs|store|rseq|prack|verdicts|planted [--calls N] [--seed S], driver differences|bench|record";
+    "use: driver all|leaves|dialogs|store|rseq|prack|verdicts|settings|planted [--calls N] [--seed S], driver differences|bench|record";
 
 /// How many calls (or lists of calls) where --calls doesn't say it, and how many in all for `all`.
 const CALLS: usize = 20_000;
@@ -79,6 +81,7 @@ fn main() -> ExitCode {
         "rseq" => report::rseq(calls, options.seed),
         "prack" => report::prack(calls, options.seed),
         "verdicts" => report::verdicts(calls, options.seed),
+        "settings" => report::settings(calls, options.seed),
         "planted" => report::planted(calls, options.seed),
         "differences" => differences::run(),
         "record" => record::run(),

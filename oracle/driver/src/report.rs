@@ -8,7 +8,10 @@ use crate::mixed;
 use crate::operations;
 use crate::prack;
 use crate::rseq;
-use crate::run::{self, row_name, Entry, Feed, Operation, Tally, LEAST_CALLS, LEAST_IN_ROW, LEAST_LONGEST};
+use crate::run::{
+    self, compare_each, row_name, Entry, Feed, Operation, Tally, LEAST_CALLS, LEAST_IN_ROW, LEAST_LONGEST,
+};
+use crate::settings::{self, Elsewhere};
 use crate::store;
 use crate::store::kind::Kind;
 use crate::store::run::{each_fault, faults_named, Fault, Run};
@@ -28,11 +31,15 @@ pub fn all(calls: u64, seed: u64) -> bool {
         faults_of(mixed::RECORD_FAULTS),
         faults_of(mixed::RSEQ_FAULTS),
         faults_of(mixed::PRACK_FAULTS),
+        names_of(&settings::operations(), settings::IMAGE_FAULTS),
+        faults_of(settings::RECORD_FAULTS),
+        faults_of(settings::PRACK_FAULTS),
     ];
     let shown = contest::brute_force(seed);
     let same = verdict(&names.concat(), |planted, table| {
-        let everything = all::compare_all(calls, seed, planted);
+        let (everything, elsewhere) = all::compare_all(calls, seed, planted);
         table.add_everything(everything);
+        table.add_elsewhere(elsewhere);
     });
     shown && same
 }
@@ -89,6 +96,18 @@ pub fn verdicts(lists: usize, seed: u64) -> bool {
     })
 }
 
+/// The same at other sites: each operation without a store with so many random calls, and a tenth as many random lists of each kind.
+pub fn settings(calls: usize, seed: u64) -> bool {
+    let names = [
+        names_of(&settings::operations(), settings::IMAGE_FAULTS),
+        faults_of(settings::RECORD_FAULTS),
+        faults_of(settings::PRACK_FAULTS),
+    ];
+    verdict(&names.concat(), |planted, table| {
+        table.add_elsewhere(settings::compare_all(calls, calls / 10, seed, planted));
+    })
+}
+
 /// Fills the table, with the one of these faults put in that PLANTED names, and prints its end.
 fn verdict(names: &[&str], fill: impl FnOnce(&str, &mut Table)) -> bool {
     let Some(planted) = planted_name(names) else {
@@ -134,6 +153,13 @@ impl Table {
         self.add_run(everything.verdicts);
     }
 
+    /// Takes all counts at other sites.
+    fn add_elsewhere(&mut self, elsewhere: Elsewhere) {
+        self.add_feeds(elsewhere.feeds);
+        self.add_run(elsewhere.records);
+        self.add_run(elsewhere.pracks);
+    }
+
     /// Takes the counts of operations without a store.
     fn add_feeds(&mut self, feeds: Vec<Feed<'static>>) {
         let counted = feeds.into_iter().map(Feed::finish);
@@ -144,10 +170,11 @@ impl Table {
     /// Takes the counts of a kind of store; where a fault is put into an operation, they are those with the fault.
     fn add_run<K: Kind>(&mut self, run: Run<K>) {
         let (tallies, mut faults) = run.finish();
-        for (operation, own) in K::OPERATIONS.iter().zip(tallies) {
-            let of_fault = faults.iter().position(|(fault, _)| fault.operation == operation.name);
+        for (operation, own) in tallies {
+            let function = function_of(operation.name);
+            let of_fault = faults.iter().position(|(fault, _)| fault.operation == function);
             let tally = of_fault.map_or(own, |at| faults.remove(at).1);
-            self.0.push((*operation, tally));
+            self.0.push((operation, tally));
         }
     }
 
@@ -284,6 +311,7 @@ pub fn planted(calls: usize, seed: u64) -> bool {
     faults.extend(planted_run(mixed.records));
     faults.extend(planted_run(mixed.rseqs));
     faults.extend(planted_run(mixed.pracks));
+    faults.extend(planted_settings(calls, seed));
     let reported: Vec<_> = faults.iter().filter(|fault| fault.reported).collect();
     let unreported = faults.iter().filter(|fault| !fault.reported);
     let unreported: Vec<&str> = unreported.map(|fault| fault.name).collect();
@@ -300,6 +328,19 @@ pub fn planted(calls: usize, seed: u64) -> bool {
         without.len()
     );
     unreported.is_empty() && without.is_empty()
+}
+
+/// The same for the faults at other sites.
+fn planted_settings(calls: usize, seed: u64) -> Vec<Planted> {
+    let mut faults = planted_feeds(compare_each(settings::operations(), &[], calls, seed, |_| true));
+    let operations = settings::operations();
+    faults.extend(planted_others(&operations, settings::IMAGE_FAULTS, calls, seed));
+    let lists = calls / CALLS_PER_LIST;
+    let records = settings::compare_records(lists, seed, &each_fault(settings::RECORD_FAULTS));
+    let pracks = settings::compare_pracks(lists, seed, &each_fault(settings::PRACK_FAULTS));
+    faults.extend(planted_run(records));
+    faults.extend(planted_run(pracks));
+    faults
 }
 
 /// What became of a fault.
@@ -353,13 +394,16 @@ fn print_fault(operation: &'static str, name: &'static str, fault: &str, tally: 
 
 /// The C functions that no fault is planted in.
 fn functions_without(faults: &[Planted]) -> Vec<&'static str> {
-    // `next_header, to the end` is a list of calls of `next_header`.
-    let function = |fault: &Planted| fault.operation.split(',').next().expect("a name");
-    let with: BTreeSet<&str> = faults.iter().map(function).collect();
+    let with: BTreeSet<&str> = faults.iter().map(|fault| function_of(fault.operation)).collect();
     c_functions()
         .into_iter()
         .filter(|function| !with.contains(function))
         .collect()
+}
+
+/// The C function of an operation: `next_header, to the end` is a list of calls of `next_header`, and `get, any settings` is `get`.
+fn function_of(operation: &str) -> &str {
+    operation.split(',').next().expect("a name")
 }
 
 /// The functions that the C header declares, without their prefix.

@@ -11,8 +11,8 @@ pub const LISTING: &str = "listing";
 
 /// The longest text that an operation reads.
 pub fn longest_of(operation: &str) -> usize {
-    match operation {
-        LISTING => LONGEST_LISTED,
+    match operation.split(',').next() {
+        Some(LISTING) => LONGEST_LISTED,
         _ => LONGEST,
     }
 }

@@ -5,6 +5,7 @@ use crate::progress;
 use crate::random::Random;
 use crate::record;
 use crate::rules::longest_of;
+use crate::settings;
 use std::collections::BTreeMap;
 
 /// One operation of the port, and what it is held against.
@@ -121,6 +122,8 @@ pub struct Feed<'a> {
     planted: Option<Distort>,
     turn: usize,
     tally: Tally,
+    /// At other sites: from where the settings of a call come.
+    others: Option<Random>,
 }
 
 /// Compares each operation with calls of its own. `planted` says which have their fault put in, or one of `faults`.
@@ -163,6 +166,7 @@ impl<'a> Feed<'a> {
             planted,
             turn: 0,
             tally: Tally::default(),
+            others: settings::is_elsewhere(operation.name).then(|| Random::new(seed, "settings")),
         }
     }
 
@@ -179,11 +183,18 @@ impl<'a> Feed<'a> {
     /// Compares one call and gives what the port itself answered, without a planted fault.
     pub fn compare_and_go_on(&mut self, input: &Input) -> Answer {
         let operation = self.operation;
+        let input = &match &mut self.others {
+            None => *input,
+            Some(random) => settings::at_site(random, input),
+        };
         let pattern = record::pattern(self.turn);
         self.turn += 1;
         let mut expected = Answer::before(operation.outs, pattern);
         let mut answered = expected.clone();
-        expected.number = (operation.expect)(input, &mut expected).err().unwrap_or(0);
+        expected.number = match self.others {
+            None => (operation.expect)(input, &mut expected).err().unwrap_or(0),
+            Some(_) => settings::expect(operation, input, &mut expected),
+        };
         answered.number = (operation.ask)(input, &mut answered);
         let own = self.planted.map(|distort| {
             let own = answered.clone();
@@ -233,6 +244,9 @@ fn describe_input(operation: &Operation, input: &Input) -> String {
     }
     for (name, number) in operation.numbers.iter().zip(input.numbers) {
         lines += &format!("      {name} {number}\n");
+    }
+    if settings::is_elsewhere(operation.name) {
+        lines += &format!("      {:?}\n", input.settings);
     }
     lines
 }

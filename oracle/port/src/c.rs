@@ -2,6 +2,16 @@
 //! length.
 //! Made by `tools/face write` from crates/sip_dialog/src, not by hand.
 
+#[derive(Debug, Clone, Copy, PartialEq, Eq, PartialOrd, Ord)]
+#[repr(C)]
+pub struct Settings {
+    pub cseq_jump: u32,
+    pub pending: u32,
+    pub cleanup_seconds: u32,
+    pub timeout_seconds: u32,
+    pub early_cap: u32,
+}
+
 #[rustfmt::skip]
 extern "C" {
     // Header blocks and status codes
@@ -184,6 +194,7 @@ extern "C" {
         we_refresh: *mut u8,
     ) -> u8;
     pub fn sip_dialog_image_id(
+        settings: Settings,
         image: *const u8,
         image_len: usize,
         call_id: *mut usize,
@@ -194,6 +205,7 @@ extern "C" {
         remote_tag_length: *mut usize,
     ) -> u8;
     pub fn sip_dialog_image_state(
+        settings: Settings,
         image: *const u8,
         image_len: usize,
         state: *mut u8,
@@ -201,6 +213,7 @@ extern "C" {
         secure: *mut u8,
     ) -> u8;
     pub fn sip_dialog_image_uris(
+        settings: Settings,
         image: *const u8,
         image_len: usize,
         target: *mut usize,
@@ -211,6 +224,7 @@ extern "C" {
         remote_uri_length: *mut usize,
     ) -> u8;
     pub fn sip_dialog_image_numbers(
+        settings: Settings,
         image: *const u8,
         image_len: usize,
         local: *mut u32,
@@ -221,8 +235,14 @@ extern "C" {
         seconds: *mut u32,
         refresher: *mut u8,
     ) -> u8;
-    pub fn sip_dialog_image_route_count(image: *const u8, image_len: usize, count: *mut usize) -> u8;
+    pub fn sip_dialog_image_route_count(
+        settings: Settings,
+        image: *const u8,
+        image_len: usize,
+        count: *mut usize,
+    ) -> u8;
     pub fn sip_dialog_image_route(
+        settings: Settings,
         image: *const u8,
         image_len: usize,
         index: usize,
@@ -231,13 +251,20 @@ extern "C" {
         length: *mut usize,
     ) -> u8;
     pub fn sip_dialog_image_matches_request(
+        settings: Settings,
         block: *const u8,
         block_len: usize,
         image: *const u8,
         image_len: usize,
         matches: *mut u8,
     ) -> u8;
-    pub fn sip_dialog_image_needs_refresh(image: *const u8, image_len: usize, elapsed: u64, due: *mut u8) -> u8;
+    pub fn sip_dialog_image_needs_refresh(
+        settings: Settings,
+        image: *const u8,
+        image_len: usize,
+        elapsed: u64,
+        due: *mut u8,
+    ) -> u8;
     pub fn sip_dialog_new_uac(
         method: *const u8,
         method_len: usize,
@@ -272,10 +299,17 @@ extern "C" {
         written: *mut usize,
         least: *mut u64,
     ) -> u8;
-    pub fn sip_dialog_image_confirm(image: *mut u8, image_len: usize, used: *mut usize) -> u8;
-    pub fn sip_dialog_image_terminate(image: *mut u8, image_len: usize, used: *mut usize) -> u8;
-    pub fn sip_dialog_image_next_local_cseq(image: *mut u8, image_len: usize, used: *mut usize, number: *mut u32) -> u8;
+    pub fn sip_dialog_image_confirm(settings: Settings, image: *mut u8, image_len: usize, used: *mut usize) -> u8;
+    pub fn sip_dialog_image_terminate(settings: Settings, image: *mut u8, image_len: usize, used: *mut usize) -> u8;
+    pub fn sip_dialog_image_next_local_cseq(
+        settings: Settings,
+        image: *mut u8,
+        image_len: usize,
+        used: *mut usize,
+        number: *mut u32,
+    ) -> u8;
     pub fn sip_dialog_image_set_session_expires(
+        settings: Settings,
         image: *mut u8,
         image_len: usize,
         used: *mut usize,
@@ -283,6 +317,7 @@ extern "C" {
         least: *mut u64,
     ) -> u8;
     pub fn sip_dialog_image_update_from_request(
+        settings: Settings,
         method: *const u8,
         method_len: usize,
         block: *const u8,
@@ -292,6 +327,7 @@ extern "C" {
         used: *mut usize,
     ) -> u8;
     pub fn sip_dialog_image_update_from_response(
+        settings: Settings,
         status: u16,
         block: *const u8,
         block_len: usize,
@@ -300,6 +336,7 @@ extern "C" {
         used: *mut usize,
     ) -> u8;
     pub fn sip_dialog_put(
+        settings: Settings,
         image: *const u8,
         image_len: usize,
         store: *mut u8,
@@ -308,6 +345,7 @@ extern "C" {
         created: *mut u64,
     ) -> u8;
     pub fn sip_dialog_request(
+        settings: Settings,
         method: *const u8,
         method_len: usize,
         block: *const u8,
@@ -317,6 +355,7 @@ extern "C" {
         used: *mut usize,
     ) -> u8;
     pub fn sip_dialog_response(
+        settings: Settings,
         call_id: *const u8,
         call_id_len: usize,
         local_tag: *const u8,
@@ -331,6 +370,7 @@ extern "C" {
         used: *mut usize,
     ) -> u8;
     pub fn sip_dialog_terminate(
+        settings: Settings,
         call_id: *const u8,
         call_id_len: usize,
         local_tag: *const u8,
@@ -342,6 +382,7 @@ extern "C" {
         used: *mut usize,
     ) -> u8;
     pub fn sip_dialog_next_local_cseq(
+        settings: Settings,
         call_id: *const u8,
         call_id_len: usize,
         local_tag: *const u8,
@@ -354,6 +395,7 @@ extern "C" {
         number: *mut u32,
     ) -> u8;
     pub fn sip_dialog_set_session_expires(
+        settings: Settings,
         call_id: *const u8,
         call_id_len: usize,
         local_tag: *const u8,
@@ -367,6 +409,7 @@ extern "C" {
         least: *mut u64,
     ) -> u8;
     pub fn sip_dialog_remove(
+        settings: Settings,
         call_id: *const u8,
         call_id_len: usize,
         local_tag: *const u8,
@@ -378,8 +421,9 @@ extern "C" {
         used: *mut usize,
         terminated: *mut u64,
     ) -> u8;
-    pub fn sip_dialog_sweep(store: *mut u8, store_len: usize, used: *mut usize) -> u8;
+    pub fn sip_dialog_sweep(settings: Settings, store: *mut u8, store_len: usize, used: *mut usize) -> u8;
     pub fn sip_dialog_get(
+        settings: Settings,
         call_id: *const u8,
         call_id_len: usize,
         local_tag: *const u8,
@@ -393,6 +437,7 @@ extern "C" {
         length: *mut usize,
     ) -> u8;
     pub fn sip_dialog_find_by_call_id(
+        settings: Settings,
         call_id: *const u8,
         call_id_len: usize,
         store: *const u8,
@@ -402,6 +447,7 @@ extern "C" {
         length: *mut usize,
     ) -> u8;
     pub fn sip_dialog_find_by_request(
+        settings: Settings,
         block: *const u8,
         block_len: usize,
         store: *const u8,
@@ -410,8 +456,15 @@ extern "C" {
         place: *mut usize,
         length: *mut usize,
     ) -> u8;
-    pub fn sip_dialog_count(store: *const u8, store_len: usize, used: usize, count: *mut usize) -> u8;
+    pub fn sip_dialog_count(
+        settings: Settings,
+        store: *const u8,
+        store_len: usize,
+        used: usize,
+        count: *mut usize,
+    ) -> u8;
     pub fn sip_dialog_all_ids(
+        settings: Settings,
         store: *const u8,
         store_len: usize,
         used: usize,
@@ -420,6 +473,7 @@ extern "C" {
         written: *mut usize,
     ) -> u8;
     pub fn sip_dialog_listing(
+        settings: Settings,
         bytes: *const u8,
         bytes_len: usize,
         out: *mut u8,
@@ -465,6 +519,7 @@ extern "C" {
     pub fn sip_dialog_rseq_len(store: *const u8, store_len: usize, used: usize, count: *mut usize) -> u8;
     pub fn sip_dialog_rseq_is_empty(store: *const u8, store_len: usize, used: usize, empty: *mut u8) -> u8;
     pub fn sip_dialog_prack_register(
+        settings: Settings,
         id: *const u8,
         id_len: usize,
         rseq: u32,
@@ -477,6 +532,7 @@ extern "C" {
         used: *mut usize,
     ) -> u8;
     pub fn sip_dialog_prack_validate(
+        settings: Settings,
         id: *const u8,
         id_len: usize,
         block: *const u8,
@@ -490,6 +546,7 @@ extern "C" {
         method: *mut u8,
     ) -> u8;
     pub fn sip_dialog_prack_is_pracked(
+        settings: Settings,
         id: *const u8,
         id_len: usize,
         rseq: u32,
@@ -499,6 +556,7 @@ extern "C" {
         pracked: *mut u8,
     ) -> u8;
     pub fn sip_dialog_prack_get_pending(
+        settings: Settings,
         id: *const u8,
         id_len: usize,
         time: u64,
@@ -510,6 +568,7 @@ extern "C" {
         written: *mut usize,
     ) -> u8;
     pub fn sip_dialog_prack_remove_dialog(
+        settings: Settings,
         id: *const u8,
         id_len: usize,
         store: *mut u8,
@@ -517,6 +576,7 @@ extern "C" {
         used: *mut usize,
     ) -> u8;
     pub fn sip_dialog_prack_remove_pracked(
+        settings: Settings,
         id: *const u8,
         id_len: usize,
         rseq: u32,

@@ -8,6 +8,8 @@ pub mod rseq;
 pub mod store;
 pub mod verdicts;
 
+pub use c::Settings;
+
 /// A found part: the flag, and place and length in the caller's bytes.
 #[derive(Debug, Clone, Copy)]
 pub struct Part {
@@ -54,6 +56,23 @@ pub struct Rack {
     pub rseq: u32,
     pub cseq: u32,
     pub method: u8,
+}
+
+impl Settings {
+    /// The Rust's own figures.
+    pub const RUST: Settings = Settings {
+        cseq_jump: 1000,
+        pending: 10,
+        cleanup_seconds: 300,
+        timeout_seconds: 300,
+        early_cap: 100,
+    };
+}
+
+impl Default for Settings {
+    fn default() -> Settings {
+        Settings::RUST
+    }
 }
 
 /// Whether the bytes are a header block.
@@ -508,9 +527,16 @@ pub fn new_uas(given: &Creation, out: &mut [u8], length: &mut usize, least: &mut
 }
 
 /// A request on the record whose image the first `used` of the lent bytes are.
-pub fn image_update_from_request(method: &[u8], block: &[u8], image: &mut [u8], used: &mut usize) -> u8 {
+pub fn image_update_from_request(
+    settings: Settings,
+    method: &[u8],
+    block: &[u8],
+    image: &mut [u8],
+    used: &mut usize,
+) -> u8 {
     unsafe {
         c::sip_dialog_image_update_from_request(
+            settings,
             method.as_ptr(),
             method.len(),
             block.as_ptr(),
@@ -523,9 +549,16 @@ pub fn image_update_from_request(method: &[u8], block: &[u8], image: &mut [u8], 
 }
 
 /// A response on the record.
-pub fn image_update_from_response(status: u16, block: &[u8], image: &mut [u8], used: &mut usize) -> u8 {
+pub fn image_update_from_response(
+    settings: Settings,
+    status: u16,
+    block: &[u8],
+    image: &mut [u8],
+    used: &mut usize,
+) -> u8 {
     unsafe {
         c::sip_dialog_image_update_from_response(
+            settings,
             status,
             block.as_ptr(),
             block.len(),
@@ -537,40 +570,56 @@ pub fn image_update_from_response(status: u16, block: &[u8], image: &mut [u8], u
 }
 
 /// Early becomes Confirmed.
-pub fn image_confirm(image: &mut [u8], used: &mut usize) -> u8 {
-    unsafe { c::sip_dialog_image_confirm(image.as_mut_ptr(), image.len(), used) }
+pub fn image_confirm(settings: Settings, image: &mut [u8], used: &mut usize) -> u8 {
+    unsafe { c::sip_dialog_image_confirm(settings, image.as_mut_ptr(), image.len(), used) }
 }
 
 /// The record becomes Terminated.
-pub fn image_terminate(image: &mut [u8], used: &mut usize) -> u8 {
-    unsafe { c::sip_dialog_image_terminate(image.as_mut_ptr(), image.len(), used) }
+pub fn image_terminate(settings: Settings, image: &mut [u8], used: &mut usize) -> u8 {
+    unsafe { c::sip_dialog_image_terminate(settings, image.as_mut_ptr(), image.len(), used) }
 }
 
 /// The local number rises by one.
-pub fn image_next_local_cseq(image: &mut [u8], used: &mut usize, number: &mut u32) -> u8 {
-    unsafe { c::sip_dialog_image_next_local_cseq(image.as_mut_ptr(), image.len(), used, number) }
+pub fn image_next_local_cseq(settings: Settings, image: &mut [u8], used: &mut usize, number: &mut u32) -> u8 {
+    unsafe { c::sip_dialog_image_next_local_cseq(settings, image.as_mut_ptr(), image.len(), used, number) }
 }
 
 /// Another session interval.
-pub fn image_set_session_expires(image: &mut [u8], used: &mut usize, seconds: u64, least: &mut u64) -> u8 {
-    unsafe { c::sip_dialog_image_set_session_expires(image.as_mut_ptr(), image.len(), used, seconds, least) }
+pub fn image_set_session_expires(
+    settings: Settings,
+    image: &mut [u8],
+    used: &mut usize,
+    seconds: u64,
+    least: &mut u64,
+) -> u8 {
+    unsafe { c::sip_dialog_image_set_session_expires(settings, image.as_mut_ptr(), image.len(), used, seconds, least) }
 }
 
 /// Whether a request belongs to the record.
-pub fn image_matches_request(block: &[u8], image: &[u8], matches: &mut u8) -> u8 {
-    unsafe { c::sip_dialog_image_matches_request(block.as_ptr(), block.len(), image.as_ptr(), image.len(), matches) }
+pub fn image_matches_request(settings: Settings, block: &[u8], image: &[u8], matches: &mut u8) -> u8 {
+    unsafe {
+        c::sip_dialog_image_matches_request(
+            settings,
+            block.as_ptr(),
+            block.len(),
+            image.as_ptr(),
+            image.len(),
+            matches,
+        )
+    }
 }
 
 /// Whether the record's session is to be refreshed.
-pub fn image_needs_refresh(image: &[u8], elapsed: u64, due: &mut u8) -> u8 {
-    unsafe { c::sip_dialog_image_needs_refresh(image.as_ptr(), image.len(), elapsed, due) }
+pub fn image_needs_refresh(settings: Settings, image: &[u8], elapsed: u64, due: &mut u8) -> u8 {
+    unsafe { c::sip_dialog_image_needs_refresh(settings, image.as_ptr(), image.len(), elapsed, due) }
 }
 
 /// The record's identifier: places in the image.
-pub fn image_id(image: &[u8], parts: &mut Identifier) -> u8 {
+pub fn image_id(settings: Settings, image: &[u8], parts: &mut Identifier) -> u8 {
     let [call_id, call_id_length, local, local_length, remote, remote_length] = parts;
     unsafe {
         c::sip_dialog_image_id(
+            settings,
             image.as_ptr(),
             image.len(),
             call_id,
@@ -584,15 +633,16 @@ pub fn image_id(image: &[u8], parts: &mut Identifier) -> u8 {
 }
 
 /// The record's state (1 Early, 2 Confirmed, 3 Terminated), side and security.
-pub fn image_state(image: &[u8], state: &mut u8, we_are_uac: &mut u8, secure: &mut u8) -> u8 {
-    unsafe { c::sip_dialog_image_state(image.as_ptr(), image.len(), state, we_are_uac, secure) }
+pub fn image_state(settings: Settings, image: &[u8], state: &mut u8, we_are_uac: &mut u8, secure: &mut u8) -> u8 {
+    unsafe { c::sip_dialog_image_state(settings, image.as_ptr(), image.len(), state, we_are_uac, secure) }
 }
 
 /// The record's target, local URI and remote URI: places and lengths in the image.
-pub fn image_uris(image: &[u8], parts: &mut [usize; 6]) -> u8 {
+pub fn image_uris(settings: Settings, image: &[u8], parts: &mut [usize; 6]) -> u8 {
     let [target, target_length, local, local_length, remote, remote_length] = parts;
     unsafe {
         c::sip_dialog_image_uris(
+            settings,
             image.as_ptr(),
             image.len(),
             target,
@@ -618,9 +668,10 @@ pub struct Numbers {
 }
 
 /// The record's numbers.
-pub fn image_numbers(image: &[u8], numbers: &mut Numbers) -> u8 {
+pub fn image_numbers(settings: Settings, image: &[u8], numbers: &mut Numbers) -> u8 {
     unsafe {
         c::sip_dialog_image_numbers(
+            settings,
             image.as_ptr(),
             image.len(),
             &mut numbers.local,
@@ -635,14 +686,15 @@ pub fn image_numbers(image: &[u8], numbers: &mut Numbers) -> u8 {
 }
 
 /// How many routes the record has.
-pub fn image_route_count(image: &[u8], count: &mut usize) -> u8 {
-    unsafe { c::sip_dialog_image_route_count(image.as_ptr(), image.len(), count) }
+pub fn image_route_count(settings: Settings, image: &[u8], count: &mut usize) -> u8 {
+    unsafe { c::sip_dialog_image_route_count(settings, image.as_ptr(), image.len(), count) }
 }
 
 /// One route of the record.
-pub fn image_route(image: &[u8], index: usize, part: &mut Part) -> u8 {
+pub fn image_route(settings: Settings, image: &[u8], index: usize, part: &mut Part) -> u8 {
     unsafe {
         c::sip_dialog_image_route(
+            settings,
             image.as_ptr(),
             image.len(),
             index,

@@ -2,7 +2,7 @@
 
 use crate::c;
 use crate::store::Store;
-use crate::Rack;
+use crate::{Rack, Settings};
 
 /// A response that was sent, as it is registered.
 #[derive(Debug, Clone, Copy)]
@@ -14,9 +14,10 @@ pub struct Response {
 }
 
 /// Registers a response of a dialog at a time.
-pub fn register(id: &[u8], response: Response, time: u64, store: Store) -> u8 {
+pub fn register(settings: Settings, id: &[u8], response: Response, time: u64, store: Store) -> u8 {
     unsafe {
         c::sip_dialog_prack_register(
+            settings,
             id.as_ptr(),
             id.len(),
             response.rseq,
@@ -32,9 +33,10 @@ pub fn register(id: &[u8], response: Response, time: u64, store: Store) -> u8 {
 }
 
 /// Holds the RAck of a block against the dialog's list.
-pub fn validate(id: &[u8], block: &[u8], time: u64, store: Store, rack: &mut Rack) -> u8 {
+pub fn validate(settings: Settings, id: &[u8], block: &[u8], time: u64, store: Store, rack: &mut Rack) -> u8 {
     unsafe {
         c::sip_dialog_prack_validate(
+            settings,
             id.as_ptr(),
             id.len(),
             block.as_ptr(),
@@ -51,14 +53,26 @@ pub fn validate(id: &[u8], block: &[u8], time: u64, store: Store, rack: &mut Rac
 }
 
 /// Whether a response is acknowledged.
-pub fn is_pracked(id: &[u8], rseq: u32, store: &[u8], used: usize, pracked: &mut u8) -> u8 {
-    unsafe { c::sip_dialog_prack_is_pracked(id.as_ptr(), id.len(), rseq, store.as_ptr(), store.len(), used, pracked) }
+pub fn is_pracked(settings: Settings, id: &[u8], rseq: u32, store: &[u8], used: usize, pracked: &mut u8) -> u8 {
+    unsafe {
+        c::sip_dialog_prack_is_pracked(
+            settings,
+            id.as_ptr(),
+            id.len(),
+            rseq,
+            store.as_ptr(),
+            store.len(),
+            used,
+            pracked,
+        )
+    }
 }
 
 /// The responses of a dialog that aren't acknowledged, into the lent output.
-pub fn get_pending(id: &[u8], time: u64, store: Store, out: &mut [u8], written: &mut usize) -> u8 {
+pub fn get_pending(settings: Settings, id: &[u8], time: u64, store: Store, out: &mut [u8], written: &mut usize) -> u8 {
     unsafe {
         c::sip_dialog_prack_get_pending(
+            settings,
             id.as_ptr(),
             id.len(),
             time,
@@ -73,9 +87,10 @@ pub fn get_pending(id: &[u8], time: u64, store: Store, out: &mut [u8], written: 
 }
 
 /// Drops all that is held for a dialog.
-pub fn remove_dialog(id: &[u8], store: Store) -> u8 {
+pub fn remove_dialog(settings: Settings, id: &[u8], store: Store) -> u8 {
     unsafe {
         c::sip_dialog_prack_remove_dialog(
+            settings,
             id.as_ptr(),
             id.len(),
             store.bytes.as_mut_ptr(),
@@ -86,9 +101,10 @@ pub fn remove_dialog(id: &[u8], store: Store) -> u8 {
 }
 
 /// Drops the acknowledged responses of an RSeq.
-pub fn remove_pracked(id: &[u8], rseq: u32, store: Store) -> u8 {
+pub fn remove_pracked(settings: Settings, id: &[u8], rseq: u32, store: Store) -> u8 {
     unsafe {
         c::sip_dialog_prack_remove_pracked(
+            settings,
             id.as_ptr(),
             id.len(),
             rseq,

@@ -1,6 +1,7 @@
 //! The C functions on a store of records.
 
 use crate::c;
+use crate::Settings;
 
 /// An identifier's three texts: Call-ID, local tag, remote tag.
 pub type Id<'a> = [&'a [u8]; 3];
@@ -19,9 +20,10 @@ pub struct Store<'a> {
 }
 
 /// Puts the record of an image into the store.
-pub fn put(image: &[u8], store: Store, created: &mut u64) -> u8 {
+pub fn put(settings: Settings, image: &[u8], store: Store, created: &mut u64) -> u8 {
     unsafe {
         c::sip_dialog_put(
+            settings,
             image.as_ptr(),
             image.len(),
             store.bytes.as_mut_ptr(),
@@ -33,9 +35,10 @@ pub fn put(image: &[u8], store: Store, created: &mut u64) -> u8 {
 }
 
 /// A request on the record that it names.
-pub fn request(method: &[u8], block: &[u8], store: Store) -> u8 {
+pub fn request(settings: Settings, method: &[u8], block: &[u8], store: Store) -> u8 {
     unsafe {
         c::sip_dialog_request(
+            settings,
             method.as_ptr(),
             method.len(),
             block.as_ptr(),
@@ -48,9 +51,10 @@ pub fn request(method: &[u8], block: &[u8], store: Store) -> u8 {
 }
 
 /// A response on the record of an identifier.
-pub fn response([call_id, local, remote]: Id, status: u16, block: &[u8], store: Store) -> u8 {
+pub fn response(settings: Settings, [call_id, local, remote]: Id, status: u16, block: &[u8], store: Store) -> u8 {
     unsafe {
         c::sip_dialog_response(
+            settings,
             call_id.as_ptr(),
             call_id.len(),
             local.as_ptr(),
@@ -68,9 +72,10 @@ pub fn response([call_id, local, remote]: Id, status: u16, block: &[u8], store: 
 }
 
 /// The record of an identifier becomes Terminated.
-pub fn terminate([call_id, local, remote]: Id, store: Store) -> u8 {
+pub fn terminate(settings: Settings, [call_id, local, remote]: Id, store: Store) -> u8 {
     unsafe {
         c::sip_dialog_terminate(
+            settings,
             call_id.as_ptr(),
             call_id.len(),
             local.as_ptr(),
@@ -85,9 +90,10 @@ pub fn terminate([call_id, local, remote]: Id, store: Store) -> u8 {
 }
 
 /// The local number of an identifier's record rises by one.
-pub fn next_local_cseq([call_id, local, remote]: Id, store: Store, number: &mut u32) -> u8 {
+pub fn next_local_cseq(settings: Settings, [call_id, local, remote]: Id, store: Store, number: &mut u32) -> u8 {
     unsafe {
         c::sip_dialog_next_local_cseq(
+            settings,
             call_id.as_ptr(),
             call_id.len(),
             local.as_ptr(),
@@ -103,9 +109,16 @@ pub fn next_local_cseq([call_id, local, remote]: Id, store: Store, number: &mut 
 }
 
 /// Another session interval for the record of an identifier.
-pub fn set_session_expires([call_id, local, remote]: Id, seconds: u64, store: Store, least: &mut u64) -> u8 {
+pub fn set_session_expires(
+    settings: Settings,
+    [call_id, local, remote]: Id,
+    seconds: u64,
+    store: Store,
+    least: &mut u64,
+) -> u8 {
     unsafe {
         c::sip_dialog_set_session_expires(
+            settings,
             call_id.as_ptr(),
             call_id.len(),
             local.as_ptr(),
@@ -122,9 +135,10 @@ pub fn set_session_expires([call_id, local, remote]: Id, seconds: u64, store: St
 }
 
 /// Takes the record of an identifier out.
-pub fn remove([call_id, local, remote]: Id, store: Store, terminated: &mut u64) -> u8 {
+pub fn remove(settings: Settings, [call_id, local, remote]: Id, store: Store, terminated: &mut u64) -> u8 {
     unsafe {
         c::sip_dialog_remove(
+            settings,
             call_id.as_ptr(),
             call_id.len(),
             local.as_ptr(),
@@ -140,14 +154,15 @@ pub fn remove([call_id, local, remote]: Id, store: Store, terminated: &mut u64) 
 }
 
 /// Takes all Terminated records out.
-pub fn sweep(store: Store) -> u8 {
-    unsafe { c::sip_dialog_sweep(store.bytes.as_mut_ptr(), store.bytes.len(), store.used) }
+pub fn sweep(settings: Settings, store: Store) -> u8 {
+    unsafe { c::sip_dialog_sweep(settings, store.bytes.as_mut_ptr(), store.bytes.len(), store.used) }
 }
 
 /// The record of an identifier.
-pub fn get([call_id, local, remote]: Id, store: &[u8], used: usize, found: &mut Place) -> u8 {
+pub fn get(settings: Settings, [call_id, local, remote]: Id, store: &[u8], used: usize, found: &mut Place) -> u8 {
     unsafe {
         c::sip_dialog_get(
+            settings,
             call_id.as_ptr(),
             call_id.len(),
             local.as_ptr(),
@@ -164,9 +179,10 @@ pub fn get([call_id, local, remote]: Id, store: &[u8], used: usize, found: &mut 
 }
 
 /// The first record of a Call-ID.
-pub fn find_by_call_id(call_id: &[u8], store: &[u8], used: usize, found: &mut Place) -> u8 {
+pub fn find_by_call_id(settings: Settings, call_id: &[u8], store: &[u8], used: usize, found: &mut Place) -> u8 {
     unsafe {
         c::sip_dialog_find_by_call_id(
+            settings,
             call_id.as_ptr(),
             call_id.len(),
             store.as_ptr(),
@@ -179,9 +195,10 @@ pub fn find_by_call_id(call_id: &[u8], store: &[u8], used: usize, found: &mut Pl
 }
 
 /// The record that a request names.
-pub fn find_by_request(block: &[u8], store: &[u8], used: usize, found: &mut Place) -> u8 {
+pub fn find_by_request(settings: Settings, block: &[u8], store: &[u8], used: usize, found: &mut Place) -> u8 {
     unsafe {
         c::sip_dialog_find_by_request(
+            settings,
             block.as_ptr(),
             block.len(),
             store.as_ptr(),
@@ -194,16 +211,35 @@ pub fn find_by_request(block: &[u8], store: &[u8], used: usize, found: &mut Plac
 }
 
 /// How many records a store holds.
-pub fn count(store: &[u8], used: usize, count: &mut usize) -> u8 {
-    unsafe { c::sip_dialog_count(store.as_ptr(), store.len(), used, count) }
+pub fn count(settings: Settings, store: &[u8], used: usize, count: &mut usize) -> u8 {
+    unsafe { c::sip_dialog_count(settings, store.as_ptr(), store.len(), used, count) }
 }
 
 /// The listing of a store's used bytes, into the lent output.
-pub fn listing(store: &[u8], out: &mut [u8], length: &mut usize) -> u8 {
-    unsafe { c::sip_dialog_listing(store.as_ptr(), store.len(), out.as_mut_ptr(), out.len(), length) }
+pub fn listing(settings: Settings, store: &[u8], out: &mut [u8], length: &mut usize) -> u8 {
+    unsafe {
+        c::sip_dialog_listing(
+            settings,
+            store.as_ptr(),
+            store.len(),
+            out.as_mut_ptr(),
+            out.len(),
+            length,
+        )
+    }
 }
 
 /// The identifiers of all records, into the lent output.
-pub fn all_ids(store: &[u8], used: usize, out: &mut [u8], length: &mut usize) -> u8 {
-    unsafe { c::sip_dialog_all_ids(store.as_ptr(), store.len(), used, out.as_mut_ptr(), out.len(), length) }
+pub fn all_ids(settings: Settings, store: &[u8], used: usize, out: &mut [u8], length: &mut usize) -> u8 {
+    unsafe {
+        c::sip_dialog_all_ids(
+            settings,
+            store.as_ptr(),
+            store.len(),
+            used,
+            out.as_mut_ptr(),
+            out.len(),
+            length,
+        )
+    }
 }

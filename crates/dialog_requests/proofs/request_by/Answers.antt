@@ -6,7 +6,7 @@ use lib.ListN.{length, take}
 use Rattle.std.proofs.result.Match.{err_is}
 use Rattle.text.specs.declared.Span.{Span}
 use Rattle.std.specs.Prelude.{Err, Ok, Option}
-use Rattle.limits.specs.Limits.{rust_limits}
+use Rattle.limits.specs.Settings.{limits_in}
 use Rattle.output.specs.Output.{fitted}
 use Rattle.msg.specs.Table.{end_of}
 use Rattle.msg.proofs.TableLaws.{end_of_lem}
@@ -36,8 +36,8 @@ returns-in_default c =
     let s = take a.p.used a.bytes.now in
     let k = kind_of a.request.method.now in
     let h = stands_held c.args.bytes.now c.args.p (λ i. (c.slice_known-1.given i).fits) c.requires.stands in
-    let old : _ × _ = refused_leaves a.bytes.now (stepped (request_update rust_limits k a.request.block.now) (length a.bytes.now) a.p.at s)
-    (stepped_refused s a.p.at a.p.record h (request_update rust_limits k a.request.block.now) (length a.bytes.now) (no_number rust_limits k a.request.block.now h.value (unreadable (cseq_number a.request.block.now) (c.cseq_at.ensures ∙ cseq_found a.request.block.now _ c.requires.block_value.1) c.in_default.is))) in
+    let old : _ × _ = refused_leaves a.bytes.now (stepped (request_update (limits_in c.args.settings) k a.request.block.now) (length a.bytes.now) a.p.at s)
+    (stepped_refused s a.p.at a.p.record h (request_update (limits_in c.args.settings) k a.request.block.now) (length a.bytes.now) (no_number (limits_in c.args.settings) k a.request.block.now h.value (unreadable (cseq_number a.request.block.now) (c.cseq_at.ensures ∙ cseq_found a.request.block.now _ c.requires.block_value.1) c.in_default.is))) in
     record { value = old.0; bytes_after = old.1 }
 
 pub contact_at-target-requires : goal.contact_at-target-requires
@@ -54,13 +54,13 @@ returns c =
     let h = stands_held c.args.bytes.now c.args.p (λ i. (c.slice_known-1.given i).fits) c.requires.stands in
     let n = c.in-Some.n in
     let x = meaning c.in_ok-x.x in
-    let e : request_step rust_limits k n h.value.numbers ≡ Ok x =
-    ap (λ (y : Numbers). request_step rust_limits k n y) (sym (numbers_read s a.p.at a.p.record h))
-    ∙ ap (λ (y : Kind). request_step rust_limits y n (meaning a.p.record.numbers)) (sym c.kind_of.ensures)
+    let e : request_step (limits_in c.args.settings) k n h.value.numbers ≡ Ok x =
+    ap (λ (y : Numbers). request_step (limits_in c.args.settings) k n y) (sym (numbers_read s a.p.at a.p.record h))
+    ∙ ap (λ (y : Kind). request_step (limits_in c.args.settings) y n (meaning a.p.record.numbers)) (sym c.kind_of.ensures)
     ∙ sym c.request.ensures
     ∙ ap outcome_in c.in_ok-x.was in
-    let f = stepped_given s a.p.at a.p.record h (request_update rust_limits k a.request.block.now) (length a.bytes.now) (λ v. retargeted a.request.block.now (with_numbers x v)) (number_taken rust_limits k a.request.block.now h.value n x (readable (cseq_number a.request.block.now) (c.cseq_at.ensures ∙ cseq_found a.request.block.now _ c.requires.block_value.1) c.in-Some.is) e) in
-    let old : _ × _ = result_as a.bytes.now (stepped (request_update rust_limits k a.request.block.now) (length a.bytes.now) a.p.at s) (fitted (length a.bytes.now) (changed (λ v. retargeted a.request.block.now (with_numbers x v)) a.p.at s)) c.revise_to.result c.revise_to.new.bytes f (c.revise_to.ensures.value, c.revise_to.ensures.bytes_after) in
+    let f = stepped_given s a.p.at a.p.record h (request_update (limits_in c.args.settings) k a.request.block.now) (length a.bytes.now) (λ v. retargeted a.request.block.now (with_numbers x v)) (number_taken (limits_in c.args.settings) k a.request.block.now h.value n x (readable (cseq_number a.request.block.now) (c.cseq_at.ensures ∙ cseq_found a.request.block.now _ c.requires.block_value.1) c.in-Some.is) e) in
+    let old : _ × _ = result_as a.bytes.now (stepped (request_update (limits_in c.args.settings) k a.request.block.now) (length a.bytes.now) a.p.at s) (fitted (length a.bytes.now) (changed (λ v. retargeted a.request.block.now (with_numbers x v)) a.p.at s)) c.revise_to.result c.revise_to.new.bytes f (c.revise_to.ensures.value, c.revise_to.ensures.bytes_after) in
     record { value = old.0; bytes_after = old.1 }
 
 pub returns-in_err-x : goal.returns-in_err-x
@@ -70,11 +70,11 @@ returns-in_err-x c =
     let k = kind_of a.request.method.now in
     let h = stands_held c.args.bytes.now c.args.p (λ i. (c.slice_known-1.given i).fits) c.requires.stands in
     let n = c.in-Some.n in
-    let e : request_step rust_limits k n h.value.numbers ≡ Err c.in_err-x.field-0.0 =
-    ap (λ (y : Numbers). request_step rust_limits k n y) (sym (numbers_read s a.p.at a.p.record h))
-    ∙ ap (λ (y : Kind). request_step rust_limits y n (meaning a.p.record.numbers)) (sym c.kind_of.ensures)
+    let e : request_step (limits_in c.args.settings) k n h.value.numbers ≡ Err c.in_err-x.field-0.0 =
+    ap (λ (y : Numbers). request_step (limits_in c.args.settings) k n y) (sym (numbers_read s a.p.at a.p.record h))
+    ∙ ap (λ (y : Kind). request_step (limits_in c.args.settings) y n (meaning a.p.record.numbers)) (sym c.kind_of.ensures)
     ∙ sym c.request.ensures
     ∙ ap outcome_in c.in_err-x.was in
-    let old : _ × _ = refused_leaves a.bytes.now (stepped (request_update rust_limits k a.request.block.now) (length a.bytes.now) a.p.at s)
-    (stepped_refused s a.p.at a.p.record h (request_update rust_limits k a.request.block.now) (length a.bytes.now) (number_refused rust_limits k a.request.block.now h.value n (readable (cseq_number a.request.block.now) (c.cseq_at.ensures ∙ cseq_found a.request.block.now _ c.requires.block_value.1) c.in-Some.is) e)) in
+    let old : _ × _ = refused_leaves a.bytes.now (stepped (request_update (limits_in c.args.settings) k a.request.block.now) (length a.bytes.now) a.p.at s)
+    (stepped_refused s a.p.at a.p.record h (request_update (limits_in c.args.settings) k a.request.block.now) (length a.bytes.now) (number_refused (limits_in c.args.settings) k a.request.block.now h.value n (readable (cseq_number a.request.block.now) (c.cseq_at.ensures ∙ cseq_found a.request.block.now _ c.requires.block_value.1) c.in-Some.is) e)) in
     record { value = err_is c.from_residual.result _ c.from_residual.ensures.1 ∙ old.0; bytes_after = old.1 }

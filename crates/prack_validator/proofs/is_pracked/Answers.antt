@@ -2,7 +2,7 @@
 use Rattle.std.proofs.Common.{◌≡◌, ℕ, List, Bool, Err, None, Ok, Option, Result, Some, refl, sym, ap, ◌∙◌, arith, rules, false}
 use Rattle.std.specs.Prelude.{MatchResult}
 use Rattle.std.proofs.result.Match.{err_is}
-use Rattle.limits.specs.Limits.{rust_limits}
+use Rattle.limits.specs.Settings.{limits_in}
 use Rattle.text.proofs.Lengths.{length_passed, length_stopped}
 use Rattle.limits.specs.declared.Refusal.{Refusal}
 use Rattle.codec.proofs.CodecLaws.{bytes_all}
@@ -17,39 +17,39 @@ use Rattle.prack_validator.proofs.AnswerLaws.{DonePracked, pracked_kept, pracked
 use Rattle.prack_validator.proofs.is_pracked.Goals as goal
 use Rattle.prack_validator.proofs.is_pracked.Goals.{After-find, After-first_of, In-Ok}
 
-clear : (c : After-find) → action_cause rust_limits (is_pracked c.args.id.now c.args.rseq) ≡ None
-clear c = rest_cause (is_pracked c.args.id.now c.args.rseq) (length_passed rust_limits c.args.id.now (sym c.check_length.ensures ∙ c.in_ok-check_length.was))
+clear : (c : After-find) → action_cause (limits_in c.args.settings) (is_pracked c.args.id.now c.args.rseq) ≡ None
+clear c = rest_cause (limits_in c.args.settings) (is_pracked c.args.id.now c.args.rseq) (length_passed (limits_in c.args.settings) c.args.id.now (sym c.check_length.ensures ∙ c.in_ok-check_length.was))
 
-S : (c : In-Ok) → Sought c.args.id.now c.args.bytes.now c.args.used (Ok c.in-Ok.t)
-S c = sought c.args.id.now c.args.bytes.now c.args.used (Ok c.in-Ok.t) (sym c.find.ensures ∙ c.in_ok-t.was ∙ ap Ok c.in-Ok.is)
+S : (c : In-Ok) → Sought (limits_in c.args.settings) c.args.id.now c.args.bytes.now c.args.used (Ok c.in-Ok.t)
+S c = sought (limits_in c.args.settings) c.args.id.now c.args.bytes.now c.args.used (Ok c.in-Ok.t) (sym c.find.ensures ∙ c.in_ok-t.was ∙ ap Ok c.in-Ok.is)
 
-F : (c : In-Ok) → Found c.args.id.now c.args.bytes.now c.args.used c.in-Ok.t (S c).list
+F : (c : In-Ok) → Found (limits_in c.args.settings) c.args.id.now c.args.bytes.now c.args.used c.in-Ok.t (S c).list
 F c = found c.args.id.now c.args.bytes.now c.args.used c.in-Ok.t (bytes_all c.args.bytes.now (λ n. (c.type_inv.bytes n).fits)) (S c)
 
-position : (c : After-first_of) (s : Sought c.args.id.now c.args.bytes.now c.args.used (Ok c.in-Ok.t)) (f : Found c.args.id.now c.args.bytes.now c.args.used c.in-Ok.t s.list)
+position : (c : After-first_of) (s : Sought (limits_in c.args.settings) c.args.id.now c.args.bytes.now c.args.used (Ok c.in-Ok.t)) (f : Found (limits_in c.args.settings) c.args.id.now c.args.bytes.now c.args.used c.in-Ok.t s.list)
     → c.first_of.result ≡ position_in c.args.rseq f.t.list
-position c s f = c.first_of.ensures f.t (rw c.end.ensures (body_alone (bytes_all c.args.bytes.now (λ n. (c.type_inv.bytes n).fits)) s.within f))
+position c s f = c.first_of.ensures (limits_in c.args.settings) f.t (rw c.end.ensures (body_alone (bytes_all c.args.bytes.now (λ n. (c.type_inv.bytes n).fits)) s.within f))
 
 answers : (c : In-Ok) (b : Bool) → is_acknowledged (first_of_rseq c.args.rseq (entries_of (F c).t.list)) ≡ b
-    → DonePracked c.args.bytes.now c.args.used (ran rust_limits (is_pracked c.args.id.now c.args.rseq) c.args.bytes.now c.args.used) (Ok b)
+    → DonePracked c.args.bytes.now c.args.used (ran (limits_in c.args.settings) (is_pracked c.args.id.now c.args.rseq) c.args.bytes.now c.args.used) (Ok b)
 answers c b q =
     let a = is_pracked c.args.id.now c.args.rseq in
-    let k = rest_cause a (length_passed rust_limits c.args.id.now (sym c.check_length.ensures ∙ c.in_ok-check_length.was)) in
-    pracked_taken c.args.bytes.now c.args.used (by_keeping c.args.bytes.now c.args.used a k (S c) (S c).list (Ok (flag b))
-    (pracked_decides c.args.id.now (S c).list c.args.rseq (Some (F c).t) (F c).is ∙ ap (λ (x : Bool). deciding (S c).list (Ok (flag x))) q) (bytes_all c.args.bytes.now (λ n. (c.type_inv.bytes n).fits)) refl)
+    let k = rest_cause (limits_in c.args.settings) a (length_passed (limits_in c.args.settings) c.args.id.now (sym c.check_length.ensures ∙ c.in_ok-check_length.was)) in
+    pracked_taken c.args.bytes.now c.args.used (by_keeping (limits_in c.args.settings) c.args.bytes.now c.args.used a k (S c) (S c).list (Ok (flag b))
+    (pracked_decides (limits_in c.args.settings) c.args.id.now (S c).list c.args.rseq (Some (F c).t) (F c).is ∙ ap (λ (x : Bool). deciding (S c).list (Ok (flag x))) q) (bytes_all c.args.bytes.now (λ n. (c.type_inv.bytes n).fits)) refl)
 
 pub returns-in_err-check_length : goal.returns-in_err-check_length
 returns-in_err-check_length c =
-    let q = length_stopped rust_limits c.args.id.now (sym c.check_length.ensures ∙ c.in_err-check_length.was) in
+    let q = length_stopped (limits_in c.args.settings) c.args.id.now (sym c.check_length.ensures ∙ c.in_err-check_length.was) in
     let e = err_is c.from_residual.result _ c.from_residual.ensures.1 ∙ ap Err q.1 in
     let a = is_pracked c.args.id.now c.args.rseq in
-    let old : _ × (_ × _) = pracked_kept c.args.bytes.now c.args.used (by_arguments c.args.bytes.now c.args.used a (long_cause_lem a q.0)) in
+    let old : _ × (_ × _) = pracked_kept c.args.bytes.now c.args.used (by_arguments (limits_in c.args.settings) c.args.bytes.now c.args.used a (long_cause_lem (limits_in c.args.settings) a q.0)) in
     record { value = e ∙ old.0; bytes_value = old.1.0; used_value = old.1.1 }
 
 pub returns-in_err-t : goal.returns-in_err-t
 returns-in_err-t c =
     let e = err_is c.from_residual-in_err-t.result _ c.from_residual-in_err-t.ensures.1 in
-    let old : _ × (_ × _) = pracked_kept c.args.bytes.now c.args.used (by_store c.args.bytes.now c.args.used (is_pracked c.args.id.now c.args.rseq) (clear (goal.at.returns-in_err-t c).After-find) c.args.id.now (sym c.find.ensures ∙ c.in_err-t.was)) in
+    let old : _ × (_ × _) = pracked_kept c.args.bytes.now c.args.used (by_store (limits_in c.args.settings) c.args.bytes.now c.args.used (is_pracked c.args.id.now c.args.rseq) (clear (goal.at.returns-in_err-t c).After-find) c.args.id.now (sym c.find.ensures ∙ c.in_err-t.was)) in
     record { value = e ∙ old.0; bytes_value = old.1.0; used_value = old.1.1 }
 
 pub slice_bounds-body-end : goal.slice_bounds-body-end
@@ -73,8 +73,8 @@ pub returns-in_default : goal.returns-in_default
 unfolding first_of_rseq
 returns-in_default c =
     let a = is_pracked c.args.id.now c.args.rseq in
-    let w = sought c.args.id.now c.args.bytes.now c.args.used (Err c.in_default.field-0) (sym c.find.ensures ∙ c.in_ok-t.was ∙ ap Ok c.in_default.is) in
+    let w = sought (limits_in c.args.settings) c.args.id.now c.args.bytes.now c.args.used (Err c.in_default.field-0) (sym c.find.ensures ∙ c.in_ok-t.was ∙ ap Ok c.in_default.is) in
     let b = bytes_all c.args.bytes.now (λ n. (c.type_inv.bytes n).fits) in
-    let old : _ × (_ × _) = pracked_taken c.args.bytes.now c.args.used (by_keeping c.args.bytes.now c.args.used a (clear (goal.at.returns-in_default c).After-find) w w.list (Ok (flag false))
-    (pracked_decides c.args.id.now w.list c.args.rseq None (lacking c.args.id.now c.args.bytes.now c.args.used c.in_default.field-0 b w).0) b refl) in
+    let old : _ × (_ × _) = pracked_taken c.args.bytes.now c.args.used (by_keeping (limits_in c.args.settings) c.args.bytes.now c.args.used a (clear (goal.at.returns-in_default c).After-find) w w.list (Ok (flag false))
+    (pracked_decides (limits_in c.args.settings) c.args.id.now w.list c.args.rseq None (lacking c.args.id.now c.args.bytes.now c.args.used c.in_default.field-0 b w).0) b refl) in
     record { value = old.0; bytes_value = old.1.0; used_value = old.1.1 }

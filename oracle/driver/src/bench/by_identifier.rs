@@ -5,6 +5,7 @@ use super::dialogs::parsed_response;
 use super::store::{dialog, find, Both};
 use super::tables::{timed, Side};
 use port::store::{self, Id, Store};
+use port::Settings;
 use sip_dialog::storage::hold;
 use sip_dialog::{Dialog, DialogManager};
 use std::hint::black_box;
@@ -63,7 +64,7 @@ fn changed<'a>(both: &'a Both, port: fn(Id, Store) -> u8, rust: fn(&mut Dialog))
 
 /// The next local number.
 pub fn next_local_cseq(both: &Both) -> Vec<Side<'_>> {
-    let port = |id: Id, lent: Store| store::next_local_cseq(id, lent, &mut 0);
+    let port = |id: Id, lent: Store| store::next_local_cseq(Settings::RUST, id, lent, &mut 0);
     changed(both, port, |dialog| {
         black_box(dialog.next_local_cseq());
     })
@@ -71,7 +72,7 @@ pub fn next_local_cseq(both: &Both) -> Vec<Side<'_>> {
 
 /// Another session interval.
 pub fn set_session_expires(both: &Both) -> Vec<Side<'_>> {
-    let port = |id: Id, lent: Store| store::set_session_expires(id, SECONDS, lent, &mut 0);
+    let port = |id: Id, lent: Store| store::set_session_expires(Settings::RUST, id, SECONDS, lent, &mut 0);
     let rust = |dialog: &mut Dialog| assert!(dialog.set_session_expires(Duration::from_secs(SECONDS)).is_ok(), "set");
     changed(both, port, rust)
 }
@@ -81,7 +82,8 @@ const SECONDS: u64 = 1800;
 
 /// The record becomes Terminated.
 pub fn terminate(both: &Both) -> Vec<Side<'_>> {
-    changed(both, store::terminate, Dialog::terminate)
+    let port = |id: Id, lent: Store| store::terminate(Settings::RUST, id, lent);
+    changed(both, port, Dialog::terminate)
 }
 
 /// A 200 on the record, which is Confirmed.
@@ -95,7 +97,7 @@ pub fn response(both: &Both) -> Vec<Side<'_>> {
             "Rattle",
             Box::new(move || {
                 ported(both, &mut bytes, |lent| {
-                    store::response(texts.lent(), 200, black_box(&both.block), lent)
+                    store::response(Settings::RUST, texts.lent(), 200, black_box(&both.block), lent)
                 })
             }),
         ),
@@ -133,7 +135,7 @@ pub fn remove(both: &Both) -> Vec<Side<'_>> {
             "Rattle",
             Box::new(move || {
                 ported(both, &mut bytes, |lent| {
-                    store::remove(black_box(texts.lent()), lent, &mut 0)
+                    store::remove(Settings::RUST, black_box(texts.lent()), lent, &mut 0)
                 })
             }),
         ),
@@ -154,7 +156,9 @@ pub fn get(both: &Both) -> Vec<Side<'_>> {
     vec![
         (
             "Rattle",
-            Box::new(move || find(|found| store::get(black_box(texts.lent()), &both.bytes, both.used, found))),
+            Box::new(move || {
+                find(|found| store::get(Settings::RUST, black_box(texts.lent()), &both.bytes, both.used, found))
+            }),
         ),
         (
             "Rust get",

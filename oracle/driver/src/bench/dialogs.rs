@@ -4,6 +4,7 @@
 use super::{table_from, Side};
 use crate::dialogs::encode;
 use crate::messages::{request, response};
+use port::Settings;
 use sip_core::{Headers, Method, Request, Response, SipUri};
 use sip_dialog::storage::set_remote_cseq;
 use sip_dialog::Dialog;
@@ -147,7 +148,8 @@ fn update_from_request(block: &[u8]) -> Vec<Side<'_>> {
                 let lent = &mut lent.borrow_mut()[..];
                 lent[..image.len()].copy_from_slice(&image);
                 let mut used = image.len();
-                let number = port::image_update_from_request(b"INVITE", black_box(block), lent, &mut used);
+                let number =
+                    port::image_update_from_request(Settings::RUST, b"INVITE", black_box(block), lent, &mut used);
                 assert_eq!(number, 0, "accepted");
                 black_box(used);
             }),
@@ -180,7 +182,7 @@ fn update_from_response(block: &[u8]) -> Vec<Side<'_>> {
     let mut used = image.len();
     image.resize(ROOM, 0);
     let lent = RefCell::new(image);
-    port::image_update_from_response(200, block, &mut lent.borrow_mut(), &mut used);
+    port::image_update_from_response(Settings::RUST, 200, block, &mut lent.borrow_mut(), &mut used);
     let parsed = parsed_response(block);
     let [of_text, of_parsed] = [dialog.clone(), dialog].map(RefCell::new);
     vec![
@@ -188,7 +190,13 @@ fn update_from_response(block: &[u8]) -> Vec<Side<'_>> {
             "Rattle",
             Box::new(move || {
                 let mut used = used;
-                let number = port::image_update_from_response(200, black_box(block), &mut lent.borrow_mut(), &mut used);
+                let number = port::image_update_from_response(
+                    Settings::RUST,
+                    200,
+                    black_box(block),
+                    &mut lent.borrow_mut(),
+                    &mut used,
+                );
                 assert_eq!(number, 0, "accepted");
                 black_box(used);
             }),

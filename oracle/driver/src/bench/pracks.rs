@@ -6,7 +6,7 @@ use crate::messages::request;
 use crate::prack::layout::{encode, Entry, Response as Held};
 use port::prack::{self, Response};
 use port::store::Store;
-use port::Rack;
+use port::{Rack, Settings};
 use sip_core::{Headers, Method, Request};
 use sip_dialog::prack_validator::PrackValidator;
 use stand_in_std::time::set_clock;
@@ -124,7 +124,7 @@ fn register(both: &Pracks) -> Vec<Side<'_>> {
             "Rattle",
             Box::new(move || {
                 ported(&both.bytes, both.used, &mut bytes, |lent| {
-                    prack::register(black_box(both.middle.as_bytes()), second, TIME, lent)
+                    prack::register(Settings::RUST, black_box(both.middle.as_bytes()), second, TIME, lent)
                 })
             }),
         ),
@@ -155,7 +155,14 @@ fn validate(both: &Pracks) -> Vec<Side<'_>> {
                     method: 0,
                 };
                 ported(&both.bytes, both.used, &mut bytes, |lent| {
-                    prack::validate(both.middle.as_bytes(), black_box(BLOCK), TIME, lent, &mut rack)
+                    prack::validate(
+                        Settings::RUST,
+                        both.middle.as_bytes(),
+                        black_box(BLOCK),
+                        TIME,
+                        lent,
+                        &mut rack,
+                    )
                 })
             }),
         ),
@@ -185,7 +192,14 @@ fn get_pending(both: &Pracks) -> Vec<Side<'_>> {
             Box::new(move || {
                 let (mut out, mut written) = ([0; 60], 0);
                 ported(&both.bytes, both.used, &mut bytes, |lent| {
-                    prack::get_pending(black_box(both.middle.as_bytes()), TIME, lent, &mut out, &mut written)
+                    prack::get_pending(
+                        Settings::RUST,
+                        black_box(both.middle.as_bytes()),
+                        TIME,
+                        lent,
+                        &mut out,
+                        &mut written,
+                    )
                 })
             }),
         ),
@@ -204,7 +218,8 @@ fn is_pracked(both: &Pracks) -> Vec<Side<'_>> {
             Box::new(move || {
                 let (id, mut pracked) = (black_box(both.middle.as_bytes()), 1);
                 timed(|| {
-                    let number = prack::is_pracked(id, RESPONSE.rseq, &both.bytes, both.used, &mut pracked);
+                    let number =
+                        prack::is_pracked(Settings::RUST, id, RESPONSE.rseq, &both.bytes, both.used, &mut pracked);
                     assert_eq!((number, pracked), (0, 0), "waits");
                 })
             }),
@@ -232,7 +247,7 @@ fn remove_dialog(both: &Pracks) -> Vec<Side<'_>> {
             "Rattle",
             Box::new(move || {
                 ported(&both.bytes, both.used, &mut bytes, |lent| {
-                    prack::remove_dialog(black_box(both.middle.as_bytes()), lent)
+                    prack::remove_dialog(Settings::RUST, black_box(both.middle.as_bytes()), lent)
                 })
             }),
         ),
@@ -259,7 +274,7 @@ fn remove_pracked(both: &Pracks) -> Vec<Side<'_>> {
         bytes: &mut before,
         used: &mut used,
     };
-    let accepted = prack::validate(both.middle.as_bytes(), BLOCK, TIME, lent, &mut rack);
+    let accepted = prack::validate(Settings::RUST, both.middle.as_bytes(), BLOCK, TIME, lent, &mut rack);
     assert_eq!(accepted, 0, "acknowledged");
     let mut bytes = before.clone();
     vec![
@@ -267,7 +282,7 @@ fn remove_pracked(both: &Pracks) -> Vec<Side<'_>> {
             "Rattle",
             Box::new(move || {
                 ported(&before, used, &mut bytes, |lent| {
-                    prack::remove_pracked(black_box(both.middle.as_bytes()), RESPONSE.rseq, lent)
+                    prack::remove_pracked(Settings::RUST, black_box(both.middle.as_bytes()), RESPONSE.rseq, lent)
                 })
             }),
         ),

@@ -6,6 +6,7 @@ use super::dialogs::{made, parsed_request};
 use super::tables::{table, timed, Plan, Side, Sides};
 use crate::dialogs::encode;
 use port::store::{self, Place, Store};
+use port::Settings;
 use sip_core::Request;
 use sip_dialog::storage::{hold, set_remote_cseq};
 use sip_dialog::{Dialog, DialogManager};
@@ -130,7 +131,13 @@ fn put(both: &Both, status: u16) -> Vec<Side<'_>> {
                     bytes: &mut bytes,
                     used: &mut used,
                 };
-                timed(|| assert_eq!(store::put(black_box(&image), lent, &mut created), 0, "accepted"))
+                timed(|| {
+                    assert_eq!(
+                        store::put(Settings::RUST, black_box(&image), lent, &mut created),
+                        0,
+                        "accepted"
+                    )
+                })
             }),
         ),
         (
@@ -159,7 +166,13 @@ fn request(both: &Both) -> Vec<Side<'_>> {
                     bytes: &mut bytes,
                     used: &mut used,
                 };
-                timed(|| assert_eq!(store::request(b"INVITE", black_box(&both.block), lent), 0, "taken"))
+                timed(|| {
+                    assert_eq!(
+                        store::request(Settings::RUST, b"INVITE", black_box(&both.block), lent),
+                        0,
+                        "taken"
+                    )
+                })
             }),
         ),
         (
@@ -191,7 +204,11 @@ fn find_by_request(both: &Both) -> Vec<Side<'_>> {
     vec![
         (
             "Rattle",
-            Box::new(|| find(|found| store::find_by_request(black_box(&both.block), &both.bytes, both.used, found))),
+            Box::new(|| {
+                find(|found| {
+                    store::find_by_request(Settings::RUST, black_box(&both.block), &both.bytes, both.used, found)
+                })
+            }),
         ),
         (
             "stand-in parse, Rust",
@@ -217,7 +234,15 @@ fn find_by_call_id(both: &Both) -> Vec<Side<'_>> {
         (
             "Rattle",
             Box::new(move || {
-                find(|found| store::find_by_call_id(black_box(call_id.as_bytes()), &both.bytes, both.used, found))
+                find(|found| {
+                    store::find_by_call_id(
+                        Settings::RUST,
+                        black_box(call_id.as_bytes()),
+                        &both.bytes,
+                        both.used,
+                        found,
+                    )
+                })
             }),
         ),
         (
@@ -242,7 +267,13 @@ fn count(both: &Both) -> Vec<Side<'_>> {
             "Rattle",
             Box::new(|| {
                 let mut number = 0;
-                timed(|| assert_eq!(store::count(black_box(&both.bytes), both.used, &mut number), 0, "read"))
+                timed(|| {
+                    assert_eq!(
+                        store::count(Settings::RUST, black_box(&both.bytes), both.used, &mut number),
+                        0,
+                        "read"
+                    )
+                })
             }),
         ),
         ("Rust count", Box::new(|| timed(|| black_box(&both.manager).count()))),
@@ -259,7 +290,7 @@ fn all_ids(both: &Both) -> Vec<Side<'_>> {
                 let mut length = 0;
                 timed(|| {
                     assert_eq!(
-                        store::all_ids(&both.bytes, both.used, &mut out, &mut length),
+                        store::all_ids(Settings::RUST, &both.bytes, both.used, &mut out, &mut length),
                         0,
                         "written"
                     )
@@ -296,7 +327,7 @@ fn sweep(both: &Both) -> Vec<Side<'_>> {
                     bytes: &mut bytes,
                     used: &mut used,
                 };
-                let time = timed(|| assert_eq!(store::sweep(lent), 0, "accepted"));
+                let time = timed(|| assert_eq!(store::sweep(Settings::RUST, lent), 0, "accepted"));
                 assert!(used < both.used, "swept");
                 time
             }),

@@ -73,10 +73,17 @@ pub fn room(operation: &'static str, result: usize, lent: usize) {
 
 /// Works without counting, for calls that are only made ready.
 pub fn quietly<T>(work: impl FnOnce() -> T) -> T {
-    QUIET.set(true);
+    let before = QUIET.replace(true);
     let result = work();
-    QUIET.set(false);
+    QUIET.set(before);
     result
+}
+
+/// Counts within such work.
+pub fn aloud(work: impl FnOnce()) {
+    let before = QUIET.replace(false);
+    work();
+    QUIET.set(before);
 }
 
 /// Each side of each bound, with its operation and what is bounded.

@@ -148,6 +148,110 @@ const PLACES: &[&str] = &["the only one", "the first", "between others", "the la
 /// The counts at which a rise ends.
 const COUNTS: &[&str] = &["0", "18446744073709551614", "18446744073709551615"];
 
+/// All that are given a site's settings; those of them that take a PRACK store, and of these those that clean.
+const SITES: &[&str] = &[
+    "image_id, any settings",
+    "image_state, any settings",
+    "image_uris, any settings",
+    "image_numbers, any settings",
+    "image_route_count, any settings",
+    "image_route, any settings",
+    "image_matches_request, any settings",
+    "image_needs_refresh, any settings",
+    "image_confirm, any settings",
+    "image_terminate, any settings",
+    "image_next_local_cseq, any settings",
+    "image_set_session_expires, any settings",
+    "image_update_from_request, any settings",
+    "image_update_from_response, any settings",
+    "listing, any settings",
+    "put, any settings",
+    "request, any settings",
+    "response, any settings",
+    "terminate, any settings",
+    "next_local_cseq, any settings",
+    "set_session_expires, any settings",
+    "remove, any settings",
+    "sweep, any settings",
+    "get, any settings",
+    "find_by_call_id, any settings",
+    "find_by_request, any settings",
+    "count, any settings",
+    "all_ids, any settings",
+    "prack_register, any settings",
+    "prack_validate, any settings",
+    "prack_is_pracked, any settings",
+    "prack_get_pending, any settings",
+    "prack_remove_dialog, any settings",
+    "prack_remove_pracked, any settings",
+];
+const SITES_PRACKS: &[&str] = &[
+    "prack_register, any settings",
+    "prack_validate, any settings",
+    "prack_is_pracked, any settings",
+    "prack_get_pending, any settings",
+    "prack_remove_dialog, any settings",
+    "prack_remove_pracked, any settings",
+];
+const SITES_CLEANING: &[&str] = &[
+    "prack_register, any settings",
+    "prack_validate, any settings",
+    "prack_get_pending, any settings",
+];
+const SITES_REQUEST: &[&str] = &["image_update_from_request, any settings", "request, any settings"];
+const SITES_LISTS: &[&str] = &["prack_register, any settings", "prack_get_pending, any settings"];
+
+/// Those of all sites that 1 can refuse, those that 2 can, and those that 18 can.
+const SITES_1: &[&str] = &[
+    "image_matches_request, any settings",
+    "image_update_from_request, any settings",
+    "image_update_from_response, any settings",
+    "listing, any settings",
+    "request, any settings",
+    "response, any settings",
+    "terminate, any settings",
+    "next_local_cseq, any settings",
+    "set_session_expires, any settings",
+    "remove, any settings",
+    "get, any settings",
+    "find_by_call_id, any settings",
+    "find_by_request, any settings",
+    "prack_register, any settings",
+    "prack_validate, any settings",
+    "prack_is_pracked, any settings",
+    "prack_get_pending, any settings",
+    "prack_remove_dialog, any settings",
+    "prack_remove_pracked, any settings",
+];
+const SITES_2: &[&str] = &[
+    "image_matches_request, any settings",
+    "image_update_from_request, any settings",
+    "image_update_from_response, any settings",
+    "request, any settings",
+    "response, any settings",
+    "find_by_request, any settings",
+    "prack_validate, any settings",
+];
+const SITES_18: &[&str] = &[
+    "image_next_local_cseq, any settings",
+    "image_set_session_expires, any settings",
+    "image_update_from_request, any settings",
+    "image_update_from_response, any settings",
+    "listing, any settings",
+    "put, any settings",
+    "request, any settings",
+    "response, any settings",
+    "next_local_cseq, any settings",
+    "set_session_expires, any settings",
+    "all_ids, any settings",
+    "prack_register, any settings",
+    "prack_validate, any settings",
+    "prack_get_pending, any settings",
+];
+
+/// By how much a number is above a limit of the site.
+const AROUND: &[&str] = &["-1", "0", "1"];
+
 pub const BOUNDS: &[Bound] = &[
     (TAGGED, "tags said by", &["the Rust", "the run's own reading"]),
     (
@@ -573,5 +677,47 @@ pub const BOUNDS: &[Bound] = &[
         &["worst_minute"],
         "from the start to a refusal",
         &["0", "59999999999", "60000000000", "60000000001"],
+    ),
+    (SITES, "CSeq jump", &["0", "1", "65535", "65536", "4294967295"]),
+    (SITES, "pending", &["0", "1", "32", "33", "4294967295"]),
+    (SITES, "cleanup", &["0", "1", "3600", "3601", "4294967295"]),
+    (SITES, "timeout", &["0", "1", "3600", "3601", "4294967295"]),
+    (SITES, "Early cap", &["0", "1", "100", "101", "4294967295"]),
+    (SITES, "30 before", &["0", "3"]),
+    (SITES_1, "30 before", &["1"]),
+    (SITES_2, "30 before", &["2"]),
+    (SITES_18, "30 before", &["18"]),
+    (SITES_REQUEST, "30 before", &["4", "9", "10", "11", "12"]),
+    (&["prack_register, any settings"], "30 before", &["28"]),
+    (&["put, any settings"], "30 before", &["16", "17"]),
+    (
+        &["prack_validate, any settings"],
+        "30 before",
+        &["19", "20", "21", "22", "23", "24"],
+    ),
+    (SITES_REQUEST, "CSeq above a jump of 1", &["0", "1"]),
+    (SITES_REQUEST, "CSeq above a jump of 65,535", AROUND),
+    (SITES_REQUEST, "CSeq above another jump", AROUND),
+    (&["put, any settings"], "other Early above a cap of 1", AROUND),
+    (&["put, any settings"], "other Early above a cap of 100", AROUND),
+    (&["put, any settings"], "other Early above another cap", AROUND),
+    (SITES_LISTS, "list beside 1 pending", &["-1", "0"]),
+    (SITES_LISTS, "list beside 32 pending", &["-1", "0"]),
+    (SITES_LISTS, "list beside another number", &["-1", "0"]),
+    (SITES_CLEANING, "beside a cleanup of 1 s", AROUND),
+    (SITES_CLEANING, "beside a cleanup of 3,600 s", AROUND),
+    (SITES_CLEANING, "beside another cleanup", AROUND),
+    (SITES_CLEANING, "beside a timeout of 1 s", AROUND),
+    (SITES_CLEANING, "beside a timeout of 3,600 s", AROUND),
+    (SITES_CLEANING, "beside another timeout", AROUND),
+    (
+        SITES_CLEANING,
+        "cleanup beside timeout",
+        &["the shorter", "as long", "the longer"],
+    ),
+    (
+        SITES_PRACKS,
+        "store",
+        &["its own list too long", "another's list too long"],
     ),
 ];

@@ -9,6 +9,7 @@ use crate::random::Random;
 use crate::rules::LONGEST;
 use crate::texts::{damage, front_of_tag, method_text, near, number_text, recased, spelled, HELD_FRONTS};
 use crate::uris::{long_uri, short_uri, uri_text};
+use port::Settings;
 use sip_dialog::DialogId;
 
 /// The arguments of one call.
@@ -16,6 +17,7 @@ use sip_dialog::DialogId;
 pub struct Call {
     pub texts: [Vec<u8>; 5],
     pub numbers: [u64; 6],
+    pub settings: Settings,
 }
 
 impl Call {
@@ -38,6 +40,7 @@ impl Call {
         Input {
             texts: std::array::from_fn(|index| self.texts[index].as_slice()),
             numbers: self.numbers,
+            settings: self.settings,
         }
     }
 }
@@ -145,18 +148,18 @@ pub fn any_seconds(random: &mut Random) -> u64 {
     }
 }
 
-/// The method and block of a request on a record with that remote number.
-pub fn request(random: &mut Random, remote: u32) -> (Vec<u8>, Vec<u8>) {
+/// The method and block of a request on a record with that remote number, at a site of that CSeq jump.
+pub fn request(random: &mut Random, remote: u32, jump: u32) -> (Vec<u8>, Vec<u8>) {
     let odd = Odd::new(random, 5);
-    let (method, mut lines) = request_lines(random, remote, &odd);
+    let (method, mut lines) = request_lines(random, [remote, jump], &odd);
     noise(random, &mut lines);
     (method, block(random, lines, odd.has(4)))
 }
 
 /// The same for a request that names the record as its peer does, or nearly.
-pub fn request_naming(random: &mut Random, id: &DialogId, remote: u32) -> (Vec<u8>, Vec<u8>) {
+pub fn request_naming(random: &mut Random, id: &DialogId, remote: u32, jump: u32) -> (Vec<u8>, Vec<u8>) {
     let odd = Odd::new(random, 6);
-    let (method, mut lines) = request_lines(random, remote, &odd);
+    let (method, mut lines) = request_lines(random, [remote, jump], &odd);
     if odd.has(5) {
         identifier_lines(random, &mut lines, true);
     } else {
@@ -184,7 +187,7 @@ pub fn named(random: &mut Random, id: &DialogId, number: u32) -> Vec<u8> {
 }
 
 /// A request's method, and its CSeq, Contact and Record-Route lines.
-fn request_lines(random: &mut Random, remote: u32, odd: &Odd) -> (Vec<u8>, Vec<Vec<u8>>) {
+fn request_lines(random: &mut Random, [remote, jump]: [u32; 2], odd: &Odd) -> (Vec<u8>, Vec<Vec<u8>>) {
     let is_ack = random.one_in(3);
     let method = match is_ack {
         true if random.one_in(12) => recased(random, "ACK"),
@@ -194,7 +197,7 @@ fn request_lines(random: &mut Random, remote: u32, odd: &Odd) -> (Vec<u8>, Vec<V
     let number = if is_ack && !random.one_in(6) {
         u64::from(remote)
     } else {
-        next_number(random, remote)
+        next_number(random, remote, jump)
     };
     let mut lines = vec![line(random, "CSeq", &|_: &mut Random| {
         format!("{number} INVITE").into_bytes()
@@ -206,15 +209,15 @@ fn request_lines(random: &mut Random, remote: u32, odd: &Odd) -> (Vec<u8>, Vec<V
     (method, lines)
 }
 
-/// A CSeq number for a request: around the remote number and around the bounds.
-fn next_number(random: &mut Random, remote: u32) -> u64 {
-    let remote = u64::from(remote);
+/// A CSeq number for a request: around the remote number, around it and the jump, and around the bounds.
+fn next_number(random: &mut Random, remote: u32, jump: u32) -> u64 {
+    let [remote, jump] = [remote, jump].map(u64::from);
     match random.below(8) {
-        0 => remote + random.pick(&[999, 1000, 1001, 1002]),
+        0 => remote + jump + random.pick(&[0, 1, 2, 3]) - 1,
         1 => (remote + random.below(3) as u64).saturating_sub(1),
         2 => random.pick(&[0, 1, 2, (1 << 31) - 1, 1 << 31, (1 << 32) - 1, 1 << 32]),
         3 => random.next() >> (32 + random.below(32)),
-        4 => remote + 1 + random.below(1000) as u64,
+        4 => remote + 1 + random.below(jump as usize) as u64,
         _ => remote + 1,
     }
 }

@@ -9,6 +9,7 @@ use crate::bounds;
 use crate::random::Random;
 use crate::rules::{LISTING, LONGEST_LISTED};
 use crate::run::{Feed, Operation};
+use crate::settings;
 use crate::texts::near;
 use sip_core::SipUri;
 use sip_dialog::DialogStateType;
@@ -25,7 +26,7 @@ pub const OPERATIONS: &[Operation] = &[Operation {
     ask: |input, answer| {
         room::lend_empty(answer, input.numbers[0] as usize);
         lent_as(&mut answer.outs[0], |length| {
-            port::store::listing(input.texts[0], room::lent(&mut answer.bytes), length)
+            port::store::listing(input.settings, input.texts[0], room::lent(&mut answer.bytes), length)
         })
     },
     inputs: each_store,
@@ -38,10 +39,11 @@ pub const OPERATIONS: &[Operation] = &[Operation {
     },
 }];
 
-/// 1, 3, then the lines; 18 where they don't fit.
+/// 30, 1, 3, then the lines; 18 where they don't fit.
 fn expect(input: &Input, answer: &mut Answer) -> Result<(), u8> {
     let (store, lent) = (input.texts[0], input.numbers[0] as usize);
     room::lend_empty(answer, lent);
+    settings::permitted(input.settings)?;
     bounds::number(LISTING, "store, bytes", store.len());
     if store.len() > LONGEST_LISTED {
         return Err(1);

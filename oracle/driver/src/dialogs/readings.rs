@@ -13,6 +13,7 @@ use crate::places;
 use crate::random::Random;
 use crate::rules;
 use crate::run::{Fault, Operation};
+use crate::settings;
 use crate::tags::{self, Message, REQUEST_3};
 use sip_core::{Method, SipUri};
 use std::ops::Range;
@@ -71,7 +72,7 @@ pub const OPERATIONS: &[Operation] = &[
         expect: expect_matches,
         ask: |input, answer| {
             lent_as(&mut answer.outs[0], |matches| {
-                port::image_matches_request(input.texts[1], input.texts[0], matches)
+                port::image_matches_request(input.settings, input.texts[1], input.texts[0], matches)
             })
         },
         inputs: |feed| each_image(feed, make_matches),
@@ -88,7 +89,7 @@ pub const OPERATIONS: &[Operation] = &[
         expect: expect_refresh,
         ask: |input, answer| {
             lent_as(&mut answer.outs[0], |due| {
-                port::image_needs_refresh(input.texts[0], input.numbers[0], due)
+                port::image_needs_refresh(input.settings, input.texts[0], input.numbers[0], due)
             })
         },
         inputs: |feed| each_image(feed, make_refresh),
@@ -108,7 +109,11 @@ pub const OPERATIONS: &[Operation] = &[
         outs: ID_PARTS,
         rows: &[0, 3],
         expect: expect_id,
-        ask: |input, answer| ask_places(input, answer, port::image_id),
+        ask: |input, answer| {
+            ask_places(input, answer, |image, parts| {
+                port::image_id(input.settings, image, parts)
+            })
+        },
         inputs: |feed| each_image(feed, make_plain),
         fault: "the two tags are swapped",
         distort: |_, answer| {
@@ -142,7 +147,11 @@ pub const OPERATIONS: &[Operation] = &[
         outs: URI_PARTS,
         rows: &[0, 3],
         expect: expect_uris,
-        ask: |input, answer| ask_places(input, answer, port::image_uris),
+        ask: |input, answer| {
+            ask_places(input, answer, |image, parts| {
+                port::image_uris(input.settings, image, parts)
+            })
+        },
         inputs: |feed| each_image(feed, make_plain),
         fault: "local and remote URI are swapped",
         distort: |_, answer| {
@@ -177,7 +186,7 @@ pub const OPERATIONS: &[Operation] = &[
         expect: expect_route_count,
         ask: |input, answer| {
             lent_as(&mut answer.outs[0], |count| {
-                port::image_route_count(input.texts[0], count)
+                port::image_route_count(input.settings, input.texts[0], count)
             })
         },
         inputs: |feed| each_image(feed, make_plain),
@@ -198,7 +207,7 @@ pub const OPERATIONS: &[Operation] = &[
         expect: expect_route,
         ask: |input, answer| {
             let mut part = lent_part(answer);
-            let number = port::image_route(input.texts[0], input.numbers[0] as usize, &mut part);
+            let number = port::image_route(input.settings, input.texts[0], input.numbers[0] as usize, &mut part);
             take_part(answer, part);
             number
         },
@@ -216,7 +225,7 @@ pub const MATCHES_FAULT: Fault = Fault {
         if answer.number == 0 {
             let block = tags::with_tags_by(&EVERY_SEMICOLON, input.texts[1]);
             lent_as(&mut answer.outs[0], |matches| {
-                port::image_matches_request(&block, input.texts[0], matches)
+                port::image_matches_request(input.settings, &block, input.texts[0], matches)
             });
         }
     },
@@ -261,14 +270,16 @@ fn make_route(random: &mut Random, image: &[u8]) -> Call {
     call
 }
 
-/// The record of a whole image: 3.
+/// The record of a whole image: 30, 3.
 fn record(input: &Input) -> Result<Record, u8> {
+    settings::permitted(input.settings)?;
     image::decode(input.texts[0]).ok_or(3)
 }
 
 /// The Rust's yes or no. Where From or To holds a semicolon: whether the record has the identifier of the run's own reading.
 fn expect_matches(input: &Input, answer: &mut Answer) -> Result<(), u8> {
     let block = input.texts[1];
+    settings::permitted(input.settings)?;
     bounds::number(MATCHES, "block, bytes", block.len());
     rules::limit(&[block])?;
     let request = request(Method::Invite, rules::headers(block)?);
@@ -355,7 +366,7 @@ fn expect_state(input: &Input, answer: &mut Answer) -> Result<(), u8> {
 /// The port's state, side and security.
 fn ask_state(input: &Input, answer: &mut Answer) -> u8 {
     let [mut state, mut we_are_uac, mut secure] = [0, 1, 2].map(|index| answer.outs[index] as u8);
-    let number = port::image_state(input.texts[0], &mut state, &mut we_are_uac, &mut secure);
+    let number = port::image_state(input.settings, input.texts[0], &mut state, &mut we_are_uac, &mut secure);
     for (out, value) in answer.outs.iter_mut().zip([state, we_are_uac, secure]) {
         *out = u64::from(value);
     }
@@ -401,7 +412,7 @@ fn ask_numbers(input: &Input, answer: &mut Answer) -> u8 {
         seconds: outs[5] as u32,
         refresher: outs[6] as u8,
     };
-    let number = port::image_numbers(input.texts[0], &mut numbers);
+    let number = port::image_numbers(input.settings, input.texts[0], &mut numbers);
     answer.outs[..7].copy_from_slice(&[
         u64::from(numbers.local),
         u64::from(numbers.remote),

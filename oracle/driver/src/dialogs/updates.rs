@@ -14,12 +14,14 @@ use crate::messages::{request, response};
 use crate::random::Random;
 use crate::rules;
 use crate::run::Operation;
+use crate::settings;
+use port::Settings;
 use sip_core::{Headers, Request, Response};
-use sip_dialog::storage::private;
+use sip_dialog::storage::{private, set_remote_cseq};
 use sip_dialog::{Dialog, DialogError, DialogStateType};
 use std::time::Duration;
 
-const REQUEST: &str = "image_update_from_request";
+pub const REQUEST: &str = "image_update_from_request";
 const RESPONSE: &str = "image_update_from_response";
 const CONFIRM: &str = "image_confirm";
 const TERMINATE: &str = "image_terminate";
@@ -52,7 +54,7 @@ pub const OPERATIONS: &[Operation] = &[
         ask: |input, answer| {
             let [_, block, method, ..] = input.texts;
             ask_change(input, answer, |image, used, _| {
-                port::image_update_from_request(method, block, image, used)
+                port::image_update_from_request(input.settings, method, block, image, used)
             })
         },
         inputs: |feed| {
@@ -76,7 +78,7 @@ pub const OPERATIONS: &[Operation] = &[
         ask: |input, answer| {
             let status = input.numbers[1] as u16;
             ask_change(input, answer, |image, used, _| {
-                port::image_update_from_response(status, input.texts[1], image, used)
+                port::image_update_from_response(input.settings, status, input.texts[1], image, used)
             })
         },
         inputs: |feed| {
@@ -99,7 +101,11 @@ pub const OPERATIONS: &[Operation] = &[
         outs: USED_OUT,
         rows: &[0, 3],
         expect: expect_confirm,
-        ask: |input, answer| ask_change(input, answer, |image, used, _| port::image_confirm(image, used)),
+        ask: |input, answer| {
+            ask_change(input, answer, |image, used, _| {
+                port::image_confirm(input.settings, image, used)
+            })
+        },
         inputs: |feed| each_image(feed, |random, image| make_plain(random, image, expect_confirm)),
         fault: "a Terminated record becomes Confirmed",
         distort: |_, answer| room::distort_record(answer, |parts| parts.state = DialogStateType::Confirmed),
@@ -112,7 +118,11 @@ pub const OPERATIONS: &[Operation] = &[
         outs: USED_OUT,
         rows: &[0, 3],
         expect: expect_terminate,
-        ask: |input, answer| ask_change(input, answer, |image, used, _| port::image_terminate(image, used)),
+        ask: |input, answer| {
+            ask_change(input, answer, |image, used, _| {
+                port::image_terminate(input.settings, image, used)
+            })
+        },
         inputs: |feed| each_image(feed, |random, image| make_plain(random, image, expect_terminate)),
         fault: "the interval is dropped",
         distort: |_, answer| room::distort_record(answer, |parts| parts.seconds = None),
@@ -127,7 +137,9 @@ pub const OPERATIONS: &[Operation] = &[
         expect: expect_next,
         ask: |input, answer| {
             ask_change(input, answer, |image, used, out| {
-                lent_as(out, |number| port::image_next_local_cseq(image, used, number))
+                lent_as(out, |number| {
+                    port::image_next_local_cseq(input.settings, image, used, number)
+                })
             })
         },
         inputs: |feed| each_image(feed, |random, image| make_plain(random, image, expect_next)),
@@ -150,7 +162,7 @@ pub const OPERATIONS: &[Operation] = &[
         ask: |input, answer| {
             let seconds = input.numbers[1];
             ask_change(input, answer, |image, used, least| {
-                port::image_set_session_expires(image, used, seconds, least)
+                port::image_set_session_expires(input.settings, image, used, seconds, least)
             })
         },
         inputs: |feed| each_image(feed, make_set),
@@ -176,9 +188,15 @@ fn make_plain(random: &mut Random, image: &[u8], expect: Expect) -> Call {
 
 /// A request on the record.
 fn make_request(random: &mut Random, image: &[u8]) -> Call {
+    make_request_at(random, image, Settings::RUST)
+}
+
+/// The same at a site of these settings.
+pub fn make_request_at(random: &mut Random, image: &[u8], settings: Settings) -> Call {
     let mut call = Call::on_image(image);
+    call.settings = settings;
     let remote = image::decode(image).map_or(0, |record| record.dialog.remote_cseq());
-    (call.texts[2], call.texts[1]) = calls::request(random, remote);
+    (call.texts[2], call.texts[1]) = calls::request(random, remote, settings.cseq_jump.max(1));
     with_room(random, call, expect_request)
 }
 
@@ -224,30 +242,64 @@ fn with_room(random: &mut Random, mut call: Call, expect: Expect) -> Call {
 fn expect_request(input: &Input, answer: &mut Answer) -> Result<(), u8> {
     let [_, block, method, ..] = input.texts;
     room::lend_image(input, answer);
+    settings::permitted(input.settings)?;
     limit(REQUEST, &[("block, bytes", block), ("method, bytes", method)])?;
     let headers = rules::headers(block)?;
     let before = room::used_record(REQUEST, input)?.dialog;
     let mut dialog = before.clone();
-    take_request(REQUEST, &mut dialog, &request(method_of(method), headers))?;
+    let request = request(method_of(method), headers);
+    take_request(REQUEST, &mut dialog, &request, input.settings.cseq_jump)?;
     room::leave(REQUEST, answer, &dialog)?;
     meet_target(REQUEST, sizes(input, answer), [&before, &dialog]);
     Ok(())
 }
 
-/// The Rust's method on a request, or the number of its refusal.
-pub fn take_request(operation: &'static str, dialog: &mut Dialog, request: &Request) -> Result<(), u8> {
+/// The Rust's method on a request, or the number of its refusal. At another site's jump the run's own number rules say whether it is
+/// taken, and the Rust is given the record with its remote number one below the request's; at the Rust's jump both must say the same.
+pub fn take_request(operation: &'static str, dialog: &mut Dialog, request: &Request, jump: u32) -> Result<(), u8> {
     let before = dialog.clone();
     let cseq = private::parse_cseq_number(request.headers());
-    meet_cseq(operation, &before, request.method().as_str() == "ACK", cseq);
-    if let Err(error) = dialog.update_from_request(request) {
-        assert_eq!(image::encode(dialog), image::encode(&before), "refused, but changed");
+    let is_ack = request.method().as_str() == "ACK";
+    meet_cseq(operation, &before, is_ack, cseq);
+    let own = judged(before.remote_cseq(), is_ack, cseq, jump);
+    if jump != Settings::RUST.cseq_jump {
+        let cseq = own?;
+        if !is_ack {
+            set_remote_cseq(dialog, cseq - 1);
+        }
+    }
+    let said = dialog.update_from_request(request).map_err(|error| {
         let zero = error == DialogError::InvalidCSeq && cseq == Some(0);
-        return Err(if zero { 9 } else { error_number(error) });
+        if zero {
+            9
+        } else {
+            error_number(error)
+        }
+    });
+    assert_eq!(said, own.map(drop), "the run's own number rules, and the Rust's");
+    if let Err(number) = said {
+        assert_eq!(image::encode(dialog), image::encode(&before), "refused, but changed");
+        return Err(number);
     }
     if let Some(contact) = private::extract_contact_uri(request.headers()) {
         bounds::number(operation, "Contact, estimate", estimate(&contact));
     }
     Ok(())
+}
+
+/// The number rules with the site's jump: the request's CSeq, or 4, 9, 10, 11, 12.
+pub fn judged(remote: u32, is_ack: bool, cseq: Option<u32>, jump: u32) -> Result<u32, u8> {
+    let cseq = cseq.ok_or(4)?;
+    match cseq {
+        0 => Err(9),
+        _ if is_ack && cseq != remote => Err(11),
+        _ if is_ack => Ok(cseq),
+        0x8000_0000.. => Err(10),
+        _ if remote == 0 => Ok(cseq),
+        _ if cseq <= remote => Err(11),
+        _ if cseq - remote > jump => Err(12),
+        _ => Ok(cseq),
+    }
 }
 
 /// Says which numbers a request met.
@@ -304,7 +356,7 @@ fn distort_request(input: &Input, answer: &mut Answer) {
     let [_, block, method, ..] = input.texts;
     if method.eq_ignore_ascii_case(b"ACK") {
         answer.number = ask_change(input, answer, |image, used, _| {
-            port::image_update_from_request(b"ACK", block, image, used)
+            port::image_update_from_request(input.settings, b"ACK", block, image, used)
         });
     }
 }
@@ -313,6 +365,7 @@ fn distort_request(input: &Input, answer: &mut Answer) {
 fn expect_response(input: &Input, answer: &mut Answer) -> Result<(), u8> {
     let block = input.texts[1];
     room::lend_image(input, answer);
+    settings::permitted(input.settings)?;
     limit(RESPONSE, &[("block, bytes", block)])?;
     let headers = rules::headers(block)?;
     let before = room::used_record(RESPONSE, input)?.dialog;
@@ -359,6 +412,7 @@ fn expect_plain(
     change: fn(&mut Dialog),
 ) -> Result<(), u8> {
     room::lend_image(input, answer);
+    settings::permitted(input.settings)?;
     let Record { mut dialog, .. } = room::used_record(operation, input)?;
     change(&mut dialog);
     room::leave(operation, answer, &dialog)
@@ -377,6 +431,7 @@ fn expect_terminate(input: &Input, answer: &mut Answer) -> Result<(), u8> {
 /// The Rust's next local number.
 fn expect_next(input: &Input, answer: &mut Answer) -> Result<(), u8> {
     room::lend_image(input, answer);
+    settings::permitted(input.settings)?;
     let Record { mut dialog, .. } = room::used_record(NEXT, input)?;
     let number = raise_local(NEXT, &mut dialog);
     room::leave(NEXT, answer, &dialog)?;
@@ -400,6 +455,7 @@ fn before(input: &Input) -> Option<Dialog> {
 /// The Rust's interval.
 fn expect_set(input: &Input, answer: &mut Answer) -> Result<(), u8> {
     room::lend_image(input, answer);
+    settings::permitted(input.settings)?;
     let Record { mut dialog, .. } = room::used_record(SET, input)?;
     set_interval(SET, &mut dialog, input.numbers[1]).inspect_err(|number| {
         if *number == 13 {

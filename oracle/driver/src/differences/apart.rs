@@ -10,7 +10,7 @@ use crate::dialogs::encode;
 use crate::messages::{request, response};
 use port::prack::{self, Response};
 use port::store::{self, Place, Store};
-use port::{rseq, Rack};
+use port::{rseq, Rack, Settings};
 use sip_core::{Headers, Method, SipUri};
 use sip_dialog::prack_validator::{extract_cseq_method, PrackValidator, RAck};
 use sip_dialog::session_timer_manager::calculate_refresh_time;
@@ -67,7 +67,7 @@ fn rust_seconds(seconds: u64) -> String {
 fn port_seconds(seconds: u64) -> u8 {
     let mut image = encode(&plain().dialog());
     let (mut used, mut least) = (image.len(), 0);
-    port::image_set_session_expires(&mut image, &mut used, seconds, &mut least)
+    port::image_set_session_expires(Settings::RUST, &mut image, &mut used, seconds, &mut least)
 }
 
 /// Whether the Rust can be given something.
@@ -107,7 +107,7 @@ fn port_request(mut bytes: Vec<u8>) -> String {
         bytes: &mut bytes,
         used: &mut used,
     };
-    match store::request(b"INFO", block("l0").as_bytes(), lent) {
+    match store::request(Settings::RUST, b"INFO", block("l0").as_bytes(), lent) {
         0 => "taken".into(),
         number => number.to_string(),
     }
@@ -127,7 +127,7 @@ fn port_put(image: &[u8]) -> (u8, u64) {
         bytes: &mut bytes,
         used: &mut used,
     };
-    (store::put(image, lent, &mut created), created)
+    (store::put(Settings::RUST, image, lent, &mut created), created)
 }
 
 /// The port's look-up, in words.
@@ -291,14 +291,14 @@ pub const CASES: &[Case] = &[
         row.port(record.creation().port, "refused 6");
     }),
     case("3.15", "`confirm` of no bytes: can't be given; 3", |row| {
-        row.port(port::image_confirm(&mut [], &mut 0), "3");
+        row.port(port::image_confirm(Settings::RUST, &mut [], &mut 0), "3");
     }),
     case("3.16", "local 1, image of 41 bytes: 2; 2, and 41", |row| {
         let mut dialog = plain().dialog();
         let mut image = encode(&dialog);
         row.rust(dialog.next_local_cseq(), "2");
         let (mut used, mut number) = (image.len(), 0);
-        let said = port::image_next_local_cseq(&mut image, &mut used, &mut number);
+        let said = port::image_next_local_cseq(Settings::RUST, &mut image, &mut used, &mut number);
         row.port(format!("{said}: {number}, and {used}"), "0: 2, and 41");
     }),
     case("3.17", "`insert` at 5 ns: 5 ns; can't be asked", |row| {
@@ -311,7 +311,7 @@ pub const CASES: &[Case] = &[
     case(
         "3.18",
         "`count` with the used length 1 of one byte: can't be given; 3",
-        |row| row.port(store::count(&[0], 1, &mut 0), "3"),
+        |row| row.port(store::count(Settings::RUST, &[0], 1, &mut 0), "3"),
     ),
     case(
         "3.19",
@@ -354,7 +354,7 @@ pub const CASES: &[Case] = &[
             bytes: &mut bytes,
             used: &mut used,
         };
-        row.port(store::remove(ID, lent, &mut 0), "0");
+        row.port(store::remove(Settings::RUST, ID, lent, &mut 0), "0");
     }),
     case(
         "3.23",
@@ -366,7 +366,7 @@ pub const CASES: &[Case] = &[
             row.rust(held.id().local_tag(), "L");
             let bytes = encode(&plain().dialog());
             let mut place = NOWHERE;
-            let number = store::get(ID, &bytes, bytes.len(), &mut place);
+            let number = store::get(Settings::RUST, ID, &bytes, bytes.len(), &mut place);
             row.port(found(number, place), "place 0, length 41");
         },
     ),
@@ -381,7 +381,7 @@ pub const CASES: &[Case] = &[
         let one = ["L", "M"].contains(&picked.id().local_tag());
         row.rust(["another", "one of them"][usize::from(one)], "one of them");
         let mut place = NOWHERE;
-        let number = store::find_by_call_id(b"c", &bytes, bytes.len(), &mut place);
+        let number = store::find_by_call_id(Settings::RUST, b"c", &bytes, bytes.len(), &mut place);
         row.port(found(number, place), "place 0, length 41");
     }),
     case("3.25", "one record, 0 lent bytes: its identifier; 18", |row| {
@@ -391,7 +391,10 @@ pub const CASES: &[Case] = &[
         let tags: Vec<&str> = ids.iter().map(DialogId::local_tag).collect();
         row.rust(tags.join(","), "L");
         let bytes = encode(&plain().dialog());
-        row.port(store::all_ids(&bytes, bytes.len(), &mut [], &mut 0), "18");
+        row.port(
+            store::all_ids(Settings::RUST, &bytes, bytes.len(), &mut [], &mut 0),
+            "18",
+        );
     }),
     case("3.26", "a put: 1 in the metrics; the lent count 0 becomes 1", |row| {
         let manager = DialogManager::new();
@@ -414,14 +417,17 @@ pub const CASES: &[Case] = &[
     case(
         "3.29",
         "`is_pracked` with the used length 1 of no bytes: can't be given; 3",
-        |row| row.port(prack::is_pracked(b"d", 1, &[], 1, &mut 0), "3"),
+        |row| row.port(prack::is_pracked(Settings::RUST, b"d", 1, &[], 1, &mut 0), "3"),
     ),
     case(
         "3.30",
         "`register` with a text of the byte 255: can't be given; accepted",
         |row| {
             row.rust(given(String::from_utf8(vec![255]).ok()), "can't be given");
-            row.port(on_empty(50, |lent| prack::register(&[255], RINGING, 0, lent)), "0");
+            row.port(
+                on_empty(50, |lent| prack::register(Settings::RUST, &[255], RINGING, 0, lent)),
+                "0",
+            );
         },
     ),
     case(
@@ -430,12 +436,21 @@ pub const CASES: &[Case] = &[
         |row| {
             row.rust(given(Method::of_number(0)), "can't be given");
             let none = Response { method: 0, ..RINGING };
-            row.port(on_empty(50, |lent| prack::register(b"", none, 0, lent)), "28");
+            row.port(
+                on_empty(50, |lent| prack::register(Settings::RUST, b"", none, 0, lent)),
+                "28",
+            );
             let validator = PrackValidator::new();
             validator.register_reliable_provisional("", 1, 1, Method::Invite, 180);
             row.rust(format!("{:?}", validator.get_pending("")), "[(1, 180)]");
-            row.port(on_empty(31, |lent| prack::register(b"", RINGING, 0, lent)), "18");
-            row.port(on_empty(32, |lent| prack::register(b"", RINGING, 0, lent)), "0");
+            row.port(
+                on_empty(31, |lent| prack::register(Settings::RUST, b"", RINGING, 0, lent)),
+                "18",
+            );
+            row.port(
+                on_empty(32, |lent| prack::register(Settings::RUST, b"", RINGING, 0, lent)),
+                "0",
+            );
         },
     ),
     case(
@@ -445,13 +460,19 @@ pub const CASES: &[Case] = &[
             let (error, times) = without_rack();
             row.rust(format!("{error}, {times} time"), "PRACK missing RAck header, 1 time");
             let mut rack = NO_RACK;
-            row.port(on_empty(10, |lent| prack::validate(b"", b"", 0, lent, &mut rack)), "18");
+            row.port(
+                on_empty(10, |lent| prack::validate(Settings::RUST, b"", b"", 0, lent, &mut rack)),
+                "18",
+            );
         },
     ),
     case("3.33", "an empty block: `PRACK missing RAck header`; 19", |row| {
         row.rust(without_rack().0, "PRACK missing RAck header");
         let mut rack = NO_RACK;
-        row.port(on_empty(50, |lent| prack::validate(b"", b"", 0, lent, &mut rack)), "19");
+        row.port(
+            on_empty(50, |lent| prack::validate(Settings::RUST, b"", b"", 0, lent, &mut rack)),
+            "19",
+        );
     }),
     case("3.34", "one response, 5 lent bytes: a list of one; 18", |row| {
         const LATER: u64 = 300_000_000_000;
@@ -467,8 +488,8 @@ pub const CASES: &[Case] = &[
                 used: &mut used,
             };
             let number = match time {
-                None => prack::register(b"", RINGING, 0, lent),
-                Some(time) => prack::get_pending(b"", time, lent, &mut [0; 5], &mut 0),
+                None => prack::register(Settings::RUST, b"", RINGING, 0, lent),
+                Some(time) => prack::get_pending(Settings::RUST, b"", time, lent, &mut [0; 5], &mut 0),
             };
             (number, bytes)
         };
@@ -484,7 +505,7 @@ pub const CASES: &[Case] = &[
         row.rust(empty_id(), "can't be given");
         let bytes = encode(&plain().dialog());
         let mut place = NOWHERE;
-        let number = store::get([&[], &[], &[]], &bytes, bytes.len(), &mut place);
+        let number = store::get(Settings::RUST, [&[], &[], &[]], &bytes, bytes.len(), &mut place);
         row.port(found(number, place), "15");
     }),
 ];

@@ -6,6 +6,7 @@ use crate::run::PATTERNS;
 use crate::store::kind::Kind;
 use crate::store::memory::Left;
 use crate::store::run::Sides;
+use port::Settings;
 
 /// A store under way.
 pub struct Held<K: Kind> {
@@ -21,7 +22,7 @@ impl<K: Kind> Held<K> {
     pub fn of(used: &[u8]) -> Self {
         let mut random = Random::new(1, "differences");
         Held {
-            sides: Sides::of_store(&mut random, used, [0, 0]),
+            sides: Sides::of_store(&mut random, Settings::RUST, used, [0, 0]),
             random,
         }
     }

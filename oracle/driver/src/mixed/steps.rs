@@ -10,9 +10,13 @@ use crate::rseq::call::{Call as OnRseqs, RSeqs};
 use crate::rseq::calls::n;
 use crate::store::call::Call as OnRecords;
 use crate::store::dialogs::Dialogs;
+use port::Settings;
 
 /// The stages of a line.
 const STAGES: usize = 8;
+
+/// The site's CSeq jump: the Rust's.
+const JUMP: u32 = Settings::RUST.cseq_jump;
 
 /// INVITE's number.
 const INVITE: u8 = 1;
@@ -200,7 +204,7 @@ impl List<'_> {
     /// A request within the dialog, the next local number, and readings of the record where it lies in the store.
     fn within(&mut self, at: usize) -> Flow {
         let remote = self.remote(at);
-        let (method, block) = calls::request_naming(self.random, &self.lines[at].id, remote);
+        let (method, block) = calls::request_naming(self.random, &self.lines[at].id, remote, JUMP);
         self.lines[at].keep(&block);
         self.leaves(at);
         self.call::<Dialogs>(OnRecords::Request { method, block })?;

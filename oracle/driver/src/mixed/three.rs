@@ -7,6 +7,7 @@ use crate::rseq::call::RSeqs;
 use crate::store::dialogs::Dialogs;
 use crate::store::kind::Kind;
 use crate::store::run::{Run, Sides};
+use port::Settings;
 
 /// The allocation, and the two sides of each store. A store has the allocation's bytes during its calls alone.
 pub struct Three {
@@ -60,9 +61,9 @@ impl Three {
     pub fn new(random: &mut Random, counts: [u64; 2]) -> Three {
         let mut three = Three {
             bytes: Vec::new(),
-            records: Sides::of_store(random, &[], counts),
-            rseqs: Sides::of_store(random, &[], [0, 0]),
-            pracks: Sides::of_store(random, &[], [0, 0]),
+            records: Sides::of_store(random, Settings::RUST, &[], counts),
+            rseqs: Sides::of_store(random, Settings::RUST, &[], [0, 0]),
+            pracks: Sides::of_store(random, Settings::RUST, &[], [0, 0]),
         };
         three.take_in::<Dialogs>();
         three.take_in::<RSeqs>();

@@ -78,7 +78,7 @@ pub fn take_part(answer: &mut Answer, part: port::Part) {
 }
 
 /// The port's three places and their lengths.
-pub fn ask_places(input: &Input, answer: &mut Answer, function: fn(&[u8], &mut [usize; 6]) -> u8) -> u8 {
+pub fn ask_places(input: &Input, answer: &mut Answer, function: impl FnOnce(&[u8], &mut [usize; 6]) -> u8) -> u8 {
     let mut parts: [usize; 6] = std::array::from_fn(|index| answer.outs[index] as usize);
     let number = function(input.texts[0], &mut parts);
     for (out, part) in answer.outs.iter_mut().zip(parts) {

@@ -5,25 +5,34 @@ use super::layout::{decode, encode, Entry};
 use super::rust::{can_hold, Rust};
 use super::steps::{step, Step, Wrong};
 use crate::rules;
+use port::Settings;
 use sip_core::Headers;
 
-/// The entries in ascending order, and the validator that holds them; none where its calls can't lead to them.
+/// The entries in ascending order, and the validator that holds them; none where its calls can't lead to them, or the site has other
+/// figures than the Rust.
 pub struct Book {
     pub entries: Vec<Entry>,
     pub rust: Option<Rust>,
+    /// The site's.
+    pub settings: Settings,
 }
 
 impl Book {
     /// The book of a store handed in; nothing where the bytes aren't one.
-    pub fn of_bytes(bytes: &[u8]) -> Option<Book> {
-        let entries = decode(bytes)?;
-        let rust = entries.iter().all(can_hold).then(|| {
+    pub fn of_bytes(bytes: &[u8], settings: Settings) -> Option<Book> {
+        let entries = decode(bytes, settings.pending as usize)?;
+        let is_held = has_the_rusts_figures(settings) && entries.iter().all(can_hold);
+        let rust = is_held.then(|| {
             let mut rust = Rust::new();
             entries.iter().for_each(|entry| rust.hold(entry));
             assert!(rust.entries() == entries, "the Rust holds the store handed in");
             rust
         });
-        Some(Book { entries, rust })
+        Some(Book {
+            entries,
+            rust,
+            settings,
+        })
     }
 
     /// The store's used bytes.
@@ -42,7 +51,7 @@ impl Book {
             return self.used();
         };
         let held = self.held(&call.id);
-        let after = step(Wrong::Nothing, call, &headers, held).after;
+        let after = step(Wrong::Nothing, self.settings, call, &headers, held).after;
         self.used() - held.map_or(0, Entry::size) + after.as_ref().map_or(0, Entry::size)
     }
 
@@ -60,7 +69,7 @@ impl Book {
     /// Takes a call; what is then held is read back from the Rust. The run's own steps must do the same, and stand alone where
     /// the Rust can't hold the store.
     pub fn take(&mut self, call: &Call, headers: &Headers) -> Step {
-        let own = step(Wrong::Nothing, call, headers, self.held(&call.id));
+        let own = step(Wrong::Nothing, self.settings, call, headers, self.held(&call.id));
         let Some(rust) = &mut self.rust else {
             set(&mut self.entries, &call.id, own.after.clone());
             return own;
@@ -83,6 +92,12 @@ impl Book {
         }
         set(&mut self.entries, id, held);
     }
+}
+
+/// Whether the Rust can stand for a site.
+fn has_the_rusts_figures(settings: Settings) -> bool {
+    let of_lists = |settings: Settings| [settings.pending, settings.cleanup_seconds, settings.timeout_seconds];
+    of_lists(settings) == of_lists(Settings::RUST)
 }
 
 /// Sets what is held for a text.

@@ -3,10 +3,12 @@
 use super::ask::ask;
 use super::book::Book;
 use super::expect::expect;
+use super::meet;
 use crate::run::Entry;
 use crate::store::call::entry;
 use crate::store::kind::{Damage, Kind};
 use crate::store::memory::Left;
+use port::Settings;
 
 pub const REGISTER: &str = "prack_register";
 pub const VALIDATE: &str = "prack_validate";
@@ -161,8 +163,8 @@ impl Kind for Pracks {
         }
     }
 
-    fn book(bytes: &[u8], _: [u64; 2]) -> Option<Book> {
-        Book::of_bytes(bytes)
+    fn book(bytes: &[u8], _: [u64; 2], settings: Settings) -> Option<Book> {
+        Book::of_bytes(bytes, settings)
     }
 
     fn used(book: &Book) -> usize {
@@ -171,6 +173,10 @@ impl Kind for Pracks {
 
     fn used_after(book: &Book, call: &Call) -> usize {
         book.used_after(call)
+    }
+
+    fn meet_site(name: &'static str, book: &Result<Book, Damage>, call: &Call) {
+        meet::at_site(name, book, call);
     }
 
     fn expect(book: &mut Result<Book, Damage>, call: &Call, lent: usize, left: &mut Left) {

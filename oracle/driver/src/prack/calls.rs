@@ -9,7 +9,9 @@ use crate::dialogs::calls::lent_for;
 use crate::random::Random;
 use crate::rseq::TEXTS;
 use crate::rules::LONGEST;
+use crate::settings;
 use crate::texts::{damage, near, number_text, recased, METHOD_TEXTS};
+use port::Settings;
 use std::collections::BTreeMap;
 
 /// The texts of a list's entries: few, so that they meet again.
@@ -33,9 +35,9 @@ impl Pool {
     }
 
     /// A store of some of them.
-    pub fn store(&self, random: &mut Random) -> Vec<u8> {
+    pub fn store(&self, random: &mut Random, settings: Settings) -> Vec<u8> {
         let some: Vec<&Vec<u8>> = self.0.iter().filter(|_| random.one_in(2)).collect();
-        let entries = some.into_iter().map(|id| (id.clone(), entry(random, id)));
+        let entries = some.into_iter().map(|id| (id.clone(), entry(random, settings, id)));
         let entries: BTreeMap<Vec<u8>, Entry> = entries.collect();
         encode(&entries.into_values().collect::<Vec<Entry>>())
     }
@@ -78,28 +80,32 @@ fn method(random: &mut Random) -> u8 {
     }
 }
 
-/// A response of a store handed in: mostly near a time.
-pub fn response(random: &mut Random, near: u64) -> Response {
+/// A response of a store handed in: mostly near a time, or so long from it.
+pub fn response(random: &mut Random, near: u64, long: u64) -> Response {
     Response {
         rseq: number(random),
         cseq: number(random),
         method: method(random),
         code: code(random),
         acknowledged: random.one_in(3),
-        registered_at: time_near(random, near),
+        registered_at: time_near(random, near, long),
     }
 }
 
 /// An entry of a store handed in. Mostly an acknowledged response is the first of its RSeq: others no call of the Rust makes.
-fn entry(random: &mut Random, id: &[u8]) -> Entry {
+fn entry(random: &mut Random, settings: Settings, id: &[u8]) -> Entry {
     let cleaned_at = match random.below(8) {
         0 => random.pick(&[0, u64::MAX, LONG, u64::MAX - LONG]),
         1 => random.next(),
         _ => LONG * (1 + random.below(9) as u64),
     };
-    let most = random.pick(&[0, 1, 3, 3, MOST - 1, MOST]);
+    let pending = settings.pending as usize;
+    let most = random.pick(&[0, 1, 3, 3, pending - 1, pending]).min(pending);
     let mut list: Vec<Response> = (0..random.below(most + 1))
-        .map(|_| response(random, cleaned_at))
+        .map(|_| {
+            let long = long(random, settings);
+            response(random, cleaned_at, long)
+        })
         .collect();
     if !random.one_in(16) {
         for at in 0..list.len() {
@@ -114,16 +120,25 @@ fn entry(random: &mut Random, id: &[u8]) -> Entry {
     }
 }
 
-/// A time: that one, a little later or earlier, around 300 s later or earlier, at times an end of the scale or any.
-fn time_near(random: &mut Random, time: u64) -> u64 {
+/// The site's cleanup or its timeout, in nanoseconds.
+fn long(random: &mut Random, settings: Settings) -> u64 {
+    let [cleanup, timeout] = settings::times(settings);
+    match cleanup == timeout {
+        true => cleanup,
+        false => random.pick(&[cleanup, timeout]),
+    }
+}
+
+/// A time: that one, a little later or earlier, around so long later or earlier, at times an end of the scale or any.
+fn time_near(random: &mut Random, time: u64, long: u64) -> u64 {
     let little = random.below(3) as u64;
     match random.below(24) {
         0..6 => time,
         6..10 => time.saturating_add(random.below(1000) as u64),
-        10..12 => time.saturating_add(random.next() % LONG),
-        12..18 => time.saturating_add(LONG - 1).saturating_add(little),
-        18 => time.saturating_add(2 * LONG),
-        19 => time.saturating_sub(LONG - 1).saturating_sub(little),
+        10..12 => time.saturating_add(random.next() % long),
+        12..18 => time.saturating_add(long - 1).saturating_add(little),
+        18 => time.saturating_add(2 * long),
+        19 => time.saturating_sub(long - 1).saturating_sub(little),
         20 | 21 => time.saturating_sub(random.below(1000) as u64),
         22 if random.one_in(12) => random.pick(&[0, 0, u64::MAX]),
         23 if random.one_in(12) => random.next(),
@@ -142,7 +157,8 @@ fn time(random: &mut Random, book: &Book, id: &[u8]) -> u64 {
         1 if !responses.is_empty() => responses[random.below(responses.len())].registered_at,
         _ => cleaned_at,
     };
-    time_near(random, base)
+    let long = long(random, book.settings);
+    time_near(random, base, long)
 }
 
 /// A random call; the fewer of the pool's texts the store has, the more new ones.
@@ -228,7 +244,7 @@ fn room(random: &mut Random, book: &Book, id: &[u8]) -> usize {
 /// The block of a PRACK: its RAck names a response of the text, or nearly.
 fn block(random: &mut Random, book: &Book, id: &[u8]) -> Vec<u8> {
     let held = held_response(random, book, id);
-    let mut response = held.unwrap_or_else(|| response(random, 0));
+    let mut response = held.unwrap_or_else(|| response(random, 0, LONG));
     match random.below(10) {
         0 => response.rseq = number(random),
         1 => response.cseq = number(random),

@@ -2,7 +2,8 @@
 
 use super::book::Book;
 use super::calls;
-use super::layout::{encode, Entry, MOST, RESPONSE};
+use super::layout::{encode, Entry, RESPONSE};
+use super::steps::LONG;
 use crate::dialogs::records;
 use crate::random::Random;
 use crate::store::entries::SWAPPED;
@@ -24,15 +25,18 @@ pub fn damaged(random: &mut Random, book: &Book) -> (Damage, Vec<u8>) {
         return records::broken(random, &book.bytes());
     }
     let mut others = Vec::new();
-    each_of_entries(&book.entries, random, &mut |damage, bytes| {
-        others.push((damage, bytes.to_vec()))
-    });
+    each_of_entries(
+        &book.entries,
+        book.settings.pending as usize,
+        random,
+        &mut |damage, bytes| others.push((damage, bytes.to_vec())),
+    );
     others.swap_remove(random.below(others.len()))
 }
 
 /// Every damage to a store's entries: any two swapped, each one again at any place (at times with another time), each list byte
-/// 2, each list with eleven responses, each flag 2, each method 0 and 15.
-pub fn each_of_entries(entries: &[Entry], random: &mut Random, give: &mut dyn FnMut(Damage, &[u8])) {
+/// 2, each list with a response more than the site allows, each flag 2, each method 0 and 15.
+pub fn each_of_entries(entries: &[Entry], most: usize, random: &mut Random, give: &mut dyn FnMut(Damage, &[u8])) {
     let damaged = entries.len().min(MOST_DAMAGED);
     for at in 0..damaged {
         for other in at + 1..damaged {
@@ -49,7 +53,7 @@ pub fn each_of_entries(entries: &[Entry], random: &mut Random, give: &mut dyn Fn
         }
         let mut eleven = entries.to_vec();
         let list = eleven[at].list.get_or_insert_default();
-        list.resize_with(MOST + 1, || calls::response(random, 0));
+        list.resize_with(most + 1, || calls::response(random, 0, LONG));
         give(ELEVEN, &encode(&eleven));
         each_of_bytes(entries, at, give);
     }

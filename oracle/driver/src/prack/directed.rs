@@ -8,9 +8,12 @@ use super::steps::LONG;
 use crate::random::Random;
 use crate::rseq::TEXTS;
 use crate::rules::LONGEST;
+use crate::settings;
+use crate::store::kind::Damage;
 use crate::store::lists::List;
-use crate::store::run::Run;
+use crate::store::run::{Run, Sides};
 use crate::texts::{each_choice, METHOD_TEXTS};
+use port::Settings;
 
 /// How often each list is gone through.
 const TIMES: usize = 25;
@@ -75,16 +78,31 @@ fn validate(block: &[u8], time: u64) -> Call {
     })
 }
 
+/// Room for all that may wait: at the Rust's figures 60 bytes.
+const ROOM: usize = 60;
+
 /// What waits, with room for all.
 fn pending(time: u64) -> Call {
-    of(Action::GetPending { time, room: 60 })
+    of(Action::GetPending { time, room: ROOM })
+}
+
+/// Times after a last cleanup, around the site's cleanup and timeout and beyond them.
+fn gaps(site: Settings) -> Vec<u64> {
+    let [cleanup, timeout] = settings::times(site);
+    let mut gaps = vec![0, cleanup - 1, cleanup, cleanup + 1];
+    if cleanup != timeout {
+        gaps.extend([timeout - 1, timeout, timeout + 1]);
+    }
+    gaps.extend([cleanup + timeout, cleanup + timeout + 1]);
+    gaps
 }
 
 /// Responses of two times, one acknowledged and one from before the last cleanup; then each call that cleans, so long after
 /// them; then one that goes back.
-fn each_time(run: &mut Run<Pracks>, random: &mut Random) {
-    let starts = [1, LONG, u64::MAX - 4 * LONG];
-    let gaps = [0, LONG - 1, LONG, LONG + 1, 2 * LONG, 2 * LONG + 1];
+pub fn each_time(run: &mut Run<Pracks>, random: &mut Random) {
+    let [cleanup, timeout] = settings::times(run.site);
+    let starts = [1, LONG, u64::MAX - 2 * (cleanup + timeout)];
+    let gaps = gaps(run.site);
     each_choice(&[starts.len(), gaps.len(), CLEANING], &mut |choice| {
         let start = starts[choice[0]];
         let then = start + gaps[choice[1]];
@@ -99,8 +117,8 @@ fn each_time(run: &mut Run<Pracks>, random: &mut Random) {
         calls.extend([of(Action::IsPracked { rseq: 1 }), of(Action::IsPracked { rseq: 4 })]);
         calls.push(cleaning(choice[2], start - 1));
         calls.push(pending(then));
-        calls.push(cleaning(choice[2], then + LONG));
-        calls.push(pending(then + LONG + 1));
+        calls.push(cleaning(choice[2], then + cleanup));
+        calls.push(pending(then + cleanup + 1));
         each_roomy(run, random, &calls);
     });
     let ends = [
@@ -118,6 +136,46 @@ fn each_time(run: &mut Run<Pracks>, random: &mut Random) {
     ];
     each_roomy(run, random, &ends);
 }
+
+/// Responses that are as old as the site's timeout when a cleanup is due, a nanosecond younger and older; then each call that cleans.
+pub fn each_age(run: &mut Run<Pracks>, random: &mut Random) {
+    let [cleanup, timeout] = settings::times(run.site);
+    let start = cleanup + timeout;
+    let due = start + cleanup;
+    for choice in 0..CLEANING {
+        let calls = [
+            pending(start),
+            register(1, 1, due - timeout - 1),
+            register(2, 1, due - timeout),
+            register(4, 1, due - timeout + 1),
+            cleaning(choice, due - 1),
+            cleaning(choice, due),
+            pending(due),
+        ];
+        each_roomy(run, random, &calls);
+    }
+}
+
+/// So many responses are registered; what waits is asked for with room for all and with too little.
+pub fn up_to(many: u32) -> Vec<Call> {
+    let mut calls: Vec<Call> = (1..=many).map(|rseq| register(rseq, 7, LONG)).collect();
+    calls.extend([60, 6 * many as usize].map(|room| of(Action::GetPending { time: LONG, room })));
+    calls
+}
+
+/// Every call on a store that has a longer list than the site allows.
+pub fn over(run: &mut Run<Pracks>, random: &mut Random, store: &[u8]) {
+    for (id, damage) in [(ID, OWN), (b"e", OTHER)] {
+        for call in all(id, LONG) {
+            let mut sides = Sides::damaged(random, run.site, store, [0, 0], damage);
+            run.compare(&mut sides, &call, store.len());
+        }
+    }
+}
+
+/// What the tables say of a store with a list longer than the site allows: that of the call's text, or another's.
+pub const OWN: Damage = "its own list too long";
+pub const OTHER: Damage = "another's list too long";
 
 /// The calls that clean: a register, a PRACK refused with each number, an accepted one, and what waits.
 const CLEANING: usize = 9;
@@ -137,11 +195,12 @@ fn cleaning(choice: usize, time: u64) -> Call {
     }
 }
 
-/// Responses up to the twelfth, of which some are acknowledged; the oldest goes with the eleventh.
-fn each_count(run: &mut Run<Pracks>, random: &mut Random) {
+/// Responses up to two more than may be pending, of which some are acknowledged; the oldest goes with the first of these.
+pub fn each_count(run: &mut Run<Pracks>, random: &mut Random) {
+    let last = run.site.pending + 2;
     for acknowledged in 0..4 {
         let mut calls = Vec::new();
-        for rseq in 1..=12 {
+        for rseq in 1..=last {
             calls.extend([register(rseq, 7, LONG), pending(LONG)]);
             if rseq <= acknowledged {
                 calls.push(prack(&format!("{rseq} 7 INVITE"), LONG));
@@ -151,15 +210,15 @@ fn each_count(run: &mut Run<Pracks>, random: &mut Random) {
             prack("1 7 INVITE", LONG),
             prack("2 7 INVITE", LONG),
             prack("3 7 INVITE", LONG),
-            prack("12 7 INVITE", LONG),
+            prack(&format!("{last} 7 INVITE"), LONG),
             of(Action::IsPracked { rseq: 3 }),
             pending(LONG),
-            of(Action::RemovePracked { rseq: 12 }),
-            register(13, 7, LONG),
+            of(Action::RemovePracked { rseq: last }),
+            register(last + 1, 7, LONG),
             pending(2 * LONG),
         ]);
         each_roomy(run, random, &calls);
-        let same: Vec<Call> = (0..12).map(|cseq| register(1, cseq, LONG)).collect();
+        let same: Vec<Call> = (0..last).map(|cseq| register(1, cseq, LONG)).collect();
         each_roomy(run, random, &same);
     }
 }

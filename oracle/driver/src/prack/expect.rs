@@ -1,4 +1,4 @@
-//! What a call must answer and leave: refusals 1, 28, 2, 3 and 18 are the run's own checks around the Rust's validator.
+//! What a call must answer and leave: refusals 30, 1, 28, 2, 3 and 18 are the run's own checks around the Rust's validator.
 
 use super::book::Book;
 use super::call::{Action, Call};
@@ -8,6 +8,7 @@ use crate::bounds;
 use crate::dialogs::creation::limit;
 use crate::dialogs::room;
 use crate::rules;
+use crate::settings;
 use crate::store::expect::store_read;
 use crate::store::kind::Damage;
 use crate::store::memory::Left;
@@ -24,9 +25,10 @@ pub fn expect(book: &mut Result<Book, Damage>, call: &Call, lent: usize, left: &
     };
 }
 
-/// 1, 28, 2 and 3, then what the Rust says, and 18 before that where its result doesn't fit. All used bytes are the Rust's,
+/// 30, 1, 28, 2 and 3, then what the Rust says, and 18 before that where its result doesn't fit. All used bytes are the Rust's,
 /// a refused call's too.
 fn answer(book: &mut Result<Book, Damage>, call: &Call, lent: usize, left: &mut Left) -> Result<Said, u8> {
+    settings::permitted(left.store.settings)?;
     limit(call.name(), &call.texts())?;
     if let Action::Register { method, .. } = call.action {
         bounds::number(call.name(), "method", method);

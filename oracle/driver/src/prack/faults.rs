@@ -4,7 +4,7 @@
 use super::book::set;
 use super::call::{Call, Pracks, GET_PENDING, IS_PRACKED, REGISTER, REMOVE_DIALOG, REMOVE_PRACKED, VALIDATE};
 use super::expect::say;
-use super::layout::{decode, encode, take_entry, Entry};
+use super::layout::{decode, encode, take_entry, Entry, MOST};
 use super::steps::{step, Said, Step, Wrong};
 use crate::dialogs::room;
 use crate::rules;
@@ -394,7 +394,7 @@ pub const FAULTS: &[Fault] = &[
 
 /// The entries of a store; none where it isn't one.
 fn entries(store: &Store) -> Vec<Entry> {
-    decode(store.used_bytes()).unwrap_or_default()
+    decode(store.used_bytes(), store.settings.pending as usize).unwrap_or_default()
 }
 
 /// What was held for a call's text before it.
@@ -406,11 +406,17 @@ fn held(scene: &Scene) -> Option<Entry> {
 
 /// The step of a call that 1, 28, 2 and 3 let through, with one thing wrong.
 fn wrong_step(scene: &Scene, left: &Left, wrong: Wrong) -> Option<Step> {
-    if matches!(left.number, 1 | 2 | 3 | 28) {
+    if matches!(left.number, 1 | 2 | 3 | 28 | 30) {
         return None;
     }
     let headers = rules::headers(scene.call.block()).ok()?;
-    Some(step(wrong, scene.call, &headers, held(scene).as_ref()))
+    Some(step(
+        wrong,
+        scene.before.store.settings,
+        scene.call,
+        &headers,
+        held(scene).as_ref(),
+    ))
 }
 
 /// Leaves what a step with one thing wrong does.
@@ -476,7 +482,7 @@ fn take_loosely(scene: &Scene, left: &mut Left, mend: impl FnOnce(&mut Vec<Entry
         return;
     };
     mend(&mut entries);
-    if left.number == 3 && left.store.used <= scene.lent && decode(&encode(&entries)).is_some() {
+    if left.number == 3 && left.store.used <= scene.lent && decode(&encode(&entries), MOST).is_some() {
         (left.number, left.outs[0]) = (0, 0);
     }
 }

@@ -32,7 +32,7 @@ impl Entry {
     }
 }
 
-/// The bytes of a response, and the most of them in a list.
+/// The bytes of a response, and the most of them in a list at the Rust's figures.
 pub const RESPONSE: usize = 20;
 pub const MOST: usize = 10;
 
@@ -68,12 +68,12 @@ fn encode_response(response: &Response) -> Vec<u8> {
     bytes
 }
 
-/// The entries of a store; nothing where the bytes aren't one.
-pub fn decode(bytes: &[u8]) -> Option<Vec<Entry>> {
+/// The entries of a store whose lists have at most so many responses; nothing where the bytes aren't one.
+pub fn decode(bytes: &[u8], most: usize) -> Option<Vec<Entry>> {
     let mut rest = bytes;
     let mut entries: Vec<Entry> = Vec::new();
     while !rest.is_empty() {
-        let entry = take_entry(&mut rest, MOST)?;
+        let entry = take_entry(&mut rest, most)?;
         if entries.last().is_some_and(|last| last.id >= entry.id) {
             return None;
         }

@@ -3,7 +3,7 @@
 use super::call::{Action, Call, Pracks};
 use super::calls::{self, Pool};
 use super::damage::{damaged, each_of_entries};
-use super::layout::{decode, encode, Entry, Response};
+use super::layout::{decode, encode, Entry, Response, MOST};
 use super::steps::LONG;
 use crate::random::Random;
 use crate::store::entries;
@@ -15,7 +15,7 @@ use crate::store::run::Run;
 pub fn list(run: &mut Run<Pracks>, random: &mut Random) {
     let pool = Pool::new(random);
     let used = if random.one_in(4) {
-        pool.store(random)
+        pool.store(random, run.site)
     } else {
         Vec::new()
     };
@@ -49,7 +49,7 @@ pub fn three() -> [Entry; 3] {
             == *b"\0\x01d\0\0\0\x45\xd9\x64\xb8\0\x01\x01\0\0\0\x01\0\0\0\x01\x01\0\xb4\0\0\0\0\x45\xd9\x64\xb8\0",
         "the example's bytes"
     );
-    assert!(decode(&bytes).is_some(), "a store");
+    assert!(decode(&bytes, MOST).is_some(), "a store");
     entries
 }
 
@@ -82,9 +82,10 @@ pub fn all(id: &[u8], time: u64) -> [Call; 6] {
 /// byte behind it, and by every damage to its entries.
 pub fn each_broken(run: &mut Run<Pracks>, random: &mut Random) {
     let entries = three();
+    let most = run.site.pending as usize;
     let damages = |random: &mut Random, give: &mut dyn FnMut(Damage, &[u8])| {
         for _ in 0..TIMES {
-            each_of_entries(&entries, random, give);
+            each_of_entries(&entries, most, random, give);
         }
     };
     entries::each_broken(run, random, &encode(&entries), damages, |random, turn| {

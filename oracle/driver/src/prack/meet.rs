@@ -6,7 +6,9 @@ use super::layout::{Entry, Response};
 use super::steps::{Said, Step, LONG};
 use crate::bounds;
 use crate::rules::LONGEST;
+use crate::settings;
 use crate::store::given;
+use crate::store::kind::Damage;
 
 /// Whether a call can make the store larger.
 pub fn can_grow(call: &Call) -> bool {
@@ -29,6 +31,26 @@ pub fn store(book: &Book, call: &Call) {
         None => "the run's own steps",
     };
     bounds::met(call.name(), "said by", side);
+}
+
+/// What a call meets at another site, by the operation's name there.
+pub fn at_site(operation: &'static str, book: &Result<Book, Damage>, call: &Call) {
+    let book = match book {
+        Ok(book) => book,
+        Err(damage) => {
+            bounds::aloud(|| bounds::met(operation, "store", damage));
+            return;
+        }
+    };
+    let held = book.held(&call.id);
+    let responses = held.map(Entry::responses).unwrap_or_default();
+    let registered: Vec<u64> = responses.iter().map(|response| response.registered_at).collect();
+    if let (Some(time), Some(entry)) = (call.time(), held) {
+        settings::meet_time(operation, book.settings, time, entry.cleaned_at, &registered);
+    }
+    if matches!(call.action, Action::Register { .. } | Action::GetPending { .. }) {
+        settings::pending_bound(operation, book.settings, responses.len());
+    }
 }
 
 /// How what is written compares with the lent output.

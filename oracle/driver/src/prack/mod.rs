@@ -6,13 +6,13 @@ mod book;
 pub mod call;
 pub mod calls;
 mod damage;
-mod directed;
+pub mod directed;
 mod expect;
 mod faults;
 pub mod layout;
 pub mod lists;
 mod meet;
-mod order;
+pub mod order;
 mod rust;
 pub mod steps;
 

@@ -85,7 +85,7 @@ fn blocks() -> Vec<Vec<u8>> {
 /// Compares a call on the store so chosen.
 fn give(run: &mut Run<Pracks>, random: &mut Random, call: &Call, [store, room]: [usize; 2]) {
     let (damage, bytes) = chosen(store, three(), encode);
-    let mut sides = Sides::damaged(random, &bytes, [0, 0], damage);
+    let mut sides = Sides::damaged(random, run.site, &bytes, [0, 0], damage);
     let lent = lent_for([store, room], bytes.len(), growth(&three(), call));
     sides.store.grow(random, lent + SPARE);
     run.compare(&mut sides, call, lent);

@@ -3,11 +3,13 @@
 //! fault. Wherever the Rust is asked, these steps must do the same.
 
 use super::call::{Action, Call};
-use super::layout::{Entry, Response, MOST};
+use super::layout::{Entry, Response};
+use crate::settings;
+use port::Settings;
 use sip_core::Headers;
 use sip_dialog::prack_validator::RAck;
 
-/// A cleanup is due after so long, and a response is too old after it; in nanoseconds.
+/// At the Rust's figures a cleanup is due after so long, and a response is too old after it; in nanoseconds.
 pub const LONG: u64 = 300_000_000_000;
 
 /// What an accepted call answers.
@@ -58,11 +60,14 @@ pub enum Wrong {
     AcknowledgesUnknown,
 }
 
-/// The step of a call whose block has these headers, on what is held for its text.
-pub fn step(wrong: Wrong, call: &Call, headers: &Headers, held: Option<&Entry>) -> Step {
-    let cleaned = |time| cleaned(wrong, time, &call.id, held);
+/// The step of a call at a site of these settings, whose block has these headers, on what is held for its text.
+pub fn step(wrong: Wrong, settings: Settings, call: &Call, headers: &Headers, held: Option<&Entry>) -> Step {
+    let cleaned = |time| cleaned(wrong, settings::times(settings), time, &call.id, held);
     match &call.action {
-        Action::Register { time, .. } => registered(wrong, cleaned(*time), response(call)),
+        Action::Register { time, .. } => {
+            let pending = settings.pending as usize;
+            registered(wrong, pending, cleaned(*time), response(call))
+        }
         Action::Validate { time, .. } => validated(wrong, cleaned(*time), headers, held),
         Action::IsPracked { rseq } => {
             let responses = held.map(Entry::responses).unwrap_or_default();
@@ -116,8 +121,8 @@ fn response(call: &Call) -> Response {
     }
 }
 
-/// What is held after the cleanup of a call at a time.
-fn cleaned(wrong: Wrong, time: u64, id: &[u8], held: Option<&Entry>) -> Entry {
+/// What is held after the cleanup of a call at a time, by the site's cleanup and timeout.
+fn cleaned(wrong: Wrong, [cleanup, timeout]: [u64; 2], time: u64, id: &[u8], held: Option<&Entry>) -> Entry {
     let Some(held) = held else {
         return Entry {
             id: id.to_vec(),
@@ -126,7 +131,7 @@ fn cleaned(wrong: Wrong, time: u64, id: &[u8], held: Option<&Entry>) -> Entry {
         };
     };
     let mut entry = held.clone();
-    if !is_due(wrong, time, held) {
+    if !is_due(wrong, cleanup, time, held) {
         if wrong == Wrong::StoresTimeGoneBack {
             entry.cleaned_at = entry.cleaned_at.min(time);
         }
@@ -134,33 +139,33 @@ fn cleaned(wrong: Wrong, time: u64, id: &[u8], held: Option<&Entry>) -> Entry {
     }
     entry.cleaned_at = time;
     if let Some(list) = &mut entry.list {
-        list.retain(|response| stays(wrong, time, response));
+        list.retain(|response| stays(wrong, timeout, time, response));
     }
     entry
 }
 
 /// Whether a cleanup is due.
-fn is_due(wrong: Wrong, time: u64, held: &Entry) -> bool {
+fn is_due(wrong: Wrong, cleanup: u64, time: u64, held: &Entry) -> bool {
     let elapsed = time.saturating_sub(held.cleaned_at);
     match wrong {
         Wrong::NeverCleans => false,
-        Wrong::CleansLate => elapsed > LONG,
-        _ => elapsed >= LONG,
+        Wrong::CleansLate => elapsed > cleanup,
+        _ => elapsed >= cleanup,
     }
 }
 
 /// Whether a cleanup leaves a response.
-fn stays(wrong: Wrong, time: u64, response: &Response) -> bool {
+fn stays(wrong: Wrong, timeout: u64, time: u64, response: &Response) -> bool {
     let elapsed = time.saturating_sub(response.registered_at);
     let young = match wrong {
-        Wrong::DropsAt300 => elapsed < LONG,
-        _ => elapsed <= LONG,
+        Wrong::DropsAt300 => elapsed < timeout,
+        _ => elapsed <= timeout,
     };
     young && (!response.acknowledged || wrong == Wrong::KeepsAcknowledged)
 }
 
-/// A response is put behind the others; of ten the first goes.
-fn registered(wrong: Wrong, mut entry: Entry, mut response: Response) -> Step {
+/// A response is put behind the others; of as many as may be pending the first goes.
+fn registered(wrong: Wrong, pending: usize, mut entry: Entry, mut response: Response) -> Step {
     match wrong {
         Wrong::StoresOtherRseq => response.rseq ^= 1,
         Wrong::StoresOtherCseq => response.cseq ^= 1,
@@ -171,7 +176,7 @@ fn registered(wrong: Wrong, mut entry: Entry, mut response: Response) -> Step {
     if wrong == Wrong::Replaces {
         list.retain(|other| other.rseq != response.rseq);
     }
-    if list.len() >= MOST && wrong != Wrong::TakesEleven {
+    if list.len() >= pending && wrong != Wrong::TakesEleven {
         match wrong {
             Wrong::DropsNewest => list.pop().expect("ten"),
             _ => list.remove(0),

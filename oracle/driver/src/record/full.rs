@@ -4,15 +4,18 @@
 use super::writer::Writer;
 use super::{Key, RECORDER};
 use crate::dialogs::encode;
-use crate::prack;
+use crate::prack::{self, call::Pracks};
 use crate::random::Random;
 use crate::rseq;
+use crate::settings;
 use crate::store::call::{texts_of, Call};
 use crate::store::dialogs::Dialogs;
 use crate::store::directed;
+use crate::store::kind::Kind;
 use crate::store::lists::{self, List};
 use crate::store::run::Run;
 use crate::verdicts::{self, call::Verdicts, ENTRY_SIZE};
+use port::Settings;
 use sip_dialog::DialogId;
 use sip_dialog::DialogStateType::{self, Confirmed, Early, Terminated};
 use std::collections::BTreeSet;
@@ -135,12 +138,48 @@ pub fn record(writer: &mut Writer) -> BTreeSet<Key> {
         let (mut run, mut random) = (Run::new(&[]), Random::new(seed, "recorded"));
         prack::lists::list(&mut run, &mut random);
     });
+    short(writer, &mut met, "records at another site", |seed| {
+        let (mut run, mut random) = elsewhere(seed);
+        lists::list(&mut run, &mut random);
+    });
+    short(writer, &mut met, "PRACK lists at another site", |seed| {
+        let (mut run, mut random) = elsewhere(seed);
+        prack::lists::list(&mut run, &mut random);
+    });
+    longest_list(writer, &mut met);
     full_run(writer, &mut met);
     short(writer, &mut met, "verdicts", |seed| {
         let (mut run, mut random) = (Run::new(&[]), Random::new(seed, "recorded"));
         verdicts::lists::list(&mut run, &mut random);
     });
     met
+}
+
+/// Records calls on a PRACK list of as many responses as any site allows, and one more; then the same store at a site that allows one
+/// less.
+fn longest_list(writer: &mut Writer, met: &mut BTreeSet<Key>) {
+    let calls = captured(met, || {
+        let (mut run, mut random) = elsewhere::<Pracks>(1);
+        run.site = Settings {
+            pending: 32,
+            ..Settings::RUST
+        };
+        let mut list = List::new(&mut run, &mut random, &[], [0, 0]);
+        list.each_roomy(&prack::directed::up_to(33));
+        let store = list.sides.store.used_bytes().to_vec();
+        run.site.pending = 31;
+        prack::directed::over(&mut run, &mut random, &store);
+    });
+    writer.remark("a PRACK list of 32 responses");
+    calls.iter().for_each(|call| writer.on_store(call));
+}
+
+/// A run at another site, whose calls are refused by 30 first.
+fn elsewhere<K: Kind>(seed: u64) -> (Run<K>, Random) {
+    let mut random = Random::new(seed, "recorded");
+    let mut run = Run::of_sites(&[], Random::new(seed, "recorded settings"));
+    run.site = settings::any(&mut random);
+    (run, random)
 }
 
 /// Records calls on 4,095 verdicts and more that are alike, byte by byte, and on 4,097 of them.

@@ -19,7 +19,8 @@ use crate::prack;
 use crate::prack::call::Pracks;
 use crate::rseq;
 use crate::rseq::call::RSeqs;
-use crate::run::{Operation, PATTERNS};
+use crate::run::{Entry, Operation, PATTERNS};
+use crate::settings;
 use crate::store;
 use crate::store::dialogs::Dialogs;
 use crate::store::kind::Kind;
@@ -247,6 +248,7 @@ fn arguments_of(name: &str, input: &Input, outs: &[u64; 8], lent: &[u8]) -> Stri
         let argument = match &word[..1] {
             "t" => line::text(input.texts[index]),
             "n" => input.numbers[index].to_string(),
+            "s" => settings::figures(input.settings)[index].to_string(),
             "o" => outs[index].to_string(),
             _ => line::text(lent),
         };
@@ -267,6 +269,7 @@ pub fn run() -> bool {
     drop(rseq::compare_all(LISTS, SEED, &[]));
     drop(prack::compare_all(LISTS, SEED, &[]));
     drop(verdicts::compare_all(LISTS, SEED, &[]));
+    drop(settings::compare_all(CALLS, LISTS, SEED, ""));
     let mut writer = Writer::new();
     let recorder = RECORDER.take().expect("the recorder");
     let mut covered: BTreeSet<Key> = recorder.kept.keys().cloned().collect();
@@ -288,11 +291,14 @@ fn report(covered: &BTreeSet<Key>) {
         Verdicts::OPERATIONS,
     ]
     .concat();
+    let on_sites = [Dialogs::OPERATIONS, Pracks::OPERATIONS].concat();
+    let on_sites: Vec<Entry> = on_sites.iter().map(settings::entry).collect();
     let leaves = operations::all()
         .into_iter()
         .chain(dialogs::all())
+        .chain(settings::operations())
         .map(Operation::entry);
-    for entry in leaves.chain(stores) {
+    for entry in leaves.chain(stores).chain(on_sites) {
         for row in entry.rows {
             if !covered.contains(&Key::Row(base_name(entry.name), *row)) {
                 println!("lacking: {}, {row}", entry.name);

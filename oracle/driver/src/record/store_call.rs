@@ -1,16 +1,18 @@
 //! One recorded call on a store.
 
 use super::arguments::Argument;
-use super::forms::form_of;
+use super::forms::{form_of, takes_settings};
 use super::line;
 use crate::dialogs::room;
+use crate::settings;
 use crate::store::memory::Left;
+use port::Settings;
 
 /// The call: what it is given and what it must leave.
 #[derive(Clone)]
 pub struct StoreCall {
     pub name: &'static str,
-    /// The name and the own arguments, as text.
+    /// The name, the settings and the own arguments, as text.
     own: String,
     pub lent: usize,
     pub used: usize,
@@ -49,7 +51,7 @@ impl StoreCall {
         let memory = before.store.clone().memory().to_vec();
         StoreCall {
             name,
-            own: own_text(name, &own),
+            own: own_text(name, before.store.settings, &own),
             lent,
             used: before.store.used,
             used_after: expected.store.used,
@@ -109,9 +111,14 @@ impl StoreCall {
     }
 }
 
-/// The name and the own arguments.
-fn own_text(name: &str, own: &[Argument]) -> String {
+/// The name, the site's figures where the operation is given them, and the own arguments.
+fn own_text(name: &str, settings: Settings, own: &[Argument]) -> String {
     let mut text = name.to_string();
+    if takes_settings(name) {
+        for figure in settings::figures(settings) {
+            text += &format!(" {figure}");
+        }
+    }
     for argument in own {
         match argument {
             Argument::Text(bytes) => text += &format!(" {}", line::text(bytes)),

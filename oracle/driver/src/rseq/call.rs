@@ -7,6 +7,7 @@ use crate::run::Entry;
 use crate::store::call::{entry, Id, PARTS};
 use crate::store::kind::{Damage, Kind};
 use crate::store::memory::Left;
+use port::Settings;
 
 pub const NEXT: &str = "rseq_next";
 pub const CURRENT: &str = "rseq_current";
@@ -104,7 +105,7 @@ impl Kind for RSeqs {
         }
     }
 
-    fn book(bytes: &[u8], _: [u64; 2]) -> Option<Book> {
+    fn book(bytes: &[u8], _: [u64; 2], _: Settings) -> Option<Book> {
         Book::of_bytes(bytes)
     }
 

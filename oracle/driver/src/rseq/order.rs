@@ -42,7 +42,7 @@ fn id(choice: usize) -> Id {
 /// Compares a call on the store so chosen.
 fn give(run: &mut Run<RSeqs>, random: &mut Random, call: &Call, id: &Id, [store, room]: [usize; 2]) {
     let (damage, bytes) = chosen(store, three(), encode);
-    let mut sides = Sides::damaged(random, &bytes, [0, 0], damage);
+    let mut sides = Sides::damaged(random, run.site, &bytes, [0, 0], damage);
     let lent = lent_for([store, room], bytes.len(), entry_size(id));
     sides.store.grow(random, lent + 8);
     run.compare(&mut sides, call, lent);

@@ -9,27 +9,34 @@ use port::store::{self, Place};
 /// Asks the port, which is lent `length` bytes; `left` holds what the call is given, and then what it leaves.
 pub fn ask(call: &Call, length: usize, left: &mut Left) {
     let [mut created, mut terminated] = [left.store.created, left.store.terminated];
+    let settings = left.store.settings;
     let lent = left.store.lend(length);
     let outs = &mut left.outs;
     left.number = match call {
-        Call::Put(image) => store::put(image, lent, &mut created),
-        Call::Request { method, block } => store::request(method, block, lent),
-        Call::Response { id, status, block } => store::response(texts(id), *status, block, lent),
-        Call::Terminate(id) => store::terminate(texts(id), lent),
-        Call::Next(id) => lent_as(&mut outs[0], |raised| store::next_local_cseq(texts(id), lent, raised)),
-        Call::Set { id, seconds } => store::set_session_expires(texts(id), *seconds, lent, &mut outs[0]),
-        Call::Remove(id) => store::remove(texts(id), lent, &mut terminated),
-        Call::Sweep => store::sweep(lent),
-        Call::Get(id) => find(outs, |found| store::get(texts(id), lent.bytes, *lent.used, found)),
+        Call::Put(image) => store::put(settings, image, lent, &mut created),
+        Call::Request { method, block } => store::request(settings, method, block, lent),
+        Call::Response { id, status, block } => store::response(settings, texts(id), *status, block, lent),
+        Call::Terminate(id) => store::terminate(settings, texts(id), lent),
+        Call::Next(id) => lent_as(&mut outs[0], |raised| {
+            store::next_local_cseq(settings, texts(id), lent, raised)
+        }),
+        Call::Set { id, seconds } => store::set_session_expires(settings, texts(id), *seconds, lent, &mut outs[0]),
+        Call::Remove(id) => store::remove(settings, texts(id), lent, &mut terminated),
+        Call::Sweep => store::sweep(settings, lent),
+        Call::Get(id) => find(outs, |found| {
+            store::get(settings, texts(id), lent.bytes, *lent.used, found)
+        }),
         Call::FindByCallId(call_id) => find(outs, |found| {
-            store::find_by_call_id(call_id, lent.bytes, *lent.used, found)
+            store::find_by_call_id(settings, call_id, lent.bytes, *lent.used, found)
         }),
         Call::FindByRequest(block) => find(outs, |found| {
-            store::find_by_request(block, lent.bytes, *lent.used, found)
+            store::find_by_request(settings, block, lent.bytes, *lent.used, found)
         }),
-        Call::Count => lent_as(&mut outs[0], |count| store::count(lent.bytes, *lent.used, count)),
+        Call::Count => lent_as(&mut outs[0], |count| {
+            store::count(settings, lent.bytes, *lent.used, count)
+        }),
         Call::AllIds(_) => lent_as(&mut outs[0], |length| {
-            store::all_ids(lent.bytes, *lent.used, room::lent(&mut left.output), length)
+            store::all_ids(settings, lent.bytes, *lent.used, room::lent(&mut left.output), length)
         }),
     };
     [left.store.created, left.store.terminated] = [created, terminated];

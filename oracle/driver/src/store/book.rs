@@ -9,6 +9,7 @@ use crate::dialogs::updates::{raise_local, set_interval, take_request, take_resp
 use crate::messages::request;
 use crate::rules;
 use crate::tags::{self, Message};
+use port::Settings;
 use sip_core::{Headers, Method};
 use sip_dialog::{Dialog, DialogId};
 use std::collections::HashSet;
@@ -18,13 +19,15 @@ pub struct Book {
     pub rust: Rust,
     pub order: Vec<DialogId>,
     pub images: Vec<Vec<u8>>,
+    /// The site's.
+    pub settings: Settings,
     /// The created and the terminated count at the start.
     counts: [u64; 2],
 }
 
 impl Book {
     /// The book of a store handed in; nothing where the bytes aren't one.
-    pub fn of_bytes(bytes: &[u8], counts: [u64; 2]) -> Option<Book> {
+    pub fn of_bytes(bytes: &[u8], counts: [u64; 2], settings: Settings) -> Option<Book> {
         let records = image::decode_all(bytes)?;
         let order: Vec<DialogId> = records.iter().map(|record| record.dialog.id().clone()).collect();
         if order.iter().collect::<HashSet<_>>().len() < order.len() {
@@ -38,6 +41,7 @@ impl Book {
             rust,
             order,
             images: Vec::new(),
+            settings,
             counts,
         };
         book.read_back();
@@ -75,7 +79,7 @@ impl Book {
         let headers = rules::headers(call.block()).ok()?;
         let mut dialog = self.dialog(&self.named(call, &headers)?)?;
         let before = encode(&dialog).len();
-        change(call, &headers, &mut dialog).ok()?;
+        change(call, self.settings, &headers, &mut dialog).ok()?;
         Some([before, encode(&dialog).len()])
     }
 
@@ -149,12 +153,12 @@ fn meet_identifier(operation: &'static str, id: Option<&DialogId>) {
 }
 
 /// The Rust's method that a call asks of a record; the number that it answers, if it does.
-pub fn change(call: &Call, headers: &Headers, dialog: &mut Dialog) -> Result<Option<u64>, u8> {
+pub fn change(call: &Call, settings: Settings, headers: &Headers, dialog: &mut Dialog) -> Result<Option<u64>, u8> {
     let operation = call.name();
     match call {
         Call::Request { method, .. } => {
             let request = request(method_of(method), headers.clone());
-            take_request(operation, dialog, &request)?;
+            take_request(operation, dialog, &request, settings.cseq_jump)?;
         }
         Call::Response { status, .. } => take_response(operation, dialog, *status, headers.clone()),
         Call::Terminate(_) => dialog.terminate(),

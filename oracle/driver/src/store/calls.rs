@@ -115,7 +115,7 @@ fn image(random: &mut Random, pool: &Pool) -> Vec<u8> {
 fn request(random: &mut Random, pool: &Pool, book: &Book) -> Call {
     let id = held_id(random, pool, book);
     let remote = book.dialog(&id).map_or(0, |dialog| dialog.remote_cseq());
-    let (method, block) = dialogs::calls::request_naming(random, &id, remote);
+    let (method, block) = dialogs::calls::request_naming(random, &id, remote, book.settings.cseq_jump);
     Call::Request { method, block }
 }
 

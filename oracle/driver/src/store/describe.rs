@@ -15,7 +15,12 @@ pub fn describe<K: Kind>(scene: &Scene<K>, expected: &Left, answered: &Left) -> 
     lines.extend(K::texts(scene.call).into_iter().map(argument));
     lines.extend(K::arguments(scene.call));
     let store = &scene.before.store;
-    lines.push(format!("lent {} of {} bytes", scene.lent, store.size()));
+    lines.push(format!(
+        "lent {} of {} bytes, {:?}",
+        scene.lent,
+        store.size(),
+        store.settings
+    ));
     lines.push(format!("given {}", numbers(scene.before)));
     lines.push(format!("used bytes: {}", run_of(store.used_bytes())));
     lines.push(format!("expected {}, {}", expected.number, numbers(expected)));

@@ -4,10 +4,11 @@ use super::ask::ask;
 use super::book::Book;
 use super::call::{Call, NEXT, OPERATIONS, REQUEST};
 use super::describe::run_of;
-use super::expect::expect;
+use super::expect::{expect, meet_site};
 use super::kind::{Damage, Kind};
 use super::memory::Left;
 use crate::run::Entry;
+use port::Settings;
 
 /// The store of records.
 pub struct Dialogs;
@@ -54,8 +55,8 @@ impl Kind for Dialogs {
         call.name() == REQUEST
     }
 
-    fn book(bytes: &[u8], counts: [u64; 2]) -> Option<Book> {
-        Book::of_bytes(bytes, counts)
+    fn book(bytes: &[u8], counts: [u64; 2], settings: Settings) -> Option<Book> {
+        Book::of_bytes(bytes, counts, settings)
     }
 
     fn used(book: &Book) -> usize {
@@ -64,6 +65,12 @@ impl Kind for Dialogs {
 
     fn used_after(book: &Book, call: &Call) -> usize {
         book.used_after(call)
+    }
+
+    fn meet_site(name: &'static str, book: &Result<Book, Damage>, call: &Call) {
+        if let Ok(book) = book {
+            meet_site(name, book, call);
+        }
     }
 
     fn expect(book: &mut Result<Book, Damage>, call: &Call, lent: usize, left: &mut Left) {

@@ -7,16 +7,26 @@ use super::run::{Run, Sides};
 use crate::dialogs::image::Parts;
 use crate::dialogs::{encode, records};
 use crate::random::Random;
+use port::Settings;
 use sip_core::SipUri;
 use sip_dialog::DialogStateType::{self, Confirmed, Early, Terminated};
 use sip_dialog::{Dialog, DialogId};
 
-/// The most records, and the most Early ones of a Call-ID.
+/// The most records, and at the Rust's figures the most Early ones of a Call-ID.
 const MOST: usize = 10_000;
 const MOST_EARLY: usize = 100;
 
-/// How often each list is gone through.
+/// How often each list is gone through; at another site.
 const TIMES: usize = 25;
+const TIMES_ELSEWHERE: usize = 5;
+
+/// As often as in this run.
+fn times(run: &Run<Dialogs>) -> usize {
+    match run.site == Settings::RUST {
+        true => TIMES,
+        false => TIMES_ELSEWHERE,
+    }
+}
 
 /// The identifier of the `number`th record of a Call-ID.
 fn id(call_id: &str, number: usize) -> DialogId {
@@ -84,7 +94,7 @@ pub fn at_most_records(run: &mut Run<Dialogs>, random: &mut Random) {
     let mut list = List::new(run, random, &many(MOST_EARLY, MOST - 1), [0, 0]);
     for turn in 0..TIMES {
         let held = other(MOST_EARLY + list.random.below(MOST - 1 - MOST_EARLY));
-        if !full(&mut list, &held, turn) {
+        if !full_and_back(&mut list, &held, turn) {
             return;
         }
     }
@@ -98,8 +108,43 @@ pub fn at_most_records(run: &mut Run<Dialogs>, random: &mut Random) {
     }
 }
 
+/// Puts on 10,000 records that are handed in: 16.
+pub fn full(run: &mut Run<Dialogs>, random: &mut Random) {
+    let mut list = List::new(run, random, &many(1, MOST), [0, 0]);
+    for turn in 0..2 * TIMES {
+        let refused = [
+            put(&id("new", turn), Confirmed),
+            put(&other(1 + turn), Confirmed),
+            put(&id("e", 1), Early),
+        ];
+        if !list.each(&refused) {
+            return;
+        }
+    }
+}
+
+/// Requests around the site's CSeq jump, on two records; each that is taken is the next one's ground.
+pub fn each_jump(run: &mut Run<Dialogs>, random: &mut Random) {
+    let jump = run.site.cseq_jump as usize;
+    let [held, other] = [id("c", 0), id("c", 1)];
+    for _ in 0..TIMES_ELSEWHERE {
+        let mut list = List::new(run, random, &[], [0, 0]);
+        let mut remote = 7;
+        let mut calls = vec![put(&held, Confirmed), put(&other, Confirmed)];
+        for above in [jump, jump.max(2) - 1, 1, jump] {
+            calls.extend([jump + 1, 2 * jump, 0].map(|over| request(&held, remote + over)));
+            remote += above;
+            calls.push(request(&held, remote));
+            calls.push(request(&other, remote));
+        }
+        if !list.each_roomy(&calls) {
+            return;
+        }
+    }
+}
+
 /// From 9,999 records to 10,000 and back, twice; at 10,000 every operation.
-fn full(list: &mut List<Dialogs>, held: &DialogId, turn: usize) -> bool {
+fn full_and_back(list: &mut List<Dialogs>, held: &DialogId, turn: usize) -> bool {
     let (first, second) = (id("first", turn), id("second", turn));
     let up = [put(held, Confirmed), put(&first, Confirmed)];
     let refused = [
@@ -166,7 +211,7 @@ pub fn too_many_routes(run: &mut Run<Dialogs>, random: &mut Random) {
         let others = [put(&held, Confirmed), Call::Remove(texts_of(&held)), Call::Sweep];
         let calls = rounds(&held, turn).into_iter().chain(readings(&held, 20)).chain(others);
         for call in calls {
-            let mut sides = Sides::damaged(random, &bytes, [0, 0], records::CROWDED);
+            let mut sides = Sides::damaged(random, run.site, &bytes, [0, 0], records::CROWDED);
             let lent = sides.store.size();
             run.compare(&mut sides, &call, lent);
         }
@@ -175,19 +220,21 @@ pub fn too_many_routes(run: &mut Run<Dialogs>, random: &mut Random) {
 
 /// Early records of one Call-ID are put up to the limit, from an empty store; a store of 101 is handed in.
 pub fn at_most_early(run: &mut Run<Dialogs>, random: &mut Random) {
-    for turn in 0..TIMES {
+    let most = run.site.early_cap as usize;
+    let times = times(run);
+    for turn in 0..times {
         let mut list = List::new(run, random, &[], [0, 0]);
-        let up: Vec<Call> = (0..MOST_EARLY - 1).map(|number| put(&id("e", number), Early)).collect();
+        let up: Vec<Call> = (0..most - 1).map(|number| put(&id("e", number), Early)).collect();
         if !list.each_roomy(&up) || !around_early(&mut list, turn) {
             return;
         }
     }
-    let mut list = List::new(run, random, &many(MOST_EARLY + 1, MOST_EARLY + 9), [0, 0]);
-    for turn in 0..TIMES {
-        let early = id("e", turn);
+    let mut list = List::new(run, random, &many(most + 1, most + 9), [0, 0]);
+    for turn in 0..times {
+        let early = id("e", turn % (most + 1));
         let calls = [
             put(&early, Early),
-            put(&id("e", MOST_EARLY + 1), Early),
+            put(&id("e", most + 1), Early),
             request(&early, 8),
             Call::Next(texts_of(&early)),
         ];
@@ -197,10 +244,11 @@ pub fn at_most_early(run: &mut Run<Dialogs>, random: &mut Random) {
     }
 }
 
-/// From 99 Early records of a Call-ID to 100, one less, and to 100 again.
+/// From one Early record of a Call-ID less than the cap to the cap, one less, and to the cap again.
 fn around_early(list: &mut List<Dialogs>, turn: usize) -> bool {
     let [confirmed, terminated, last, more] = [200, 201, 202, 203].map(|number| id("e", number));
-    let early = id("e", list.random.below(MOST_EARLY - 1));
+    let before = list.sides.store.settings.early_cap as usize - 1;
+    let early = id("e", list.random.below(before.max(1)));
     let up = [
         put(&confirmed, Confirmed),
         put(&terminated, Terminated),

@@ -54,7 +54,7 @@ pub fn each_broken<K: Kind>(
     each_of_entries(random, &mut give);
     for (turn, (damage, bytes)) in broken.iter().enumerate() {
         for call in calls(random, turn) {
-            let mut other = Sides::damaged(random, bytes, [0, 0], damage);
+            let mut other = Sides::damaged(random, run.site, bytes, [0, 0], damage);
             let lent = random.pick(&[bytes.len(), other.store.size()]);
             run.compare(&mut other, &call, lent);
         }

@@ -1,4 +1,4 @@
-//! What a call must answer and leave: refusals 1, 2, 3 and 18 are the run's own checks around the Rust's manager.
+//! What a call must answer and leave: refusals 30, 1, 2, 3 and 18 are the run's own checks around the Rust's manager.
 
 use super::book::{change, Book};
 use super::call::{dialog_id, Call, ALL_IDS, FIND_BY_CALL_ID, PUT, REMOVE, SWEEP};
@@ -10,6 +10,8 @@ use crate::dialogs::image::{self, encode, state_name};
 use crate::dialogs::updates::{meet_target, Sizes};
 use crate::dialogs::{records, room};
 use crate::rules;
+use crate::settings;
+use port::Settings;
 use sip_core::Headers;
 use sip_dialog::{Dialog, DialogId, DialogStateType};
 use std::collections::HashSet;
@@ -20,8 +22,9 @@ pub fn expect(book: &mut Result<Book, Damage>, call: &Call, lent: usize, left: &
     left.number = answer(book, call, lent, left).err().unwrap_or(0);
 }
 
-/// 1, 2 and 3, then what the Rust says. All used bytes and both counts are the Rust's, a refused call's too.
+/// 30, 1, 2 and 3, then what the Rust says. All used bytes and both counts are the Rust's, a refused call's too.
 fn answer(book: &mut Result<Book, Damage>, call: &Call, lent: usize, left: &mut Left) -> Result<(), u8> {
+    settings::permitted(left.store.settings)?;
     limit(call.name(), &call.texts())?;
     let headers = rules::headers(call.block())?;
     let book = store_read(book, call.name(), left.store.used, lent)?;
@@ -76,7 +79,7 @@ fn meet_lent(operation: &'static str, used: usize, lent: usize) {
     }
 }
 
-/// A call that 1, 2 and 3 have let through.
+/// A call that 30, 1, 2 and 3 have let through.
 fn take(book: &mut Book, call: &Call, headers: &Headers, lent: usize, left: &mut Left) -> Result<(), u8> {
     match call {
         Call::Put(image) => put(book, image, lent),
@@ -101,7 +104,8 @@ fn take(book: &mut Book, call: &Call, headers: &Headers, lent: usize, left: &mut
     }
 }
 
-/// The Rust's `insert`. Where the result doesn't fit it is undone: 18.
+/// The Rust's `insert`. It refuses as the run's own rules do, but where only another site's cap refuses. Where the result doesn't fit
+/// it is undone: 18.
 fn put(book: &mut Book, image: &[u8], lent: usize) -> Result<(), u8> {
     if image::is_crowded(image) {
         bounds::met(PUT, "image", records::CROWDED);
@@ -111,7 +115,15 @@ fn put(book: &mut Book, image: &[u8], lent: usize) -> Result<(), u8> {
     let id = dialog.id().clone();
     let held = book.dialog(&id);
     let after = book.used() - held.as_ref().map_or(0, |held| encode(held).len()) + image.len();
-    book.rust.insert(dialog)?;
+    let own = judged(book, &dialog);
+    if own != Err(17) || book.settings.early_cap == Settings::RUST.early_cap {
+        assert_eq!(
+            book.rust.insert(dialog),
+            own,
+            "the run's own rules of a put, and the Rust's"
+        );
+    }
+    own?;
     bounds::room(PUT, after, lent);
     if after > lent {
         book.rust.undo_insert(&id, held);
@@ -121,6 +133,49 @@ fn put(book: &mut Book, image: &[u8], lent: usize) -> Result<(), u8> {
         book.order.push(id);
     }
     Ok(())
+}
+
+/// The number rules of a put with the site's Early cap: 16, 17.
+fn judged(book: &Book, dialog: &Dialog) -> Result<(), u8> {
+    if book.order.len() >= 10_000 {
+        return Err(16);
+    }
+    let is_full = other_early(book, dialog) >= book.settings.early_cap as usize;
+    match dialog.state() {
+        DialogStateType::Early if is_full => Err(17),
+        _ => Ok(()),
+    }
+}
+
+/// How many other Early records there are of a dialog's Call-ID.
+pub fn other_early(book: &Book, dialog: &Dialog) -> usize {
+    let others = book.order.iter().filter(|id| {
+        let of_call_id = id.call_id() == dialog.id().call_id() && *id != dialog.id();
+        of_call_id
+            && book
+                .dialog(id)
+                .is_some_and(|other| other.state() == DialogStateType::Early)
+    });
+    others.count()
+}
+
+/// Says what a call meets at another site, by the operation's name there.
+pub fn meet_site(operation: &'static str, book: &Book, call: &Call) {
+    match call {
+        Call::Put(image) => {
+            let dialog = image::decode(image).map(|record| record.dialog);
+            if let Some(dialog) = dialog.filter(|dialog| dialog.state() == DialogStateType::Early) {
+                settings::meet_put(operation, book.settings, other_early(book, &dialog));
+            }
+        }
+        Call::Request { method, block } => {
+            let headers = rules::headers(block).ok();
+            let named = bounds::quietly(|| book.named(call, &headers?));
+            let remote = named.and_then(|id| book.dialog(&id)).map(|dialog| dialog.remote_cseq());
+            settings::meet_request(operation, book.settings, [method, block], remote);
+        }
+        _ => {}
+    }
 }
 
 /// Says what a put met.
@@ -135,20 +190,13 @@ fn meet_put(book: &Book, dialog: &Dialog) {
         bounds::met(PUT, "at 10,000 in the place of", place);
     }
     bounds::number(PUT, "created", book.counts()[0]);
-    let others = book.order.iter().filter(|id| {
-        let of_call_id = id.call_id() == dialog.id().call_id() && *id != dialog.id();
-        of_call_id
-            && book
-                .dialog(id)
-                .is_some_and(|other| other.state() == DialogStateType::Early)
-    });
     let what = match (dialog.state(), held.map(|held| held.state())) {
         (DialogStateType::Early, None) => "new Early, other Early",
         (DialogStateType::Early, Some(DialogStateType::Early)) => "Early over Early, other Early",
         (DialogStateType::Early, Some(_)) => "Early over another, other Early",
         _ => "no Early, other Early",
     };
-    bounds::number(PUT, what, others.count());
+    bounds::number(PUT, what, other_early(book, dialog));
 }
 
 /// The Rust's `remove`.
@@ -238,7 +286,7 @@ fn round(book: &mut Book, call: &Call, headers: &Headers, lent: usize, left: &mu
     let before = book.rust.take_out(&id).ok_or(15)?;
     bounds::met(call.name(), "state", state_name(before.state()));
     let mut dialog = before.clone();
-    let said = change(call, headers, &mut dialog);
+    let said = change(call, book.settings, headers, &mut dialog);
     let sizes = Sizes {
         before: book.used(),
         after: book.used() - encode(&before).len() + encode(&dialog).len(),

@@ -3,6 +3,7 @@
 use super::memory::Left;
 use crate::record::arguments::Recorded;
 use crate::run::Entry;
+use port::Settings;
 
 /// How bytes that are no store differ from the store that they were.
 pub type Damage = &'static str;
@@ -39,12 +40,15 @@ pub trait Kind: Sized + 'static {
         false
     }
 
-    /// The book of a store handed in, with these counts; nothing where the bytes aren't one.
-    fn book(bytes: &[u8], counts: [u64; 2]) -> Option<Self::Book>;
+    /// The book of a store handed in, with these counts and settings; nothing where the bytes aren't one.
+    fn book(bytes: &[u8], counts: [u64; 2], settings: Settings) -> Option<Self::Book>;
 
     /// How many bytes the store has, and how many it would have after a call, were there room.
     fn used(book: &Self::Book) -> usize;
     fn used_after(book: &Self::Book, call: &Self::Call) -> usize;
+
+    /// Says what a call meets at another site, by the operation's name there.
+    fn meet_site(_: &'static str, _: &Result<Self::Book, Damage>, _: &Self::Call) {}
 
     /// The expected answer of a call that is lent `lent` bytes. `left` holds what the call is given, and then what it leaves.
     fn expect(book: &mut Result<Self::Book, Damage>, call: &Self::Call, lent: usize, left: &mut Left);

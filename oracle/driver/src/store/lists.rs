@@ -24,7 +24,7 @@ pub struct List<'a, K: Kind> {
 impl<'a, K: Kind> List<'a, K> {
     /// A list that begins with this store.
     pub fn new(run: &'a mut Run<K>, random: &'a mut Random, used: &[u8], counts: [u64; 2]) -> Self {
-        let sides = Sides::of_store(random, used, counts);
+        let sides = Sides::of_store(random, run.site, used, counts);
         List { run, random, sides }
     }
 
@@ -74,7 +74,7 @@ impl<'a, K: Kind> List<'a, K> {
     pub fn interrupt(&mut self, call: &K::Call, (damage, bytes): (Damage, Vec<u8>)) {
         let random = &mut *self.random;
         let counts = [self.sides.store.created, self.sides.store.terminated];
-        let mut other = Sides::damaged(random, &bytes, counts, damage);
+        let mut other = Sides::damaged(random, self.run.site, &bytes, counts, damage);
         let lent = random.pick(&[bytes.len(), other.store.size()]);
         if random.one_in(6) {
             other.store.used = random.pick(&[lent + 1, usize::MAX, usize::MAX, 1 << 63]);
@@ -116,10 +116,10 @@ pub fn counts(random: &mut Random) -> [u64; 2] {
 /// byte behind it.
 pub fn each_broken(run: &mut Run<Dialogs>, random: &mut Random) {
     let store = records::templates().concat();
-    let whole: Sides<Dialogs> = Sides::of_store(random, &store, [0, 0]);
+    let whole: Sides<Dialogs> = Sides::of_store(random, run.site, &store, [0, 0]);
     let pool = Pool::new(random);
     records::each_broken(&store, &mut |damage, bytes| {
-        let mut other = Sides::damaged(random, bytes, [0, 0], damage);
+        let mut other = Sides::damaged(random, run.site, bytes, [0, 0], damage);
         let call = calls::make(random, &pool, whole.book());
         let lent = other.store.size();
         run.compare(&mut other, &call, lent);

@@ -3,10 +3,11 @@
 use super::kind::Kind;
 use crate::dialogs::room::{self, GUARD};
 use crate::random::Random;
+use port::Settings;
 use std::ops::Range;
 
-/// A store: all bytes of an allocation, where in it the store's memory lies, its used length, and the counts that its caller
-/// keeps. Around the memory are guard bytes, and in a mixed list the two other stores.
+/// A store: all bytes of an allocation, where in it the store's memory lies, its used length, and what its caller keeps: the two
+/// counts, and the settings that a call is given. Around the memory are guard bytes, and in a mixed list the two other stores.
 #[derive(Clone, PartialEq, Eq)]
 pub struct Store {
     pub bytes: Vec<u8>,
@@ -14,6 +15,7 @@ pub struct Store {
     pub used: usize,
     pub created: u64,
     pub terminated: u64,
+    pub settings: Settings,
 }
 
 impl Store {
@@ -27,6 +29,7 @@ impl Store {
             used: used.len(),
             created,
             terminated,
+            settings: Settings::RUST,
         }
     }
 

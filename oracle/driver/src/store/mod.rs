@@ -16,7 +16,7 @@ pub mod given;
 pub mod kind;
 pub mod lists;
 pub mod memory;
-mod order;
+pub mod order;
 pub mod run;
 mod rust;
 

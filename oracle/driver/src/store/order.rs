@@ -46,7 +46,7 @@ type Give<'a> = &'a mut dyn FnMut(&Call, usize, usize);
 /// Compares a call on the store so chosen.
 fn give(run: &mut Run<Dialogs>, random: &mut Random, bytes: &[u8], call: &Call, [store, room]: [usize; 2]) {
     let used = bytes.len() - usize::from(store == 1);
-    let mut sides = Sides::damaged(random, &bytes[..used], [7, 7], records::CUT);
+    let mut sides = Sides::damaged(random, run.site, &bytes[..used], [7, 7], records::CUT);
     let lent = match (store, room) {
         (2, _) => used - 1,
         (_, 0) => sides.store.size(),

@@ -9,6 +9,7 @@ use crate::store::call::entry;
 use crate::store::expect::store_read;
 use crate::store::kind::{Damage, Kind};
 use crate::store::memory::Left;
+use port::Settings;
 
 pub const ADD: &str = "add_verdict";
 pub const WORST: &str = "worst_minute";
@@ -54,7 +55,7 @@ impl Kind for Verdicts {
         [u64::MAX, u64::from(u8::MAX), u64::MAX]
     }
 
-    fn book(bytes: &[u8], _: [u64; 2]) -> Option<Book> {
+    fn book(bytes: &[u8], _: [u64; 2], _: Settings) -> Option<Book> {
         Book::of_bytes(bytes)
     }
 

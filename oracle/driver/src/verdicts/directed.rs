@@ -99,7 +99,7 @@ fn from_one_below(run: &mut Run<Verdicts>, random: &mut Random, turn: usize) {
 fn over(run: &mut Run<Verdicts>, random: &mut Random, turn: usize) {
     let bytes = encode(&rising(random, MOST + 1, turn));
     for call in [add((time_of_end(&bytes), 11)), Call::Worst].repeat(8) {
-        let mut other = Sides::damaged(random, &bytes, [0, 0], TOO_MANY);
+        let mut other = Sides::damaged(random, run.site, &bytes, [0, 0], TOO_MANY);
         let lent = bytes.len() + random.below(ENTRY_SIZE + 1);
         run.compare(&mut other, &call, lent);
     }
@@ -134,7 +134,7 @@ fn back(run: &mut Run<Verdicts>, random: &mut Random) {
 /// Both operations on 4,097 verdicts of one time.
 pub fn over_most(run: &mut Run<Verdicts>, random: &mut Random, bytes: &[u8]) {
     for call in [add((time_of_end(bytes), 11)), Call::Worst] {
-        let mut other = Sides::damaged(random, bytes, [0, 0], TOO_MANY);
+        let mut other = Sides::damaged(random, run.site, bytes, [0, 0], TOO_MANY);
         run.compare(&mut other, &call, bytes.len());
     }
 }

@@ -4,4 +4,4 @@ use native.Mathlib.Omega.{arith}
 use Rattle.prack_body.proofs.body.begin.Goals as goal
 
 pub returns : goal.returns
-returns c = let a = c.args in begun a.time (omega arith) a.body.now c.requires c.write_eight-end.ensures.value (c.write_eight-end.ensures.out_after)
+returns c = let a = c.args in λ L. begun L a.time (omega arith) a.body.now c.requires c.write_eight-end.ensures.value (c.write_eight-end.ensures.out_after)

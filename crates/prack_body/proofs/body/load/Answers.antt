@@ -9,4 +9,4 @@ pub returns-clause-holds : goal.returns-clause-holds
 returns-clause-holds c =
     let a = c.args in
     let e : c.end-from.result ≡ a.held.id.start + a.held.id.length = c.end-from.ensures in
-    λ t g. rw e (loaded a.bytes.now (bytes_all a.bytes.now (λ i. (c.type_inv.bytes i).fits)) g a.body.now (rw e at c.put.ensures))
+    λ L t g. rw e (loaded L a.bytes.now (bytes_all a.bytes.now (λ i. (c.type_inv.bytes i).fits)) g a.body.now (rw e at c.put.ensures))

@@ -16,10 +16,10 @@ known_err c = bytes_all c.args.bytes.now (λ n. (c.type_inv.bytes n).fits)
 known_ok : (c : In-Ok) → Bytes c.args.bytes.now
 known_ok c = bytes_all c.args.bytes.now (λ n. (c.type_inv.bytes n).fits)
 
-abbrev S : (c : In-Ok) → Sought (c.args.id.now) (c.args.bytes.now) (c.args.used) (Ok c.in-Ok.t)
-S c = renamed c.requires.1.1 c.in-Ok.is
+abbrev S : (c : In-Ok) → Sought c.requires.1.1.0 (c.args.id.now) (c.args.bytes.now) (c.args.used) (Ok c.in-Ok.t)
+S c = renamed c.requires.1.1.1 c.in-Ok.is
 
-F : (c : In-Ok) → Found (c.args.id.now) (c.args.bytes.now) (c.args.used) (c.in-Ok.t) (S c).list
+F : (c : In-Ok) → Found c.requires.1.1.0 (c.args.id.now) (c.args.bytes.now) (c.args.used) (c.in-Ok.t) (S c).list
 F c = found (c.args.id.now) (c.args.bytes.now) (c.args.used) (c.in-Ok.t) (known_ok c) (S c)
 
 -- where the body lies, and how long it is
@@ -43,16 +43,16 @@ replace-requires c =
 
 pub insert-requires-clause-at_le_used : goal.insert-requires-clause-at_le_used
 insert-requires-clause-at_le_used c =
-    let w = renamed c.requires.1.1 c.in-Err.is in
+    let w = renamed c.requires.1.1.1 c.in-Err.is in
     ((lacking (c.args.id.now) (c.args.bytes.now) (c.args.used) c.in-Err.at (known_err (goal.at.insert-requires-clause-at_le_used c).In-Err) w).1.1, w.within)
 
 pub returns-in-Ok : goal.returns-in-Ok
 returns-in-Ok c =
     let b = known_ok (goal.at.returns-in-Ok c).In-Ok in
     let k = by_held c.args.id.now c.args.bytes.now c.args.body.now c.args.used b c.in-Ok.is (rw c.end-from.ensures at c.replace.ensures.value, rw c.end-from.ensures at c.replace.ensures.bytes_after) in
-    record { value = λ w x e f. (k w x e f).0; bytes_after = λ w x e f. (k w x e f).1 }
+    record { value = λ L w x e f. (k L w x e f).0; bytes_after = λ L w x e f. (k L w x e f).1 }
 
 pub returns-in-Err : goal.returns-in-Err
 returns-in-Err c =
     let k = by_free (c.args.id.now) (c.args.bytes.now) (c.args.body.now) (c.args.used) (known_err (goal.at.returns-in-Err c).In-Err) c.in-Err.is (c.insert.ensures.value, c.insert.ensures.bytes_after) in
-    record { value = λ w x e f. (k w x e f).0; bytes_after = λ w x e f. (k w x e f).1 }
+    record { value = λ L w x e f. (k L w x e f).0; bytes_after = λ L w x e f. (k L w x e f).1 }

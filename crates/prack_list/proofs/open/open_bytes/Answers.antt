@@ -7,7 +7,7 @@ use native.Mathlib.Omega.{arith}
 use Rattle.prack_list.proofs.open.open_bytes.Goals as goal
 
 pub returns-then-body-lt-ENTRIES_AT : goal.returns-then-body-lt-ENTRIES_AT
-returns-then-body-lt-ENTRIES_AT c = λ t h. open_done (opening (entries_of t.list) c.args.out.now) (omega (arith, entry_count h, c.if-body-lt-ENTRIES_AT.true))
+returns-then-body-lt-ENTRIES_AT c = λ L t h. open_done (opening (entries_of t.list) c.args.out.now) (omega (arith, entry_count h, c.if-body-lt-ENTRIES_AT.true))
 
 pub loop-entry-init : goal.loop-entry-init
 loop-entry-init c =
@@ -20,7 +20,7 @@ put_open-to-requires c =
     let r = c.requires in
     let i = c.loop-entry.invariant in
     let e = c.in-Some.ensures.steps.1 in
-    (omega (arith, e.1 ∙ i.size), omega (arith, room_there i.written _ _ e.0 (e.1 ∙ i.size) r.0 r.1.0 c.if-entry-eq0.true, r.1.1, i.written.long))
+    (omega (arith, e.1 ∙ i.size), omega (arith, room_there i.written _ _ e.0 (e.1 ∙ i.size) r.0 r.1 r.2.0 c.if-entry-eq0.true, r.2.1, i.written.long))
 
 pub loop-entry-preserved-then-entry-eq0 : goal.loop-entry-preserved-then-entry-eq0
 loop-entry-preserved-then-entry-eq0 c =

@@ -7,7 +7,7 @@ use native.Mathlib.Omega.{arith}
 use Rattle.prack_list.proofs.open.open_size.Goals as goal
 
 pub returns-then-body-lt-ENTRIES_AT : goal.returns-then-body-lt-ENTRIES_AT
-returns-then-body-lt-ENTRIES_AT c = λ t h. sym (ap length (open_end 0 (entries_of t.list) (omega (arith, entry_count h, c.if-body-lt-ENTRIES_AT.true))))
+returns-then-body-lt-ENTRIES_AT c = λ L t h. sym (ap length (open_end 0 (entries_of t.list) (omega (arith, entry_count h, c.if-body-lt-ENTRIES_AT.true))))
 
 pub loop-entry-preserved-then-entry-eq0 : goal.loop-entry-preserved-then-entry-eq0
 loop-entry-preserved-then-entry-eq0 c =

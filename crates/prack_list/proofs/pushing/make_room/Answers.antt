@@ -6,8 +6,8 @@ use Rattle.prack_list.proofs.pushing.make_room.Goals as goal
 pub returns-then-n-lt-ENTRIES_AT-clause-kept : goal.returns-then-n-lt-ENTRIES_AT-clause-kept
 returns-then-n-lt-ENTRIES_AT-clause-kept c = λ t h. room_none h c.if-n-lt-ENTRIES_AT.true
 
-pub returns-then-count-lt-MAX_PENDING_PRACK_PER_DIALOG-clause-kept : goal.returns-then-count-lt-MAX_PENDING_PRACK_PER_DIALOG-clause-kept
-returns-then-count-lt-MAX_PENDING_PRACK_PER_DIALOG-clause-kept c = λ t h. room_some h c.if-n-lt-ENTRIES_AT.false refl c.if-count-lt-MAX_PENDING_PRACK_PER_DIALOG.true
+pub returns-then-count-most-clause-kept : goal.returns-then-count-most-clause-kept
+returns-then-count-most-clause-kept c = λ t h. room_some h c.if-n-lt-ENTRIES_AT.false refl c.if-count-most.true
 
 pub returns-clause-kept : goal.returns-clause-kept
-returns-clause-kept c = λ t h. room_full h refl c.if-count-lt-MAX_PENDING_PRACK_PER_DIALOG.false c.requires.1 c.shift.ensures
+returns-clause-kept c = λ t h. room_full h refl c.if-count-most.false c.requires.pending c.requires.room.1 c.shift.ensures

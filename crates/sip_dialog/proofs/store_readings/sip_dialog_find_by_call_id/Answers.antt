@@ -1,18 +1,23 @@
--- `sip_dialog_find_by_call_id` meets its contract: what is handed over is the answer of `run`. Assumes nothing.
+-- `sip_dialog_find_by_call_id` meets its contract: what is handed over is the answer of `run_with`. Assumes nothing.
+use mathlib.Core.Path.{sym}
 use lib.ListN.{length}
 use Rattle.limits.specs.Limits.{rust_limits}
 use Rattle.codec.proofs.CodecLaws.{bytes_all}
-use Rattle.book.specs.Calls.{find_by_call_id}
-use Rattle.c_store_answers.proofs.ReturnLaws.{reading_returns}
+use Rattle.book.specs.Calls.{read, find_by_call_id}
+use Rattle.c_store_answers.proofs.ReturnLaws.{reading_returns, moved, moved_value}
+use Rattle.book.specs.Returned.{place_after, length_after}
+use Rattle.book.proofs.SettingLaws.{run_asking_none}
+use Rattle.book.specs.Store.{Left}
 use Rattle.sip_dialog.proofs.store_readings.sip_dialog_find_by_call_id.Goals as goal
 
 pub returns : goal.returns
 returns c =
     let a = c.args in
+    let q = run_asking_none a.settings a.store.now a.used (sym c.if-not-in_bounds.ensures) (read (length a.store.now) (find_by_call_id a.call_id.now)) tt in
     let e = c.find_by_call_id.ensures in
     let g = c.give_place.ensures in
     record {
-      returns = reading_returns rust_limits (length a.store.now) (find_by_call_id a.call_id.now) a.store.now a.used (bytes_all a.store.now (λ i. (c.type_inv.store i).fits)) _ (rw (← e) g.value);
-      place_after = rw (← e) g.place_after;
-      length_after = rw (← e) g.length_after;
+      returns = moved q (reading_returns rust_limits (length a.store.now) (find_by_call_id a.call_id.now) a.store.now a.used (bytes_all a.store.now (λ i. (c.type_inv.store i).fits)) _ (rw (← e) g.value));
+      place_after = moved_value (λ (l : Left). place_after l.answer a.place.now) q (rw (← e) g.place_after);
+      length_after = moved_value (λ (l : Left). length_after l.answer a.length.now) q (rw (← e) g.length_after);
     }

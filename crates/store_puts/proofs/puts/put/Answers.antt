@@ -3,7 +3,7 @@ use mathlib.Core.Path.{◌≡◌, sym, subst, ◌∙◌}
 use lib.ListN.{length}
 use Rattle.std.proofs.result.Match.{err_is}
 use Rattle.std.specs.Prelude.{Ok}
-use Rattle.limits.specs.Limits.{rust_limits}
+use Rattle.limits.specs.Settings.{limits_in}
 use Rattle.dialog_rules.specs.OneImage.{one_record}
 use Rattle.dialog.specs.Readings.{image_answer}
 use Rattle.dialog_id.specs.Ident.{Ident}
@@ -32,21 +32,21 @@ texts c = texts_within c.args.image.now (c.in_ok-r.r) (one c)
 pub returns-in_err-n : goal.returns-in_err-n
 returns-in_err-n c =
     let a = c.args in
-    let t = turned_back (store_unread rust_limits (length a.bytes.now) a.image.now a.bytes.now a.used (sym c.count.ensures ∙ c.in_err-n.was)) in
+    let t = turned_back (store_unread (limits_in c.args.settings) (length a.bytes.now) a.image.now a.bytes.now a.used (sym c.count.ensures ∙ c.in_err-n.was)) in
     record { value = err_is c.from_residual.result _ c.from_residual.ensures.1 ∙ t.0; bytes_after = t.1 }
 
 pub returns-in_err-r : goal.returns-in_err-r
 returns-in_err-r c =
     let a = c.args in
-    let t = turned_back (not_one rust_limits (length a.bytes.now) a.image.now a.bytes.now a.used (sym c.in_err-r.was ∙ c.read_image.ensures)) in
+    let t = turned_back (not_one (limits_in c.args.settings) (length a.bytes.now) a.image.now a.bytes.now a.used (sym c.in_err-r.was ∙ c.read_image.ensures)) in
     record { value = err_is c.from_residual-in_err-r.result _ c.from_residual-in_err-r.ensures.1 ∙ t.0; bytes_after = t.1 }
 
 pub returns-then-n-ge-MAX_CONFIRMED_DIALOGS : goal.returns-then-n-ge-MAX_CONFIRMED_DIALOGS
 returns-then-n-ge-MAX_CONFIRMED_DIALOGS c =
     let a = c.args in
-    let f = full rust_limits a.bytes.now a.used c.in_ok-n.n (store (goal.at.returns-then-n-ge-MAX_CONFIRMED_DIALOGS c).In_ok-n) (counted (goal.at.returns-then-n-ge-MAX_CONFIRMED_DIALOGS c).In_ok-n) (omega (arith, c.if-n-ge-MAX_CONFIRMED_DIALOGS.true)) in
+    let f = full (limits_in c.args.settings) a.bytes.now a.used c.in_ok-n.n (store (goal.at.returns-then-n-ge-MAX_CONFIRMED_DIALOGS c).In_ok-n) (counted (goal.at.returns-then-n-ge-MAX_CONFIRMED_DIALOGS c).In_ok-n) (omega (arith, c.if-n-ge-MAX_CONFIRMED_DIALOGS.true)) in
     let i = image_named a.image.now (c.in_ok-r.r) (one (goal.at.returns-then-n-ge-MAX_CONFIRMED_DIALOGS c).In_ok-r) (λ i. (c.type_inv.image i).fits) in
-    let t = turned_back (too_many rust_limits (length a.bytes.now) a.image.now a.bytes.now a.used (store (goal.at.returns-then-n-ge-MAX_CONFIRMED_DIALOGS c).In_ok-n) i.value i.one f) in
+    let t = turned_back (too_many (limits_in c.args.settings) (length a.bytes.now) a.image.now a.bytes.now a.used (store (goal.at.returns-then-n-ge-MAX_CONFIRMED_DIALOGS c).In_ok-n) i.value i.one f) in
     record { value = t.0; bytes_after = t.1 }
 
 pub texts-id-requires : goal.texts-id-requires
@@ -63,4 +63,4 @@ pub put_named-requires-clause-fact : goal.put_named-requires-clause-fact
 put_named-requires-clause-fact c =
     let a = c.args in
     let l = c.if-n-ge-MAX_CONFIRMED_DIALOGS.false in
-    open_to rust_limits a.bytes.now a.used c.in_ok-n.n (store (goal.at.put_named-requires-clause-fact c).In_ok-n) (counted (goal.at.put_named-requires-clause-fact c).In_ok-n) (omega (arith, l))
+    open_to (limits_in c.args.settings) a.bytes.now a.used c.in_ok-n.n (store (goal.at.put_named-requires-clause-fact c).In_ok-n) (counted (goal.at.put_named-requires-clause-fact c).In_ok-n) (omega (arith, l))

@@ -3,7 +3,7 @@ use Prim.Native.Nat.{◌≤◌}
 use mathlib.Core.Path.{sym, subst, ◌∙◌}
 use lib.ListN.{length, take}
 use Rattle.std.specs.Prelude.{Some}
-use Rattle.limits.specs.Limits.{rust_limits}
+use Rattle.limits.specs.Settings.{limits_in}
 use Rattle.codec.proofs.CodecLaws.{Bytes, bytes_all}
 use Rattle.dialog_manager.specs.Search.{Stands}
 use Rattle.store_puts.proofs.PutLaws.{crowded, added_new, replaced_old, found_within}
@@ -14,14 +14,14 @@ use Rattle.store_puts.proofs.puts.put_named.Goals as goal
 pub returns-then-is_crowded : goal.returns-then-is_crowded
 returns-then-is_crowded c =
     let a = c.args in
-    let t = turned_back (crowded rust_limits (length a.bytes.now) a.image.now a.bytes.now a.used a.state a.id.call_id.now a.id.local_tag.now a.id.remote_tag.now c.requires.named c.requires.fact (sym c.is_crowded.ensures ∙ c.if-is_crowded.true)) in
+    let t = turned_back (crowded (limits_in c.args.settings) (length a.bytes.now) a.image.now a.bytes.now a.used a.state a.id.call_id.now a.id.local_tag.now a.id.remote_tag.now c.requires.named c.requires.fact (sym c.is_crowded.ensures ∙ c.if-is_crowded.true)) in
     record { value = t.0; bytes_after = t.1 }
 
 pub returns-in_default : goal.returns-in_default
 returns-in_default c =
     let a = c.args in
     let b : Bytes a.bytes.now = bytes_all a.bytes.now (λ i. (c.slice_known-1.given i).fits) in
-    let w = added_new rust_limits (length a.bytes.now) a.image.now a.bytes.now a.used a.state a.id.call_id.now a.id.local_tag.now a.id.remote_tag.now c.requires.named c.requires.fact b (sym c.is_crowded.ensures ∙ c.if-is_crowded.false) (sym c.in_default.is ∙ c.search_id.ensures.value) in
+    let w = added_new (limits_in c.args.settings) (length a.bytes.now) a.image.now a.bytes.now a.used a.state a.id.call_id.now a.id.local_tag.now a.id.remote_tag.now c.requires.named c.requires.fact b (sym c.is_crowded.ensures ∙ c.if-is_crowded.false) (sym c.in_default.is ∙ c.search_id.ensures.value) in
     record { value = c.add.ensures.value ∙ w.answer; bytes_after = c.add.ensures.bytes_after ∙ w.bytes }
 
 pub overflow_sub-r : goal.overflow_sub-r
@@ -45,5 +45,5 @@ returns c =
     let a = c.args in
     let b : Bytes a.bytes.now = bytes_all a.bytes.now (λ i. (c.slice_known-1.given i).fits) in
     let h : Stands (take a.used a.bytes.now) (Some (c.in-Some.at, c.in-Some.r)) = subst (Stands (take a.used a.bytes.now)) c.in-Some.is c.search_id.ensures.stands in
-    let w = replaced_old rust_limits (length a.bytes.now) a.image.now a.bytes.now a.used a.state a.id.call_id.now a.id.local_tag.now a.id.remote_tag.now c.requires.named c.requires.fact b (sym c.is_crowded.ensures ∙ c.if-is_crowded.false) c.in-Some.at c.in-Some.r h (sym c.in-Some.is ∙ c.search_id.ensures.value) in
+    let w = replaced_old (limits_in c.args.settings) (length a.bytes.now) a.image.now a.bytes.now a.used a.state a.id.call_id.now a.id.local_tag.now a.id.remote_tag.now c.requires.named c.requires.fact b (sym c.is_crowded.ensures ∙ c.if-is_crowded.false) c.in-Some.at c.in-Some.r h (sym c.in-Some.is ∙ c.search_id.ensures.value) in
     record { value = c.replace.ensures.value ∙ w.answer; bytes_after = c.replace.ensures.bytes_after ∙ w.bytes }
