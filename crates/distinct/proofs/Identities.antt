@@ -52,7 +52,7 @@ good_ids r w =
 
 -- ---- flags
 
-bit_same : (a b : Bool) → bit_of a ≡ bit_of b → a ≡ b
+pub bit_same : (a b : Bool) → bit_of a ≡ bit_of b → a ≡ b
 bit_same true true e = refl
 bit_same true false e = absurd (omega arith)
 bit_same false true e = absurd (omega arith)

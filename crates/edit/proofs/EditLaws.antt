@@ -30,6 +30,12 @@ module _ (s piece : List ℕ) (used at old : ℕ) (a : at + old ≤ used) (b : u
 pub put_nothing : (at : ℕ) (bytes : List ℕ) → put_at at [] bytes ≡ bytes
 put_nothing at bytes = rw (add-zero, take-append-drop)
 
+-- bytes put where they stand
+pub put_same : (at n : ℕ) (bytes : List ℕ) → at + n ≤ length bytes → bytes ≡ put_at at (take n (drop at bytes)) bytes
+put_same at n bytes h =
+    let k : length (take n (drop at bytes)) ≡ n = length-take-le n (drop at bytes) (simp length-drop (omega arith)) in
+    rw (k, ← drop-drop n at bytes, take-append-drop, take-append-drop)
+
 -- a piece, and the next one after it
 pub put_put : (at : ℕ) (a b bytes : List ℕ) → at ≤ length bytes → put_at (at + length a) b (put_at at a bytes) ≡ put_at at (a ++ b) bytes
 put_put at a b bytes h =

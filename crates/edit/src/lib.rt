@@ -47,10 +47,13 @@ pub fn put(bytes: &mut [u8], at: usize, piece: &[u8])
     bytes[at..at + piece.len()].copy_from_slice(piece);
 }
 
-// The n bytes from a place on, moved to another, down or up.
+// The n bytes from a place on, moved to another, down or up; none is touched where both are one place.
 pub fn shift(bytes: &mut [u8], from: usize, to: usize, n: usize)
     requires { (from + n ≤ length bytes.old) × (to + n ≤ length bytes.old) }
     ensures { bytes.new ≡ put_at to (take n (drop from bytes.old)) bytes.old }
 {
+    if from == to {
+        return;
+    }
     bytes.copy_within(from..from + n, to);
 }

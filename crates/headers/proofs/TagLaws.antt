@@ -52,10 +52,10 @@ tag_none ps e = rw e
 abbrev tag_from : List ℕ → ℕ → Option Piece
 tag_from v at = first_tag at (segments_left tag_segments v at)
 
-tag_start : (v : List ℕ) → first_tag 0 (tag_segments v) ≡ tag_from v 0
+pub tag_start : (v : List ℕ) → first_tag 0 (tag_segments v) ≡ tag_from v 0
 tag_start v = ap (first_tag 0) (sym (left_start tag_segments v))
 
-tag_done : (v : List ℕ) (at : ℕ) → length v < at → tag_from v at ≡ None
+pub tag_done : (v : List ℕ) (at : ℕ) → length v < at → tag_from v at ≡ None
 unfolding first_tag
 tag_done v at h = rw (left_done tag_segments v at h)
 
@@ -68,11 +68,11 @@ module _ (v : List ℕ) (at n : ℕ) (h : at ≤ length v) (hn : n ≡ cut_lengt
   cuts : Cuts tag_segments (take (length v - at) (drop at v)) n
   cuts = first_cuts (take (length v - at) (drop at v)) n hn
 
-  segment_within : at + blanks segment + length (trimmed segment) ≤ length v
+  pub segment_within : at + blanks segment + length (trimmed segment) ≤ length v
   segment_within = omega (arith, trimmed_fits segment, segment_length tag_segments v at n h cuts, segment_fits tag_segments v at n h cuts)
 
 -- fewer than four bytes are no tag
-short : (t : List ℕ) → length t < 4 → is_tag t ≡ false
+pub short : (t : List ℕ) → length t < 4 → is_tag t ≡ false
 unfolding is_tag
 short t h = starts_not t tag_eq h
 

@@ -2,11 +2,11 @@
 ghost use Rattle.std.specs.Prelude.{◌≡◌};
 ghost use Rattle.limits.specs.Limits.{rust_limits};
 ghost use Rattle.text.specs.Number.{number_from, read_digits};
-ghost use Rattle.text.specs.Text.{is, split};
+ghost use Rattle.text.specs.Text.{is, other, split};
 ghost use Rattle.headers.specs.SessionExpires.{refresher_in, session_expires, expires_named, parse_expires, block_expires, expires_from, expires_answer};
 
 use limits::Refusal;
-use text::{Cut, Segments};
+use text::{ByteClass, Cut, Segments};
 
 // Who refreshes a session, each with its number in an image and for a C caller.
 #[derive(Clone, Copy)]
@@ -89,6 +89,18 @@ impl Cut for Semicolon {
     ghost segments = { λ _ s. split (is 59) s };
 
     fn first(&self, s: &[u8]) -> usize {
-        text::find(s, b';').unwrap_or(s.len())
+        text::run_length(s, &NoSemicolon {})
+    }
+}
+
+// All bytes but the semicolon.
+#[derive(Clone, Copy)]
+struct NoSemicolon {}
+
+impl ByteClass for NoSemicolon {
+    ghost test = { λ _ b. other 59 b };
+
+    fn has(&self, b: u8) -> bool {
+        b != b';'
     }
 }

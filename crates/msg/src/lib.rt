@@ -137,12 +137,15 @@ fn line_since(block: &[u8], from: usize) -> usize
     ensures block_value { lines_from 0 result (drop result block.now) ≡ lines_since from (lines_of block.now) }
     ensures upper_bound { result ≤ length block.now }
 {
+    if from == 0 {
+        return 0;
+    }
     let mut at = 0;
     for line in (Lines { block, at: 0 }) {
+        at = line.end();
         if from <= at {
             return at;
         }
-        at = line.end();
     }
     at
 }

@@ -51,6 +51,7 @@ impl<'a> Iterator for Lines<'a> {
 
     ghost remaining = { item_count lines_ahead };
 
+    #[inline(always)]
     fn next(&mut self) -> Option<Line<'a>> {
         let start = self.at;
         let rest = &self.block[start..];

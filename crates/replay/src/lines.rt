@@ -4,10 +4,10 @@ use replay_lines::{
     ITEMS, Item, Items, OUTS, copy_at, part, place_of, read_items, row_of, shape_fits,
 };
 
-// The call that the line asks for, if it asks for one; none where it can't be read. The list has the rows at its head; `old` and `bytes` are room to work in.
+// The call that the line asks for, if it asks for one; none where it can't be read. The head has the rows; `old` and `bytes` are room to work in.
 pub fn one_line<const N: usize>(
     line: &[u8],
-    list: &[u8],
+    head: &[u8],
     memory: &mut Memory<N>,
     old: &mut [u8],
     bytes: &mut [u8],
@@ -20,11 +20,14 @@ pub fn one_line<const N: usize>(
     // Kept (6): README's rule: no heap. So the items go into an array, and what reads them says how many there are.
     let mut room = [Item::NONE; ITEMS];
     let count = read_items(part(line, n, line.len()), bytes, &mut room)?;
+    if count == 0 {
+        return None;
+    }
     let items = Items {
         bytes,
         list: part(&room, 0, count),
     };
-    let Some((number, row)) = row_of(list, name) else {
+    let Some((number, row)) = row_of(head, name) else {
         memory.set(name, items)?;
         return Some(None);
     };
@@ -34,7 +37,7 @@ pub fn one_line<const N: usize>(
     let asked = Line {
         shape: row.shape,
         items,
-        equals: place_of(row.shape, b'=')?,
+        equals: place_of(row.shape, b'=').unwrap_or(row.shape.len()),
     };
     let same = replay_call(name, asked, memory, old)?;
     Some(Some(Call { row: number, same }))

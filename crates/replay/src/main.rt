@@ -8,7 +8,7 @@ ghost use Rattle.std.specs.Prelude.{◌≡◌, ◌≤◌, IfOk, length};
 
 use lines::one_line;
 use replay_answers::{Memory, Tallies, report, take};
-use replay_lines::ROWS;
+use replay_lines::{ROWS, part};
 use std::io;
 use std::io::Read;
 
@@ -42,25 +42,42 @@ fn replay(rt: &impl Print, list: &[u8]) -> io::Result<()> {
     if list.len() == 786432 {
         return rt.write_all(b"the list is too long\n");
     }
-    let rows = list
-        .split(|b| *b == b'\n')
-        .take_while(|row| !row.is_empty())
-        .count();
-    if rows != ROWS {
+    let head = part(list, 0, head_end(list));
+    let rows = head.iter().filter(|b| **b == b'\n').count();
+    if rows != ROWS || has_nameless(head) {
         return println!(rt; "the list doesn't begin with {ROWS} rows");
     }
     let mut tallies = Tallies::new();
-    each_line(rt, list, &mut tallies)?;
-    report(rt, list, &tallies)
+    each_line(rt, list, head, &mut tallies)?;
+    report(rt, head, &tallies)
+}
+
+// How many bytes the lines at the front have, up to the first that is empty or has no end.
+fn head_end(list: &[u8]) -> usize {
+    let mut end = 0usize;
+    for line in list.split(|b| *b == b'\n') {
+        let next = end.saturating_add(line.len()).saturating_add(1);
+        if line.is_empty() || list.len() < next {
+            return end;
+        }
+        end = next;
+    }
+    end
+}
+
+// Whether a row begins with a blank.
+fn has_nameless(head: &[u8]) -> bool {
+    head.split(|b| *b == b'\n')
+        .any(|row| matches!(row, [b' ', ..]))
 }
 
 // Goes through the lines behind the head. They are numbered from 1 at the list's start.
-fn each_line(rt: &impl Print, list: &[u8], tallies: &mut Tallies) -> io::Result<()> {
+fn each_line(rt: &impl Print, list: &[u8], head: &[u8], tallies: &mut Tallies) -> io::Result<()> {
     let mut memory = Memory::<786432>::new();
     let mut old = zeros();
     let mut bytes = zeros();
     for (before, line) in list.split(|b| *b == b'\n').enumerate().skip(ROWS) {
-        let call = one_line(line, list, &mut memory, &mut old, &mut bytes);
+        let call = one_line(line, head, &mut memory, &mut old, &mut bytes);
         take(rt, call, before + 1, tallies)?;
     }
     Ok(())

@@ -58,10 +58,8 @@ impl Line<'_, '_> {
         if items.list.len() == change {
             return store == old;
         }
-        let used = place_of(self.shape, b's').map_or(
-            0,
-            |k| items.value(k.saturating_add(1)),
-        ) as usize;
+        let lent = place_of(self.shape, b's').unwrap_or(change);
+        let used = items.value(lent.saturating_add(1)) as usize;
         let used_after = items.value(self.equals.saturating_add(2)) as usize;
         let at = items.value(change) as usize;
         let behind = at.saturating_add(items.value(change.saturating_add(1)) as usize);

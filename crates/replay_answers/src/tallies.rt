@@ -2,7 +2,7 @@
 ghost use Rattle.std.specs.Prelude.{◌≡◌};
 
 use crate::Call;
-use replay_lines::{ROWS, row_at};
+use replay_lines::{ROWS, name_at};
 use std::io;
 
 // Of a row: how many calls, how many of them differ, and the line of the first that does, if one does.
@@ -71,8 +71,8 @@ pub fn report(rt: &impl Print, head: &[u8], tallies: &Tallies) -> io::Result<()>
     let mut calls = 0u64;
     let mut differ = 0u64;
     for (number, tally) in tallies.rows.iter().enumerate() {
-        if let Some(row) = row_at(head, number) {
-            rt.write_all(row.name)?;
+        if let Some(name) = name_at(head, number) {
+            rt.write_all(name)?;
         }
         print!(rt; ": {} calls", tally.calls)?;
         show_differing(rt, *tally)?;

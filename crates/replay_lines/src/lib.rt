@@ -14,5 +14,5 @@ mod texts;
 pub use bytes::{copy_at, low8, low16, low32, part, write_digits};
 pub use items::{Item, Items, read_items};
 pub use outs::Number;
-pub use rows::{Row, kinds_are, numbers_behind, place_of, row_at, row_of, shape_fits};
+pub use rows::{Row, kinds_are, name_at, numbers_behind, place_of, row_at, row_of, shape_fits};
 pub use sizes::{ITEMS, OUTS, ROWS};

@@ -1,9 +1,10 @@
 // The rows at the head of the list: an operation's name, a blank, and the letters of its items. Its number is its place among the rows.
-ghost use Rattle.std.specs.Prelude.{◌≡◌, ◌==◌, Some, IfSome, true, length, slice_get};
+ghost use Rattle.std.specs.Prelude.{◌≡◌, ◌==◌, ◌||◌, Some, IfSome, true, length, slice_get};
 ghost use Rattle.std.specs.List.{slice_split};
 ghost use Rattle.std.specs.Option.{option_map};
 
 use crate::items::{Item, Items};
+use crate::sizes::ROWS;
 
 #[derive(Clone, Copy)]
 pub struct Row<'a> {
@@ -35,15 +36,33 @@ fn nth_part(s: &[u8], separator: u8, k: usize) -> Option<&[u8]>
     s.split(|b| *b == separator).nth(k)
 }
 
-// The row of a name, and its number.
+// The name of the row of a number, whatever follows it.
+pub fn name_at(head: &[u8], number: usize) -> Option<&[u8]>
+    ensures { IfSome result (λ n. IfSome (slice_get (slice_split (λ b. b == 10) head.now) number) (λ line. slice_get (slice_split (λ b. b == 32) line) 0 ≡ Some n.now)) }
+{
+    nth_part(nth_part(head, b'\n', number)?, b' ', 0)
+}
+
+// Of the words that blanks and line ends separate, the one of index k.
+fn nth_word(s: &[u8], k: usize) -> Option<&[u8]>
+    ensures { option_map (λ p. p.now) result ≡ slice_get (slice_split (λ b. b == 32 || b == 10) s.now) k }
+{
+    s.split(|b| *b == b' ' || *b == b'\n').nth(k)
+}
+
+// The row of a name, and its number. The head has the end of each of its lines; a row's shape is the word behind its name, wherever that stands.
 pub fn row_of<'a>(head: &'a [u8], name: &[u8]) -> Option<(usize, Row<'a>)>
     ensures { IfSome result (λ p. p.1.name.now ≡ name.now) }
 {
-    for (number, line) in head.split(|b| *b == b'\n').enumerate() {
-        let row = read_row(line)?;
-        if row.name == name {
-            return Some((number, row));
+    let mut rest = head;
+    for number in 0..ROWS {
+        let first = nth_word(rest, 0)?;
+        if first == name {
+            let shape = nth_word(rest, 1)?;
+            return Some((number, Row { name: first, shape }));
         }
+        let end = rest.iter().position(|&b| b == b'\n')?;
+        rest = rest.get(end + 1..)?;
     }
     None
 }

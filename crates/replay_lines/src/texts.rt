@@ -42,12 +42,11 @@ fn repeat(bytes: &mut [u8], from: usize, to: usize, times: u64) -> Option<usize>
     if n == 0 || times == 0 {
         return Some(from);
     }
-    let end = n.checked_mul(times as usize)?.checked_add(from)?;
-    let (first, more) = bytes.get_mut(from..end)?.split_at_mut_checked(n)?;
-    for copy in more.chunks_exact_mut(n) {
-        copy.copy_from_slice(first);
+    let end = n.saturating_mul(times as usize).saturating_add(from);
+    for k in to..end.min(bytes.len()) {
+        bytes[k] = bytes[k - n];
     }
-    Some(end)
+    (end <= bytes.len()).then_some(end)
 }
 
 // The rest of a quoted part.

@@ -248,12 +248,12 @@ module _ (reversed : Bool) (block bytes : List ℕ) where
     read_size = sym (zero-add (length (bytes_of r.pieces))) ∙ sym (all_size reversed r.pieces _) ∙ ap (λ (g : Filling). g.size) r.held
 
     -- the measured section
-    measured_none : f.count ≡ 0 → Ok (0, 0) ≡ section_from (routes_of rust_limits block)
+    pub measured_none : f.count ≡ 0 → Ok (0, 0) ≡ section_from (routes_of rust_limits block)
     measured_none e =
         let k : length r.pieces ≡ 0 = read_count ∙ e in
         rw (r.is, section_none false r.pieces k, k)
 
-    measured_some : 0 < f.count → Ok (f.count, 1 + f.size) ≡ section_from (routes_of rust_limits block)
+    pub measured_some : 0 < f.count → Ok (f.count, 1 + f.size) ≡ section_from (routes_of rust_limits block)
     measured_some h =
         let s : length (section_of (route_texts false r.pieces)) ≡ 1 + f.size = omega (arith, ap length (section_filled false r.pieces (omega (arith, read_count))), read_size) in
         rw (r.is, s, read_count)

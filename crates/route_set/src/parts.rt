@@ -64,10 +64,17 @@ fn part_length(s: &[u8]) -> usize
 }
 
 // Whether a byte cuts, in quotes or not and at a depth of angle brackets.
+// Kept (7): the comma is asked for first: the three tests as one expression take 6 instructions more for each byte in quotes (docs/LOOK-BACK.md).
 fn is_cut(quoted: bool, depth: usize, b: u8) -> bool
     ensures { result ≡ is_cut quoted depth b }
 {
-    b == b',' && !quoted && depth == 0
+    if b != b',' {
+        return false;
+    }
+    if quoted {
+        return false;
+    }
+    depth == 0
 }
 
 fn quote_after(quoted: bool, b: u8) -> bool

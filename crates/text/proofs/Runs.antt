@@ -1,17 +1,33 @@
 -- How many bytes from the front on pass a test. Assumes nothing.
 use Prim.Native.Nat.{ℕ, suc, ◌+◌, ◌-◌, ◌<◌, ◌≤◌}
-use native.Mathlib.Nat.{zero-add, suc-add}
+use native.Mathlib.Nat.{add-zero, zero-add, add-suc, suc-add}
+use native.Mathlib.Numerals.{add-one}
 use native.Mathlib.Omega.{arith}
 use mathlib.Core.Path.{◌≡◌, refl, sym, ap, ◌∙◌}
 use mathlib.Core.Bool.{Bool, true, false, cond, ◌&&◌}
 use mathlib.Core.List.{List, [], ◌∷◌}
-use lib.ListN.{length, take, drop, length-drop}
+use lib.ListN.{length, get_or, take, drop, drop_of_length-le, length-drop}
+use lib.Seq.{drop-cons}
 use lib.Dec.{eqb}
 use borrow.Author.Tests.{eq-eqb, ne_eqb, eqb-true, eqb-false}
 use Rattle.std.proofs.lemmas.List.{take_rest}
 use Rattle.std.specs.Prelude.{None, Option, Some, MatchOption}
 use Rattle.std.specs.Option.{unwrap_or}
 use Rattle.text.specs.Text.{span, all}
+
+-- a run from a place on: s are the bytes and i the index
+module _ (p : ℕ → Bool) (s : List ℕ) (i : ℕ) where
+  pub span_done : length s ≤ i → i + span p (drop i s) ≡ i
+  unfolding span
+  span_done h = rw (drop_of_length-le s h, add-zero i)
+
+  pub span_stop : i < length s → p (get_or s i 0) ≡ false → i + span p (drop i s) ≡ i
+  unfolding span
+  span_stop h e = rw (drop-cons s i 0 h, e, add-zero i)
+
+  pub span_next : i < length s → p (get_or s i 0) ≡ true → i + span p (drop i s) ≡ i + 1 + span p (drop (i + 1) s)
+  unfolding span
+  span_next h e = rw (drop-cons s i 0 h, e, add-one i, add-suc, suc-add)
 
 -- the run of a test goes on past that of a stronger one
 pub span_past : (p q : ℕ → Bool) → ((b : ℕ) → q b ≡ true → p b ≡ true) → (s : List ℕ) → span p s ≡ span q s + span p (drop (span q s) s)

@@ -44,6 +44,7 @@ impl<'a, C: Cut + Copy> Iterator for Segments<'a, C> {
 
     ghost remaining = { item_count (segments_ahead C.segments) };
 
+    #[inline(always)]
     fn next(&mut self) -> Option<Part<'a>> {
         let at = self.at;
         if self.text.len() < at {

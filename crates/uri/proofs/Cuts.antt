@@ -66,7 +66,7 @@ module _ (at : ℕ) (t : List ℕ) (n : ℕ) (hn : n ≡ span (other 60) t) wher
 
 -- p is where the trimmed value stands, and t its bytes
 module _ (v : List ℕ) (p : Span) (hp : p ≡ trimmed_span v) (t : List ℕ) (ht : t ≡ part_in v p) where
-  whole : t ≡ trimmed v
+  pub whole : t ≡ trimmed v
   whole = rw (ht, hp) (trimmed_is v)
 
   same_cut : uri_text v ≡ cut_uri p.start t

@@ -86,7 +86,7 @@ four_first (a ∷ b ∷ c ∷ []) h = absurd (omega (arith, h))
 four_first (a ∷ b ∷ c ∷ d ∷ t) h = omega arith
 
 -- those at a place
-word_told : (s : List ℕ) (at : ℕ) → at + 4 ≤ length s → ((get_or s at 0 * 256 + get_or s (at + 1) 0) * 256 + get_or s (at + 2) 0) * 256 + get_or s (at + 3) 0 ≡ value_of 0 (take 4 (drop at s))
+pub word_told : (s : List ℕ) (at : ℕ) → at + 4 ≤ length s → ((get_or s at 0 * 256 + get_or s (at + 1) 0) * 256 + get_or s (at + 2) 0) * 256 + get_or s (at + 3) 0 ≡ value_of 0 (take 4 (drop at s))
 word_told s at h =
     let e : get_or (drop at s) 0 0 ≡ get_or s at 0 = get_or-drop at s 0 0 ∙ ap (λ i. get_or s i 0) (add-zero at) in
     omega (arith, e, get_or-drop at s 1 0, get_or-drop at s 2 0, get_or-drop at s 3 0, four_first (drop at s) (simp length-drop (omega arith)))

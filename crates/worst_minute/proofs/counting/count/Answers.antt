@@ -1,5 +1,5 @@
 -- `worst_minute::counting::count` meets its contract: the worst over the starts before the window, and the refusals of the window. Assumes nothing.
-use Prim.Native.Nat.{ℕ, ◌+◌, ◌≤◌, ◌<◌}
+use Prim.Native.Nat.{ℕ, ◌≤◌, ◌<◌}
 use native.Mathlib.Omega.{arith}
 use mathlib.Core.Path.{◌≡◌, refl, ap, sym, ◌∙◌}
 use mathlib.Core.Bool.{true}
@@ -14,9 +14,9 @@ use Rattle.worst_minute.specs.Steps.{or_more}
 use Rattle.worst_minute.specs.Answers.{worst_of, worst_answer}
 use Rattle.worst_minute.specs.declared.counting.Window.{Window}
 use Rattle.worst_minute.proofs.ReadLaws.{sized}
-use Rattle.worst_minute.proofs.CountLaws.{Counting, Ready, started, falls, reached, stays, moved_on, finished, few_so_far, a_refusal, no_refusal, has_more, has_no_more, ready_as, counting_as, counting_with}
+use Rattle.worst_minute.proofs.CountLaws.{Counting, Ready, started, falls, reached, stays, moved_on, finished, few_so_far, a_refusal, no_refusal, has_more, has_no_more, ready_as, counting_as}
 use Rattle.worst_minute.proofs.counting.count.Goals as goal
-use Rattle.worst_minute.proofs.counting.count.Goals.{Left-loop-at, Joined-t-w-ge-MINUTE, then-most-w, else-most-w, then-t-w-ge-MINUTE, else-t-w-ge-MINUTE, then-run-at-ne0, else-run-at-ne0, else-loop-at-test, then-loop-at-test+else-t-last+else-at-end-at-gt9}
+use Rattle.worst_minute.proofs.counting.count.Goals.{Joined-t-w-ge-MINUTE, then-most-w, else-most-w, then-t-w-ge-MINUTE, else-t-w-ge-MINUTE, then-run-at-ne0, else-run-at-ne0}
 
 -- the window is where the verdict at the place belongs to it
 ready : (c : Joined-t-w-ge-MINUTE)
@@ -47,42 +47,6 @@ finally : (s : List ℕ) (z : is_sized (length s) ≡ true) (full : 0 < length s
 finally s z full r h e =
     let f = finished s z full r h in
     ap (λ m. worst_of (Some m)) e ∙ ap worst_of (sym f.1) ∙ ap (λ o. worst_answer (and_then (or_refuse BadStore o) (λ vs. Ok (worst vs)))) (sym f.0)
-
--- where no verdict is left, and in the last one's turn
-ended : (c : Left-loop-at) {m : Minute}
-    → m ≡ (let l = c.loop-at-test in or_more (record { start = l.start; refusals = l.most }) (record { start = l.w.start; refusals = l.w.refusals }))
-    → worst_of (Some m) ≡ worst_answer (and_then (or_refuse BadStore (decode_run c.args.run.now)) (λ vs. Ok (worst vs)))
-ended c {m} e =
-    let s = c.args.run.now in
-    let p = c.requires in
-    let l = c.loop-at in
-    let best : Minute = record { start = l.start; refusals = l.most } in
-    elim c.loop-at-test.branch [
-      | else-loop-at-test k ↦ finally s p.1 p.0 (counting_with s best l.invariant k.w-is k.most-is k.start-is) (omega (arith, k.loop-at-test.false)) {m = m} e
-      | then-loop-at-test+else-t-last+else-at-end-at-gt9 k ↦
-          let t = k.time_at-t.ensures in
-          let f = k.if-t-last.false in
-          let h : l.at < length s = omega (arith, k.loop-at-test.true) in
-          let o : Minute = record { start = l.w.start; refusals = l.w.refusals } in
-          let now : Minute = record { start = k.if-t-w-ge-MINUTE.start; refusals = k.if-t-w-ge-MINUTE.most } in
-          let r : Ready s k.if-t-w-ge-MINUTE.w now l.at =
-          elim k.if-t-w-ge-MINUTE.branch [
-            | then-t-w-ge-MINUTE j ↦
-                let worse : ◌≡◌ {A = Minute} (record { start = j.if-most-w.start; refusals = j.if-most-w.most }) (or_more best o) =
-                elim j.if-most-w.branch [
-                  | then-most-w q ↦ has_more best o (omega (arith, q.if-most-w.true)) q.most-is q.start-is
-                  | else-most-w q ↦ has_no_more best o (omega (arith, q.if-most-w.false)) q.most-is q.start-is
-                ] in
-                ready_as s (record { start = j.if-most-w.start; refusals = j.if-most-w.most }) (moved_on s p.1 p.0 l.invariant h t f (omega (arith, j.if-t-w-ge-MINUTE.true)) j.moved-w.ensures worse) j.w-is j.most-is j.start-is
-            | else-t-w-ge-MINUTE j ↦ ready_as s best (stays s p.1 p.0 l.invariant h t f (omega (arith, j.if-t-w-ge-MINUTE.false))) j.w-is j.most-is j.start-is
-          ] in
-          let n : Counting s k.if-run-at-ne0.w now k.time_at-t.result (l.at + 9) =
-          elim k.if-run-at-ne0.branch [
-            | then-run-at-ne0 j ↦ counting_as s (a_refusal s p.1 p.0 r j.if-run-at-ne0.true t) j.w-is
-            | else-run-at-ne0 j ↦ counting_as s (no_refusal s p.1 p.0 r j.if-run-at-ne0.false t) j.w-is
-          ] in
-          finally s p.1 p.0 (counting_with s now n k.w-is k.most-is k.start-is) (omega arith) {m = m} e
-    ]
 
 pub loop-at-init : goal.loop-at-init
 loop-at-init c = started c.args.run.now c.requires.1 c.requires.0 c.time_at-first.ensures
@@ -116,10 +80,16 @@ loop-at-preserved c =
 
 pub returns-then-w-most : goal.returns-then-w-most
 returns-then-w-most c =
-    ended (goal.at.returns-then-w-most c).Left-loop-at
-    (has_no_more (record { start = c.loop-at-test.start; refusals = c.loop-at-test.most }) (record { start = c.loop-at-test.w.start; refusals = c.loop-at-test.w.refusals }) (omega (arith, c.if-w-most.true)) refl refl)
+    let p = c.requires in
+    let l = c.loop-at in
+    let best : Minute = record { start = l.start; refusals = l.most } in
+    let m : Minute = record { start = l.w.start; refusals = l.w.refusals } in
+    finally c.args.run.now p.1 p.0 l.invariant (omega (arith, (sized (length c.args.run.now) p.1).0)) (has_no_more best m (omega (arith, c.if-w-most.true)) refl refl)
 
 pub returns : goal.returns
 returns c =
-    ended (goal.at.returns c).Left-loop-at
-    (has_more (record { start = c.loop-at-test.start; refusals = c.loop-at-test.most }) (record { start = c.loop-at-test.w.start; refusals = c.loop-at-test.w.refusals }) (omega (arith, c.if-w-most.false)) refl refl)
+    let p = c.requires in
+    let l = c.loop-at in
+    let best : Minute = record { start = l.start; refusals = l.most } in
+    let m : Minute = record { start = l.w.start; refusals = l.w.refusals } in
+    finally c.args.run.now p.1 p.0 l.invariant (omega (arith, (sized (length c.args.run.now) p.1).0)) (has_more best m (omega (arith, c.if-w-most.false)) refl refl)

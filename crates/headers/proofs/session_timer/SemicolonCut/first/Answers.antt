@@ -1,8 +1,6 @@
 use Rattle.text.specs.Text.{is}
-use mathlib.Core.Path.{◌∙◌}
-use Rattle.text.proofs.Runs.{place_or}
 use Rattle.text.proofs.Words.{split_cuts}
 use Rattle.headers.proofs.session_timer.SemicolonCut.first.Goals as goal
 
 pub returns : goal.returns
-returns c = split_cuts (is 59) c.args.s.now _ (c.unwrap_or.ensures ∙ place_or _ _ _ c.find.ensures)
+returns c = split_cuts (is 59) c.args.s.now _ c.run_length.ensures.value
