@@ -1,5 +1,5 @@
 -- Laws of lists that the in-place edits turn on. Assumes nothing.
-use mathlib.Core.Path.{◌≡◌, sym, ap, subst, ◌∙◌}
+use mathlib.Core.Path.{◌≡◌, sym, ap, ap₂, subst, ◌∙◌}
 use mathlib.Core.List.{List, [], ◌++◌, append_assoc}
 use Prim.Native.Nat.{ℕ, ◌+◌, ◌-◌, ◌≤◌}
 use native.Mathlib.Nat.{add-zero, add_assoc}
@@ -7,6 +7,7 @@ use native.Mathlib.Omega.{arith}
 use lib.ListN.{length, take, drop, length-append, length-drop, take-append-drop}
 use lib.Seq.{length-take-le, take_at, drop_at, take-take, take-append-le, drop-append-add, drop-drop}
 use Rattle.std.proofs.lemmas.List.{drop-take}
+use Rattle.std.specs.List.{copy_within}
 use Rattle.edit.specs.Edit.{put_at, over, spliced, tail_moved}
 
 module _ (s piece : List ℕ) (used at old : ℕ) (a : at + old ≤ used) (b : used ≤ length s) (d : used - old + length piece ≤ length s) where
@@ -71,6 +72,69 @@ drop_put to m e s h l =
     ∙ drop-append-add (take to s ++ e) (drop (to + length e) s) (m - (to + length e))
     ∙ drop-drop (m - (to + length e)) (to + length e) s
     ∙ ap (λ (i : ℕ). drop i s) j
+
+-- ---- bytes moved to another place in two parts: first the part that the other would be written over
+
+-- as many bytes as before
+length_put : (at : ℕ) (a s : List ℕ) → at + length a ≤ length s → length (put_at at a s) ≡ length s
+length_put at a s h = rw (length-append, length-append, length-drop, length-take-le at s (omega arith)) (omega arith)
+
+-- std's `copy_within` of n bytes
+copied : (s : List ℕ) (from to n : ℕ) → from + n ≤ length s → copy_within s from (from + n) to ≡ put_at to (take n (drop from s)) s
+copied s from to n f =
+    let k : from + n - from ≡ n = omega arith in
+    let l : length (take n (drop from s)) ≡ n = length-take-le n (drop from s) (simp length-drop (omega arith)) in
+    rw (k, l, append_assoc)
+
+module _ (s : List ℕ) (from to h n : ℕ) (u : h ≤ n) (f : from + n ≤ length s) where
+  -- the two parts are the whole
+  both : take h (drop from s) ++ take (n - h) (drop (from + h) s) ≡ take n (drop from s)
+  both =
+      let k : n ≡ h + (n - h) = omega arith in
+      ap (λ c. take h (drop from s) ++ take (n - h) c) (sym (drop-drop h from s))
+      ∙ ap₂ (λ a b. a ++ b) (sym (take-take h n (drop from s) u)) (sym (drop-take h (n - h) (drop from s)) ∙ ap (λ j. drop h (take j (drop from s))) (sym k))
+      ∙ take-append-drop h (take n (drop from s))
+
+  low_length : length (take h (drop from s)) ≡ h
+  low_length = length-take-le h (drop from s) (simp length-drop (omega arith))
+
+  high_length : length (take (n - h) (drop (from + h) s)) ≡ n - h
+  high_length = length-take-le (n - h) (drop (from + h) s) (simp length-drop (omega arith))
+
+  -- down: the lowest bytes first
+  pub low_first : to + n ≤ length s → to ≤ from → copy_within (copy_within s from (from + h) to) (from + h) (from + n) (to + h) ≡ put_at to (take n (drop from s)) s
+  low_first t e =
+      let a = take h (drop from s) in
+      let r = put_at to a s in
+      let k : from + n ≡ from + h + (n - h) = omega arith in
+      let m : length r ≡ length s = length_put to a s (omega (arith, low_length)) in
+      let d : drop (from + h) r ≡ drop (from + h) s = drop_put to (from + h) a s (omega arith) (omega (arith, low_length)) in
+      ap (λ b. copy_within b (from + h) (from + n) (to + h)) (copied s from to h (omega arith))
+      ∙ ap (λ j. copy_within r (from + h) j (to + h)) k
+      ∙ copied r (from + h) (to + h) (n - h) (omega (arith, m))
+      ∙ ap (λ c. put_at (to + h) (take (n - h) c) r) d
+      ∙ ap (λ j. put_at (to + j) (take (n - h) (drop (from + h) s)) r) (sym low_length)
+      ∙ put_put to a (take (n - h) (drop (from + h) s)) s (omega arith)
+      ∙ ap (λ c. put_at to c s) both
+
+  -- up: the highest first
+  pub high_first : to + n ≤ length s → from ≤ to → copy_within (copy_within s (from + h) (from + n) (to + h)) from (from + h) to ≡ put_at to (take n (drop from s)) s
+  high_first t e =
+      let a = take h (drop from s) in
+      let b = take (n - h) (drop (from + h) s) in
+      let r = put_at (to + h) b s in
+      let k : from + n ≡ from + h + (n - h) = omega arith in
+      let m : length r ≡ length s = length_put (to + h) b s (omega (arith, high_length)) in
+      let w : length (take (to + h) s) ≡ to + h = length-take-le (to + h) s (omega arith) in
+      let c : take (from + h) r ≡ take (from + h) s = take-append-le (from + h) (take (to + h) s) (b ++ drop (to + h + length b) s) (omega (arith, w)) ∙ take-take (from + h) (to + h) s (omega arith) in
+      let d : take h (drop from r) ≡ a = sym (drop-take from h r) ∙ ap (drop from) c ∙ drop-take from h s in
+      ap (λ j. copy_within (copy_within s (from + h) j (to + h)) from (from + h) to) k
+      ∙ ap (λ o. copy_within o from (from + h) to) (copied s (from + h) (to + h) (n - h) (omega arith))
+      ∙ copied r from to h (omega (arith, m))
+      ∙ ap (λ c. put_at to c r) d
+      ∙ ap (λ j. put_at to a (put_at (to + j) b s)) (sym low_length)
+      ∙ put_before to a b s (omega (arith, low_length))
+      ∙ ap (λ c. put_at to c s) both
 
 -- a piece was written at a place: the place after it, and the bytes after
 abbrev pub Wrote : ℕ → List ℕ → List ℕ → ℕ → List ℕ → Type 0

@@ -48,6 +48,8 @@ pub fn put(bytes: &mut [u8], at: usize, piece: &[u8])
 }
 
 // The n bytes from a place on, moved to another, down or up; none is touched where both are one place.
+// The two laws prove a move in two parts, each right order of them: must-fail/wrong_way has the wrong ones.
+#[tactic(auto, using(crate::proofs::EditLaws::low_first, crate::proofs::EditLaws::high_first))]
 pub fn shift(bytes: &mut [u8], from: usize, to: usize, n: usize)
     requires { (from + n ≤ length bytes.old) × (to + n ≤ length bytes.old) }
     ensures { bytes.new ≡ put_at to (take n (drop from bytes.old)) bytes.old }

@@ -1,7 +1,7 @@
 // The rows at the head of the list: an operation's name, a blank, and the letters of its items. Its number is its place among the rows.
 ghost use Rattle.std.specs.Prelude.{◌≡◌, ◌==◌, ◌||◌, Some, IfSome, true, length, slice_get};
 ghost use Rattle.std.specs.List.{slice_split};
-ghost use Rattle.std.specs.Option.{option_map};
+ghost use Rattle.std.specs.Option.{option_map, option_and_then};
 
 use crate::items::{Item, Items};
 use crate::sizes::ROWS;
@@ -38,7 +38,7 @@ fn nth_part(s: &[u8], separator: u8, k: usize) -> Option<&[u8]>
 
 // The name of the row of a number, whatever follows it.
 pub fn name_at(head: &[u8], number: usize) -> Option<&[u8]>
-    ensures { IfSome result (λ n. IfSome (slice_get (slice_split (λ b. b == 10) head.now) number) (λ line. slice_get (slice_split (λ b. b == 32) line) 0 ≡ Some n.now)) }
+    ensures { option_map (λ n. n.now) result ≡ option_and_then (λ line. slice_get (slice_split (λ b. b == 32) line) 0) (slice_get (slice_split (λ b. b == 10) head.now) number) }
 {
     nth_part(nth_part(head, b'\n', number)?, b' ', 0)
 }

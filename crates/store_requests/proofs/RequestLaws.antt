@@ -1,6 +1,7 @@
 -- The ways out of the request entry, and the identifier that a request names. Assumes nothing.
 use Prim.Native.Nat.{ℕ}
-use mathlib.Core.Path.{◌≡◌, refl}
+use native.Mathlib.Omega.{arith}
+use mathlib.Core.Path.{◌≡◌, refl, ap}
 use mathlib.Core.Bool.{true, false}
 use mathlib.Core.List.{List}
 use lib.ListN.{length, take}
@@ -13,19 +14,20 @@ use Rattle.limits.specs.declared.Refusal.TheVariants.{TextTooLong}
 use Rattle.limits.proofs.Laws.{stopped}
 use Rattle.text.specs.Answers.{too_long}
 use Rattle.msg.specs.Block.{block_cause}
-use Rattle.dialog_id.specs.DialogId.{identifier_of, from_name, to_name}
+use Rattle.dialog_id.specs.DialogId.{identifier_of, from_name, to_name, id_from}
 use Rattle.dialog_id.specs.declared.DialogId.{DialogId}
 use Rattle.output.specs.Output.{leaves, written_from}
 use Rattle.codec.proofs.CodecLaws.{Bytes}
 use Rattle.image_edit.specs.declared.RecordPlace.{RecordPlace}
-use Rattle.text.specs.Spans.{part_in}
+use Rattle.text.specs.Spans.{part_in, PartWithin}
 use Rattle.dialog_rules.specs.Updates.{kind_of, request_update}
-use Rattle.dialog_rules.proofs.PlacedLaws.{Asked}
+use Rattle.dialog_rules.proofs.PlacedLaws.{Asked, asked}
 use Rattle.store_steps.specs.AtPlace.{stepped}
 use Rattle.dialog_id.specs.Ident.{Ident, ident}
+use Rattle.dialog_id.specs.IdTexts.{ident_in, swapped}
 use Rattle.book.specs.Calls.{request}
 use Rattle.book.specs.Book.{named_in, update_cause, revised}
-use Rattle.store_entries.specs.Entries.{spot_named, standing_of}
+use Rattle.store_entries.specs.Entries.{spot_in, spot_named, standing_of}
 use Rattle.book.proofs.SettingLaws.{limits_permitted}
 use Rattle.store_entries.proofs.EntryLaws.{Done, arguments_done, turned, step_done, unnamed, never_at, not_named}
 
@@ -39,6 +41,18 @@ named_is block i a = rw (a.reads, a.spans, a.placed.call_id.there, a.placed.loca
 pub named_none : (block : List ℕ) → identifier_of from_name to_name block ≡ None → named_in block ≡ None
 unfolding named_in
 named_none block e = rw e
+
+-- the parts that were read lie in the block
+pub asked_within : (block : List ℕ) (i : DialogId) → Some i ≡ id_from (identifier_of from_name to_name block)
+    → PartWithin block i.call_id × PartWithin block i.local_tag × PartWithin block i.remote_tag
+asked_within block i e =
+    let q : Asked block i = asked block i e in
+    rw q.spans (omega (arith, q.placed.call_id.fits), omega (arith, q.placed.local_tag.fits), omega (arith, q.placed.remote_tag.fits))
+
+-- the record looked up for them, their tags swapped
+pub spot_asked : (block bytes : List ℕ) (used : ℕ) (i : DialogId) → Some i ≡ id_from (identifier_of from_name to_name block)
+    → spot_named (named_in block) bytes used ≡ spot_in (ident_in block (swapped i)) bytes used
+spot_asked block bytes used i e = ap (λ (o : Option Ident). spot_named o bytes used) (named_is block i (asked block i e))
 
 -- ---- the ways out
 

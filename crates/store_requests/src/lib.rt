@@ -38,6 +38,7 @@ pub fn request(
 
 // By the identifier that a block names, if it names one: 3, 15. A request from the peer has From as remote tag.
 // Kept (5, 6): 3 comes after 2: the two that are called check the used length, so that the caller cannot.
+#[tactic(auto, using(crate::proofs::RequestLaws::asked_within, crate::proofs::RequestLaws::spot_asked))]
 fn locate_named(
     bytes: &[u8],
     used: usize,

@@ -1,5 +1,6 @@
 -- `dialog_changes::confirm` meets its contract: 3, then the numbers of the one record changed. Assumes nothing.
 use mathlib.Core.Path.{sym, ap, ◌∙◌}
+use Rattle.std.proofs.Common.{rules}
 use Rattle.std.proofs.result.Match.{err_is}
 use Rattle.std.specs.Prelude.{Ok}
 use Rattle.record.specs.Rules.{confirm_step}
@@ -19,5 +20,5 @@ returns c =
     let a = c.args in
     let e = sym c.in_ok-p.was ∙ c.read_used.ensures.value in
     let w : _ × _ = stepped_ended a.bytes.now a.used (λ r. Ok (confirm_update r)) e (λ i. (c.slice_known-1.given i).fits)
-    (rule_given a.bytes.now c.in_ok-p.p (λ i. (c.slice_known-1.given i).fits) c.in_ok-p.ensures.stands (λ x. Ok (confirm_step x)) (ap Ok (sym c.confirm.ensures)) (c.revise_numbers.ensures.value, c.revise_numbers.ensures.bytes_after)) in
+    (rule_given a.bytes.now c.in_ok-p.p (λ i. (c.slice_known-1.given i).fits) c.in_ok-p.ensures.stands (λ x. Ok (confirm_step x)) (ap Ok (search rules)) (c.revise_numbers.ensures.value, c.revise_numbers.ensures.bytes_after)) in
     record { value = w.0; bytes_after = w.1 }

@@ -1,5 +1,6 @@
 -- `store_steps::local_at` meets its contract: the record's numbers changed in its place, and its new local number. Assumes nothing.
 use mathlib.Core.Path.{sym, ap, ◌∙◌}
+use Rattle.std.proofs.Common.{rules}
 use Rattle.std.proofs.result.Match.{err_is}
 use Rattle.std.specs.Prelude.{Ok}
 use Rattle.record.specs.NumbersForm.{meaning}
@@ -13,7 +14,7 @@ use Rattle.store_steps.proofs.local_at.Goals.{After-revise_numbers}
 -- what the change of the numbers answered and left
 changed_is : (c : After-revise_numbers) → Stepped c.args.bytes.now c.args.p (λ i. (c.slice_known-1.given i).fits) c.requires.stands (λ x. Ok (local_step x)) c.revise_numbers.result c.revise_numbers.new.bytes
 changed_is c =
-    rule_given c.args.bytes.now c.args.p (λ i. (c.slice_known-1.given i).fits) c.requires.stands (λ x. Ok (local_step x)) (ap Ok (sym c.next_local_cseq-next.ensures))
+    rule_given c.args.bytes.now c.args.p (λ i. (c.slice_known-1.given i).fits) c.requires.stands (λ x. Ok (local_step x)) (ap Ok (search rules))
     (c.revise_numbers.ensures.value, c.revise_numbers.ensures.bytes_after)
 
 pub returns-clause-value : goal.returns-clause-value

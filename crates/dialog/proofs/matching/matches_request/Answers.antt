@@ -4,7 +4,6 @@ use Rattle.std.proofs.Common.{rules}
 use Rattle.std.proofs.result.Match.{err_is}
 use Rattle.std.specs.Prelude.{None}
 use Rattle.dialog_id.specs.Ident.{same_ident}
-use Rattle.dialog_id.specs.IdTexts.{ident_in}
 use Rattle.dialog_rules.proofs.PlacedLaws.{Asked, asked, not_asked}
 use Rattle.dialog.proofs.MatchLaws.{Held, held, ids_within, equal_is, bad_block, bad_image, no_part, matched}
 use Rattle.codec.proofs.CodecLaws.{bytes_all}
@@ -41,7 +40,7 @@ texts-requires c =
 pub texts-requires-2 : goal.texts-requires-2
 texts-requires-2 c =
     let w = ids_within c.args.bytes.now c.in_ok-r.r (record_held (goal.at.texts-requires-2 c).In_ok-r) in
-    rw c.swapped-held.ensures (search rules)
+    search rules
 
 pub returns : goal.returns
 unfolding same_ident
@@ -50,4 +49,4 @@ returns c =
     let a = c.texts.result in
     let b = c.texts-2.result in
     matched rust_limits c.args.block.now s (clear (goal.at.returns c).In_ok-check_block) c.in_ok-r.r c.in-Some.asked (record_held (goal.at.returns c).In_ok-r) (request_asked (goal.at.returns c).In-Some) (bytes_all s (λ i. (c.type_inv.bytes i).fits)) _
-    (c.eq.ensures ∙ rw (equal_is a.call_id.now b.call_id.now, equal_is a.local_tag.now b.local_tag.now, equal_is a.remote_tag.now b.remote_tag.now) (ap₂ same_ident c.texts.ensures (c.texts-2.ensures ∙ ap (ident_in s) c.swapped-held.ensures)))
+    (c.eq.ensures ∙ rw (equal_is a.call_id.now b.call_id.now, equal_is a.local_tag.now b.local_tag.now, equal_is a.remote_tag.now b.remote_tag.now) (ap₂ same_ident c.texts.ensures (search rules)))
